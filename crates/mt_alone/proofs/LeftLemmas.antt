@@ -6,7 +6,6 @@ use Rattle.std.proofs.Props.{props}
 use Rattle.std.specs.Prelude.{if◌then◌else◌, nat_eq}
 use mathlib.Core.Logic.{∥∥₁_elim, ∥∥₁_map}
 use Rattle.mt_base.specs.Limits.{IsRelationCount}
-use Rattle.mt_base.specs.declared.refusal.Refusal.{Refusal}
 use Rattle.mt_base.specs.declared.refusal.Refusal.TheVariants as refusal
 use Rattle.mt_disk.specs.declared.device.Device.{Ghosts}
 use Rattle.mt_core.specs.Booked.{txns_of}

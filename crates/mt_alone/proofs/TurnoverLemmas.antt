@@ -1,6 +1,5 @@
 -- Lines on a kernel whose log is turned over before a transaction.
-use Rattle.std.proofs.Common.{◌≡◌, ◌<◌, ◌++◌, ◌∷◌, [], suc, ℕ, List, Option, Some, None, length, take, drop, get_or, refl, ap, arith, sym, subst, ◌∙◌, append_assoc, take-append-drop}
-use Rattle.std.proofs.Math.Seq.{take-suc, drop-cons}
+use Rattle.std.proofs.Common.{◌≡◌, ◌<◌, ◌∷◌, [], suc, ℕ, List, Option, Some, None, length, take, drop, get_or, refl, arith, sym, subst, ◌∙◌, append-nil, take-append-drop}
 use Rattle.std.proofs.Props.{props}
 use mathlib.Core.Logic.{∥∥₁_elim, ∥∥₁_map}
 use Rattle.mt_base.specs.declared.refusal.Refusal.{Refusal}
@@ -14,19 +13,18 @@ use Rattle.mt_restart.specs.Rotated.{GoesOver, IsEndCause, IsForcedOut, Keeps}
 use Rattle.mt_script.specs.declared.answers.Answer.{Answer}
 use Rattle.mt_script.specs.declared.lines.Line.{Line}
 use Rattle.mt_alone.proofs.LeftLemmas.{book_of}
-use Rattle.mt_alone.proofs.RunLemmas.{appends_all, closed_run, end_cut, ended_run, runs_session, stopped_told, told_behind, turn_stays}
-use Rattle.mt_alone.proofs.TranscriptLemmas.{runs_then}
+use Rattle.mt_alone.proofs.RunLemmas.{closed_run, end_cut, ended_run, line_cut, line_more, no_lines, stopped_told, told_behind, turn_stays}
 use Rattle.mt_alone.proofs.TurnLemmas.{left_of}
 use Rattle.mt_alone.specs.Driven.{IsBeside}
 use Rattle.mt_alone.specs.Plays.{Play, Runs, starts, goes_on}
-use Rattle.mt_alone.specs.Runs.{BesideEach, HasRunLines, HasTurned, IsCut, IsCutAtEnd, IsCutShort, IsEnded, IsStopped}
-use Rattle.mt_alone.specs.Turnovers.{BesideFrom, CannotTurnOver, From, HasRunOn, HasRunOut, IsCutOff, IsLeftBy, IsTurnedOut, StandsForPlay, why_in}
+use Rattle.mt_alone.specs.Runs.{BesideEach, HasRunLines, HasTurned, IsCut, IsCutAtEnd, IsCutShort, IsEnded, IsStopped, IsToldFor}
+use Rattle.mt_alone.specs.Turnovers.{BesideFrom, CannotTurnOver, From, GoesThrough, HasRunOn, HasRunOut, IsCutOff, IsLeftBy, IsTurnedOut, StandsForPlay}
 use Rattle.mt_alone.specs.declared.rotation.NotServed.{NotServed}
 use Rattle.mt_alone.specs.declared.rotation.NotServed.TheVariants.{Kept, Ended}
 use Rattle.mt_alone.specs.declared.script_run.RunFault.{RunFault}
 use Rattle.mt_alone.specs.declared.script_run.RunFault.TheVariants as fault
 use Rattle.mt_restart.specs.TurnFaults.{IsTurnFault}
-use Rattle.mt_txn.specs.Shown.{Restarts, SameSchema}
+use Rattle.mt_txn.specs.Shown.{Restarts, SameSchema, StaysRestarting}
 use Rattle.mt_txn.specs.declared.kernel.Kernel.{Kernel}
 
 -- ---- the first base stays
@@ -68,89 +66,19 @@ module _ {D : Type 0} {g : Ghosts D} (seen : D → List ℕ) (may_leave : D → 
     goes_on lines answers m (e.0, n) line answer before (record { live = t.live; beside = t.beside; turn = t.turn; schema = (over.schema.0 ∙ t.schema.0, over.schema.1 ∙ t.schema.1) }),
   )
 
-  -- ---- lines behind lines
+  -- ---- a run
 
   module _ (faults : D → ℕ) (p : Play) (k : Kernel D g) where
-    pub none_on : (a : Option (List ℕ)) → IsBeside seen may_leave p None k → HasRunLines seen may_leave p k [] a a None k → HasRunOn seen may_leave p k [] a a None k
-    none_on a beside ran = (k, over_same k, ran)
-
-    -- what is left behind the one is left behind the other
+    -- what is left after the one is left after the other
     left_same : (m : Kernel D g) (left : NotServed D g) (q : Play) → SameSchema k m → IsLeftBy seen may_leave faults m.relations m.counters left q → IsLeftBy seen may_leave faults k.relations k.counters left q
     left_same m left q same x = subst (λ (X : Type 0). X) (λ i. IsLeftBy seen may_leave faults (same.0 i) (same.1 i) left q) x
 
-    -- one line, in a kernel that goes on
-    pub begun_on : (session : ℕ) (l : Line) (was now : Option (List ℕ)) (live : Option ℕ) (m n : Kernel D g) → p.session ≡ session → GoesOver seen may_leave k m → IsBeside seen may_leave p None k → Restarts seen may_leave p.first k
-        → BesideEach seen may_leave session None m (λ q. HasRunLines seen may_leave q m (l ∷ []) was now live n) → HasRunOn seen may_leave p k (l ∷ []) was now live n
-    begun_on session l was now live m n own over beside restarts ran = (m, over, ran p own (resting_over p k m beside restarts over))
-
-    pub cut_begun : (session : ℕ) (l : Line) (was now : Option (List ℕ)) (m : Kernel D g) (left : NotServed D g) → p.session ≡ session → GoesOver seen may_leave k m → IsBeside seen may_leave p None k → Restarts seen may_leave p.first k
-        → BesideFrom seen may_leave session None m (λ q. IsCut seen may_leave (IsLeftBy seen may_leave faults m.relations m.counters left) q m (l ∷ []) was now (why_in left)) → IsCutOff seen may_leave faults p k (l ∷ []) was now left
-    cut_begun session l was now m left own over beside restarts cut =
-        let x = cut p own (resting_over p k m beside restarts over) (over.restarts p.first restarts) in (
-          m,
-          over,
-          record { before = x.before; rest = x.rest; split = x.split; answers = x.answers; play = x.play; last = x.last; ran = x.ran; told = x.told; left = left_same m left x.play over.schema x.left },
-        )
-
-    next_play : (session : ℕ) (lines : List Line) (live : Option ℕ) (a b : Option (List ℕ)) (begun m : Kernel D g) → p.session ≡ session → (ran : HasRunLines seen may_leave p begun lines a b live m) → ran.play.session ≡ session
-    next_play session lines live a b begun m own ran = runs_session seen may_leave faults p begun (p, begun) (ran.play, m) lines ran.answers ran.ran ∙ own
-
+    -- after lines the first base is the same
     next_first : (lines : List Line) (live : Option ℕ) (a b : Option (List ℕ)) (begun m : Kernel D g) → (ran : HasRunLines seen may_leave p begun lines a b live m) → Restarts seen may_leave p.first m → Restarts seen may_leave ran.play.first m
     next_first lines live a b begun m ran restarts = subst (λ (x : Base). Restarts seen may_leave x m) (sym (runs_first (p, begun) (ran.play, m) lines ran.answers ran.ran)) restarts
 
-    pub more_on : (session : ℕ) (lines : List Line) (i : ℕ) (l : Line) (live now : Option ℕ) (a b c : Option (List ℕ)) (m n : Kernel D g) → p.session ≡ session → i < length lines → l ≡ get_or lines i l
-        → Restarts seen may_leave p.first m → HasRunOn seen may_leave p k (take i lines) a b live m
-        → ((q : Play) → q.session ≡ session → IsBeside seen may_leave q live m → Restarts seen may_leave q.first m → HasRunOn seen may_leave q m (l ∷ []) b c now n) → HasRunOn seen may_leave p k (take (suc i) lines) a c now n
-    more_on session lines i l live now a b c m n own lt is restarts (b0, over0, ran) next =
-        let (b1, over1, x) = next ran.play (next_play session (take i lines) live a b b0 m own ran) ran.beside (next_first (take i lines) live a b b0 m ran restarts) in
-        let (b2, over2, front) = rejoin (p, b0) (ran.play, m) (take i lines) ran.answers b1 ran.ran over1 in
-        let all : take i lines ++ l ∷ [] ≡ take (suc i) lines = ap (λ (y : Line). take i lines ++ y ∷ []) is ∙ sym (take-suc lines i l lt) in (
-          b2,
-          over_then k b0 b2 over0 over2,
-          record {
-            answers = ran.answers ++ x.answers;
-            play = x.play;
-            ran = subst (λ (ls : List Line). Runs (HasTurned seen may_leave) (p, b2) ls (ran.answers ++ x.answers) (x.play, n)) all (runs_then (p, b2) (ran.play, b1) (x.play, n) (take i lines) (l ∷ []) ran.answers x.answers front x.ran);
-            told = appends_all a b c ran.answers x.answers ran.told x.told;
-            beside = x.beside;
-          },
-        )
-
-    pub cut_on : (session : ℕ) (lines : List Line) (i : ℕ) (l : Line) (live : Option ℕ) (a b c : Option (List ℕ)) (m : Kernel D g) (left : NotServed D g) → p.session ≡ session → i < length lines → l ≡ get_or lines i l
-        → SameSchema k m → Restarts seen may_leave p.first m → HasRunOn seen may_leave p k (take i lines) a b live m
-        → ((q : Play) → q.session ≡ session → IsBeside seen may_leave q live m → Restarts seen may_leave q.first m → IsCutOff seen may_leave faults q m (l ∷ []) b c left) → IsCutOff seen may_leave faults p k lines a c left
-    cut_on session lines i l live a b c m left own lt is same restarts (b0, over0, ran) cut =
-        let (b1, over1, x) = cut ran.play (next_play session (take i lines) live a b b0 m own ran) ran.beside (next_first (take i lines) live a b b0 m ran restarts) in
-        let (b2, over2, front) = rejoin (p, b0) (ran.play, m) (take i lines) ran.answers b1 ran.ran over1 in
-        let rest : List Line = drop (suc i) lines in
-        let whole : lines ≡ take i lines ++ (l ∷ [] ++ rest) =
-        sym (take-append-drop i lines) ∙ ap (λ (t : List Line). take i lines ++ t) (drop-cons lines i l lt) ∙ ap (λ (y : Line). take i lines ++ y ∷ rest) (sym is) in (
-          b2,
-          over_then k b0 b2 over0 over2,
-          record {
-            before = take i lines ++ x.before;
-            rest = x.rest ++ rest;
-            split = whole ∙ ap (λ (t : List Line). take i lines ++ (t ++ rest)) x.split ∙ ap (λ (t : List Line). take i lines ++ t) (append_assoc x.before x.rest rest) ∙ sym (append_assoc (take i lines) x.before (x.rest ++ rest));
-            answers = ran.answers ++ x.answers;
-            play = x.play;
-            last = x.last;
-            ran = runs_then (p, b2) (ran.play, b1) (x.play, x.last) (take i lines) x.before ran.answers x.answers front x.ran;
-            told = told_behind a b c ran.answers x.answers (why_in left) ran.told x.told;
-            left = left_same m left x.play same x.left;
-          },
-        )
-
-    -- ---- the script's end
-
-    pub closed_on : (lines : List Line) (a b : Option (List ℕ)) (n : Kernel D g) → HasRunOn seen may_leave p k lines a b None n → HasRunOut seen may_leave p k lines a b n
-    closed_on lines a b n (begun, over, ran) = (begun, over, closed_run seen may_leave faults p begun lines a b n ran)
-
-    pub ended_on : (lines : List Line) (t : ℕ) (a b c : Option (List ℕ)) (m n : Kernel D g) → HasRunOn seen may_leave p k lines a b (Some t) m → ((q : Play) → IsBeside seen may_leave q (Some t) m → IsEnded seen may_leave q b c n)
-        → HasRunOut seen may_leave p k lines a c n
-    ended_on lines t a b c m n (begun, over, ran) ended = (begun, over, ended_run seen may_leave faults p begun lines t a b c m n ran ended)
-
     -- a kernel that is kept
-    pub kept_cut : (lines : List Line) (was now : Option (List ℕ)) (begun n : Kernel D g) (why : RunFault) → SameSchema k n → Restarts seen may_leave p.first n → IsCutShort seen may_leave faults p begun lines was now n why
+    kept_cut : (lines : List Line) (was now : Option (List ℕ)) (begun n : Kernel D g) (why : RunFault) → SameSchema k n → Restarts seen may_leave p.first n → IsCutShort seen may_leave faults p begun lines was now n why
         → IsCut seen may_leave (IsLeftBy seen may_leave faults k.relations k.counters (Kept why n)) p begun lines was now why
     kept_cut lines was now begun n why same restarts x = record {
       before = x.before;
@@ -166,6 +94,15 @@ module _ {D : Type 0} {g : Ghosts D} (seen : D → List ℕ) (may_leave : D → 
         record { restarts = subst (λ (b : Base). Restarts seen may_leave b n) (sym (runs_first (p, begun) (x.play, x.last) x.before x.answers x.ran)) restarts; relations_are = same.0; counters_are = same.1 },
       );
     }
+
+    -- ---- the script's end
+
+    pub closed_on : (lines : List Line) (a b : Option (List ℕ)) (n : Kernel D g) → HasRunOn seen may_leave p k lines a b None n → HasRunOut seen may_leave p k lines a b n
+    closed_on lines a b n (begun, over, ran) = (begun, over, closed_run seen may_leave faults p begun lines a b n ran)
+
+    pub ended_on : (lines : List Line) (t : ℕ) (a b c : Option (List ℕ)) (m n : Kernel D g) → HasRunOn seen may_leave p k lines a b (Some t) m → ((q : Play) → IsBeside seen may_leave q (Some t) m → IsEnded seen may_leave q b c n)
+        → HasRunOut seen may_leave p k lines a c n
+    ended_on lines t a b c m n (begun, over, ran) ended = (begun, over, ended_run seen may_leave faults p begun lines t a b c m n ran ended)
 
     pub cut_at_end : (lines : List Line) (t : ℕ) (a b c : Option (List ℕ)) (m n : Kernel D g) (why : RunFault) → SameSchema k n → Restarts seen may_leave p.first n → HasRunOn seen may_leave p k lines a b (Some t) m
         → ((q : Play) → IsBeside seen may_leave q (Some t) m → IsCutAtEnd seen may_leave faults q b c n why) → IsCutOff seen may_leave faults p k lines a c (Kept why n)
@@ -191,23 +128,79 @@ module _ {D : Type 0} {g : Ghosts D} (seen : D → List ℕ) (may_leave : D → 
       stands_play device beside (out.stands p.first restarts),
     )
 
-    pub not_turned : (l : Line) (y : Refusal) (device : D) (was now : Option (List ℕ)) (why : RunFault) → IsBeside seen may_leave p None k → Restarts seen may_leave p.first k → IsTurnedOut seen may_leave faults k y device → IsStopped was now y why
-        → IsCutOff seen may_leave faults p k (l ∷ []) was now (Ended why device)
-    not_turned l y device was now why beside restarts out stopped = (
-      k,
-      over_same k,
-      record {
-        before = [];
-        rest = l ∷ [];
-        split = refl;
-        answers = [];
-        play = p;
-        last = k;
-        ran = starts;
-        told = stopped_told was now y why stopped;
-        left = turned_left y device was now why beside restarts out stopped;
-      },
-    )
+  -- ---- lines in a kernel that is held in place, whose log is turned over between them
+
+  module _ (faults : D → ℕ) (session : ℕ) (k : Kernel D g) where
+    pub none_through : (a : Option (List ℕ)) → GoesThrough seen may_leave session k [] a a None k
+    none_through a = record {
+      ran = λ p own beside restarts. (k, over_same k, no_lines seen may_leave faults p k a beside);
+      schema = (refl, refl);
+      restarts = λ first restarts. restarts;
+    }
+
+    turned_none : (lines : List Line) (a b : Option (List ℕ)) (m n : Kernel D g) → GoesThrough seen may_leave session k lines a b None m → GoesOver seen may_leave m n → GoesThrough seen may_leave session k lines a b None n
+    turned_none lines a b m n x over = record {
+      ran = λ p own beside restarts.
+          let (b0, over0, ran) = x.ran p own beside restarts in
+          let (b2, over2, front) = rejoin (p, b0) (ran.play, m) lines ran.answers n ran.ran over in
+          let rests = next_first faults p b0 lines None a b b0 m ran (x.restarts p.first restarts) in (
+            b2,
+            over_then k b0 b2 over0 over2,
+            record { answers = ran.answers; play = ran.play; ran = front; told = ran.told; beside = resting_over ran.play m n ran.beside rests over },
+          );
+      schema = (over.schema.0 ∙ x.schema.0, over.schema.1 ∙ x.schema.1);
+      restarts = λ first restarts. over.restarts first (x.restarts first restarts);
+    }
+
+    -- the log was turned over after them, where no transaction is open
+    pub turned_through : (lines : List Line) (live : Option ℕ) (a b : Option (List ℕ)) (m n : Kernel D g) → live ≡ None → GoesThrough seen may_leave session k lines a b live m → GoesOver seen may_leave m n → GoesThrough seen may_leave session k lines a b live n
+    turned_through lines live a b m n none x over =
+        subst (λ (o : Option ℕ). GoesThrough seen may_leave session k lines a b o m → GoesThrough seen may_leave session k lines a b o n) (sym none) (λ y. turned_none lines a b m n y over) x
+
+    -- it could not be
+    pub through_not_turned : (lines : List Line) (i : ℕ) (live : Option ℕ) (y : Refusal) (device : D) (a b c : Option (List ℕ)) (m : Kernel D g) (why : RunFault) → live ≡ None → GoesThrough seen may_leave session k (take i lines) a b live m → IsTurnedOut seen may_leave faults m y device → IsStopped b c y why
+        → BesideFrom seen may_leave session None k (λ p. IsCutOff seen may_leave faults p k lines a c (Ended why device))
+    through_not_turned lines i live y device a b c m why none whatever out stopped p own beside restarts =
+        let x = subst (λ (o : Option ℕ). GoesThrough seen may_leave session k (take i lines) a b o m) none whatever in
+        let (b0, over0, ran) = x.ran p own beside restarts in
+        let rests = next_first faults p b0 (take i lines) None a b b0 m ran (x.restarts p.first restarts) in (
+          b0,
+          over0,
+          record {
+            before = take i lines;
+            rest = drop i lines;
+            split = sym (take-append-drop i lines);
+            answers = ran.answers;
+            play = ran.play;
+            last = m;
+            ran = ran.ran;
+            told = subst (λ (t : List Answer). IsToldFor a c t why) (append-nil ran.answers) (told_behind a b c ran.answers [] why ran.told (stopped_told b c y why stopped));
+            left = left_same faults p k m (Ended why device) ran.play x.schema (turned_left faults ran.play m y device b c why ran.beside rests out stopped);
+          },
+        )
+
+    -- one more line ran
+    pub line_through : (lines : List Line) (i : ℕ) (l : Line) (live now : Option ℕ) (a b c : Option (List ℕ)) (m n : Kernel D g) → i < length lines → l ≡ get_or lines i l → GoesThrough seen may_leave session k (take i lines) a b live m
+        → BesideEach seen may_leave session live m (λ q. HasRunLines seen may_leave q m (l ∷ []) b c now n) → SameSchema m n → StaysRestarting seen may_leave m n → GoesThrough seen may_leave session k (take (suc i) lines) a c now n
+    line_through lines i l live now a b c m n lt is x next same stays = record {
+      ran = λ p own beside restarts.
+          let (begun, over, ran) = x.ran p own beside restarts in
+          (begun, over, line_more seen may_leave faults p begun session lines i l live now a b c m n own lt is ran next);
+      schema = (same.0 ∙ x.schema.0, same.1 ∙ x.schema.1);
+      restarts = λ first restarts. stays first (x.restarts first restarts);
+    }
+
+    -- or was cut short
+    pub line_not_through : (lines : List Line) (i : ℕ) (l : Line) (live : Option ℕ) (a b c : Option (List ℕ)) (m n : Kernel D g) (why : RunFault) → i < length lines → l ≡ get_or lines i l → GoesThrough seen may_leave session k (take i lines) a b live m
+        → BesideEach seen may_leave session live m (λ q. IsCutShort seen may_leave faults q m (l ∷ []) b c n why) → SameSchema m n → StaysRestarting seen may_leave m n
+        → BesideFrom seen may_leave session None k (λ p. IsCutOff seen may_leave faults p k lines a c (Kept why n))
+    line_not_through lines i l live a b c m n why lt is x cut same stays p own beside restarts =
+        let (begun, over, ran) = x.ran p own beside restarts in (
+          begun,
+          over,
+          kept_cut faults p k lines a c begun n why (same.0 ∙ x.schema.0, same.1 ∙ x.schema.1) (stays p.first (x.restarts p.first restarts))
+              (line_cut seen may_leave faults p begun session lines i l live a b c m n why own lt is ran cut),
+        )
 
 -- 2 only where a call of the device has failed
 pub end_failed : {D : Type 0} {g : Ghosts D} (seen : D → List ℕ) (may_leave : D → List ℕ → Type 0) (moment : D → ℕ) (left_since : D → ℕ → List ℕ → Type 0) (faults : D → ℕ) (k : Kernel D g) (device : D) (why : Refusal)

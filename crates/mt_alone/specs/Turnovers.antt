@@ -18,7 +18,7 @@ use Rattle.mt_alone.specs.declared.rotation.NotServed.TheVariants.{Kept, Ended}
 use Rattle.mt_alone.specs.declared.script_run.RunFault.{RunFault}
 use Rattle.mt_alone.specs.declared.script_run.RunFault.TheVariants as fault
 use Rattle.mt_restart.specs.TurnFaults.{IsTurnFault}
-use Rattle.mt_txn.specs.Shown.{Restarts}
+use Rattle.mt_txn.specs.Shown.{Restarts, SameSchema, StaysRestarting}
 use Rattle.mt_txn.specs.declared.kernel.Kernel.{Kernel}
 
 -- ---- what is left
@@ -60,6 +60,13 @@ module _ {D : Type 0} {g : Ghosts D} (seen : D → List ℕ) (may_leave : D → 
 
   abbrev pub HasRunOut : Play → Kernel D g → List Line → Option (List ℕ) → Option (List ℕ) → Kernel D g → Type 0
   HasRunOut p k lines was now n = From k (λ begun. HasRun seen may_leave p begun lines was now n)
+
+  -- The lines of this session ran on the kernel, beside whatever play it stands at. The one that is left after them has
+  -- its schema, and can be restarted from each base that it can.
+  pub record GoesThrough (session : ℕ) (k : Kernel D g) (lines : List Line) (was now : Option (List ℕ)) (live : Option ℕ) (n : Kernel D g) : Type 0 where
+    pub ran : BesideFrom session None k (λ p. HasRunOn p k lines was now live n)
+    pub schema : SameSchema k n
+    pub restarts : StaysRestarting seen may_leave k n
 
   -- a kernel of so many relations and counters can be restarted from the play's first base
   pub record RestartsFor (relations counters : ℕ) (q : Play) (n : Kernel D g) : Type 0 where

@@ -1,5 +1,6 @@
 // A kernel whose log is turned over between the transactions of one session.
-ghost use Rattle.std.specs.Prelude.{◌≡◌, ℕ, IfErr, IfOk};
+ghost use Rattle.std.specs.Prelude.{◌≡◌, ◌↔◌, ◌<◌, ◌/◌, ℕ, IfErr, IfOk, IsTrue};
+ghost use Rattle.mt_log.specs.Words.{area_size, used};
 ghost use Rattle.mt_restart.specs.Rotated.{GoesOver};
 ghost use Rattle.mt_alone.specs.Plays.{Play};
 ghost use Rattle.mt_alone.specs.Turnovers.{IsLeftBy, IsTurnedOut, StandsForMore, device_in, why_in};
@@ -41,8 +42,15 @@ impl<D: Device + Drop> NotServed<D> {
     }
 }
 
-/// Turns the log over where more than half of its area is in use. Where it cannot be forced for want of memory, or a
-/// transaction lives, it is left as it is. There is an error only where the kernel is gone.
+/// Whether the log is due to be turned over, since more than half of its area is in use.
+pub(crate) fn is_due<D: Device>(kernel: &Kernel<D>) -> bool
+    ensures { let log = kernel.now.core.operations.store.log in IsTrue result ↔ (area_size log / 2 < used log) }
+{
+    kernel.used() > kernel.area_size() / 2
+}
+
+/// Turns the log over. Where it cannot be forced for want of memory, or a transaction lives, it is left as it is. There
+/// is an error only where the kernel is gone.
 pub(crate) fn turned<D: Device + Drop>(
     alloc: Global,
     kernel: Kernel<D>,
@@ -51,9 +59,6 @@ pub(crate) fn turned<D: Device + Drop>(
     ensures over { IfOk result (GoesOver D.seen D.may_leave kernel) }
     ensures out { IfErr result (λ gone. IsTurnedOut D.seen D.may_leave D.faults kernel gone.0 gone.1) }
 {
-    if kernel.used() <= kernel.area_size() / 2 {
-        return Ok(kernel);
-    }
     match rotate(alloc, kernel, frames) {
         Ok(kernel) => Ok(kernel),
         Err(NotRotated::Kept(_, kernel)) => Ok(kernel),

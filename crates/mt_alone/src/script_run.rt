@@ -1,7 +1,9 @@
 // A script, run by itself on a kernel.
-ghost use Rattle.std.specs.Prelude.{◌≡◌, [], ◌∷◌, IfOk, IfErr, OnOk, None, Some};
+ghost use Rattle.std.specs.Prelude.{◌≡◌, [], ◌∷◌, ◌++◌, IfOk, IfErr, OnErr, OnOk, None, Some};
+ghost use Rattle.std.specs.Io.KnownBytes.{Appends};
 ghost use Rattle.mt_base.specs.declared.refusal.Refusal.{Refusal};
 ghost use Rattle.mt_txn.specs.Shown.{SameSchema, StaysRestarting};
+ghost use Rattle.mt_script.specs.Answers.{AppendsFront, answer_text};
 ghost use Rattle.mt_alone.specs.Driven.{IsBeside};
 ghost use Rattle.mt_alone.specs.Plays.{Play};
 ghost use Rattle.mt_alone.specs.Runs.{BesideEach, HasRun, HasRunLines, IsCutAtEnd, IsCutShort, IsEnded, IsEndedFor, IsLeftFor, IsStopped};
@@ -9,7 +11,7 @@ ghost use Rattle.mt_alone.specs.Runs.{BesideEach, HasRun, HasRunLines, IsCutAtEn
 use crate::turns::{answer, undo_open};
 use mt_base::{Refusal, TxnNo};
 use mt_disk::Device;
-use mt_script::{Answer, Line, Script, write_answer};
+use mt_script::{Answer, Line, Script, Unheard, write_answer};
 use mt_txn::Kernel;
 use std::io::Write;
 use thiserror::Error;
@@ -17,7 +19,7 @@ use thiserror::Error;
 /// Why a script did not run to its end.
 #[derive(Debug, Drop, Error)]
 pub enum RunFault {
-    /// The writer failed. What was written is a beginning of the transcript, and the transaction
+    /// The writer failed, at a write or a flush. What was written is a beginning of the transcript, and the transaction
     /// that lived is aborted, unless the device had failed.
     #[error("the output cannot be written")]
     Output,
@@ -25,6 +27,24 @@ pub enum RunFault {
     /// it was then. Or `DeviceFailed`, which is the transcript's last line.
     #[error("{0}")]
     Refused(Refusal),
+}
+
+/// Writes an answer as one line, after which this transaction is open. Unless there is one, the writer is flushed: so
+/// the lines of a transaction go out at its end. Where the writer fails, it has written a beginning of the line.
+fn tell<W: Write>(writer: &mut W, answer: &Answer, live: Option<TxnNo>) -> Result<(), Unheard>
+    ensures all { OnOk result (Appends (W.contents writer.old) (W.contents writer.new)
+        (answer_text answer.now ++ 10 ∷ [])) }
+    ensures front { OnErr result (AppendsFront (W.contents writer.old) (W.contents writer.new)
+        (answer_text answer.now ++ 10 ∷ [])) }
+{
+    write_answer(writer, answer)?;
+    if live.is_some() {
+        return Ok(());
+    }
+    match writer.flush() {
+        Ok(()) => Ok(()),
+        Err(_) => Err(Unheard),
+    }
 }
 
 /// Aborts the transaction that is open after a failed write, and answers how the run ends.
@@ -47,7 +67,7 @@ fn end_unheard<D: Device>(kernel: &mut Kernel<D>, live: Option<TxnNo>) -> RunFau
 fn end_failed<W: Write>(writer: &mut W) -> RunFault
     ensures { IsStopped (W.contents writer.old) (W.contents writer.new) Refusal.DeviceFailed result }
 {
-    match write_answer(writer, &Answer::Refused(Refusal::DeviceFailed)) {
+    match tell(writer, &Answer::Refused(Refusal::DeviceFailed), None) {
         Ok(()) => RunFault::Refused(Refusal::DeviceFailed),
         Err(_) => RunFault::Output,
     }
@@ -84,7 +104,7 @@ pub(crate) fn run_line<D: Device, W: Write>(
         Ok(told) => told,
         Err(refusal) => return Err(end_refused(writer, refusal)),
     };
-    match write_answer(writer, &told.0) {
+    match tell(writer, &told.0, told.1) {
         Ok(()) => Ok(told.1),
         Err(_) => Err(end_unheard(kernel, told.1)),
     }
@@ -129,7 +149,7 @@ pub(crate) fn end_live<D: Device, W: Write>(
     if let Err(refusal) = undo_open(kernel, txn) {
         return Err(end_refused(writer, refusal));
     }
-    match write_answer(writer, &Answer::Aborted) {
+    match tell(writer, &Answer::Aborted, None) {
         Ok(()) => Ok(()),
         Err(_) => Err(RunFault::Output),
     }
@@ -138,6 +158,9 @@ pub(crate) fn end_live<D: Device, W: Write>(
 /// Runs a script by itself on a kernel in which no transaction lives, and writes the answer of each
 /// line as one line. A transaction that is open at the script's end is aborted, with the line
 /// `aborted`.
+///
+/// The writer is flushed after each line after which no transaction is open, and so once a commit is durable and before
+/// the next line. What is answered within a transaction may wait in it until then, and after refusal 1 from then on.
 ///
 /// A step that finds no memory is asked again, up to eight times; for one that finds no frame a page is flushed
 /// before that. After `Output` a beginning of the transcript is written and the transaction that lived is aborted,

@@ -1,38 +1,60 @@
-use Rattle.std.proofs.Common.{add-one, ap, arith, ◌≡◌, ◌<◌, length, take, ◌∙◌, refl}
+use Rattle.std.proofs.Common.{add-one, ap, arith, refl, ◌≡◌, ◌<◌, length, take, ◌∙◌, Option, None, Some, ℕ, Bool, not, true}
+use Rattle.std.specs.Prelude.{is_some}
 use Rattle.std.proofs.Math.Seq.{take-length}
-use Rattle.mt_alone.proofs.RunLemmas.{no_lines}
-use Rattle.mt_alone.proofs.TurnoverLemmas.{cut_on, more_on, none_on}
+use Rattle.mt_alone.proofs.TurnoverLemmas.{line_not_through, line_through, none_through, through_not_turned, turned_through}
+use Rattle.mt_alone.specs.Turnovers.{GoesThrough}
 use Rattle.mt_alone.proofs.alone.run_each.Goals as goal
+use Rattle.mt_alone.proofs.alone.run_each.Goals.{then-is_none+then-is_due+in-Ok, else-is_none}
+
+-- nothing is open
+is_nothing : (o : Option ℕ) (b : Bool) → is_some o ≡ not b → b ≡ true → o ≡ None
+is_nothing None b is none = refl
+is_nothing (Some t) b is none = let e : true ≡ not true = is ∙ ap not none in absurd cc
 
 pub loop-line-init : goal.loop-line-init
 loop-line-init g c =
     let D = g.D.Device in
-    record {
-      ran = λ p own beside restarts. none_on D.seen D.may_leave D.faults p c.args.kernel _ beside (no_lines D.seen D.may_leave D.faults p c.args.kernel _ beside);
-      schema = (refl, refl);
-      restarts = λ first restarts. restarts;
-    }
+    none_through D.seen D.may_leave D.faults c.args.session c.args.kernel _
 
 pub returns-in-Err-clause-cut : goal.returns-in-Err-clause-cut
-returns-in-Err-clause-cut g c = λ p own beside restarts.
+returns-in-Err-clause-cut g c =
+    let D = g.D.Device in
+    let none : c.loop-line.live ≡ None = is_nothing c.loop-line.live c.is_none.result c.is_none.ensures c.if-is_none.true in
+    through_not_turned D.seen D.may_leave D.faults c.args.session c.args.kernel c.args.lines.now c.loop-line.line-index c.loop-line.live c.in-Err.why c.in-Err.device _ _ _ c.loop-line.kernel c.end_refused.result
+    none c.loop-line.invariant c.in-Err.ensures.out c.end_refused.ensures
+
+pub returns-in-Err-run_line-clause-cut : goal.returns-in-Err-run_line-clause-cut
+returns-in-Err-run_line-clause-cut g c =
     let D = g.D.Device in
     let lt : c.loop-line.line-index < length c.args.lines.now = omega arith in
-    cut_on D.seen D.may_leave D.faults p c.args.kernel c.args.session c.args.lines.now c.loop-line.line-index c.line-item.result c.loop-line.between.1 _ _ _ c.loop-line.between.0 c.in-Err.left own lt c.line-item.is
-    c.loop-line.invariant.schema (c.loop-line.invariant.restarts p.first restarts) (c.loop-line.invariant.ran p own beside restarts) c.in-Err.ensures.cut
+    let through : GoesThrough D.seen D.may_leave c.args.session c.args.kernel (take c.loop-line.line-index c.args.lines.now) (g.W.Write.contents c.args.writer.now) (g.W.Write.contents c.loop-line.writer) c.loop-line.live c.if-is_none.kernel =
+    elim c.if-is_none.branch [
+      | then-is_none+then-is_due+in-Ok w ↦
+          rw w.kernel-is
+          (turned_through D.seen D.may_leave D.faults c.args.session c.args.kernel (take c.loop-line.line-index c.args.lines.now) c.loop-line.live _ _ c.loop-line.kernel w.in-Ok.next
+          (is_nothing c.loop-line.live c.is_none.result c.is_none.ensures w.if-is_none.true) c.loop-line.invariant w.in-Ok.ensures.over)
+      | else-is_none w ↦ rw w.kernel-is c.loop-line.invariant
+    ] in
+    line_not_through D.seen D.may_leave D.faults c.args.session c.args.kernel c.args.lines.now c.loop-line.line-index c.line-item.result c.loop-line.live _ _ _ c.if-is_none.kernel c.run_line.new.kernel c.in-Err-run_line.why lt c.line-item.is through
+    c.in-Err-run_line.ensures.cut c.in-Err-run_line.ensures.schema c.in-Err-run_line.ensures.restarts
 
 pub loop-line-preserved : goal.loop-line-preserved
 loop-line-preserved g c =
     let D = g.D.Device in
     let lt : c.loop-line.line-index < length c.args.lines.now = omega arith in
-    rw add-one (record {
-      ran = λ p own beside restarts. more_on D.seen D.may_leave D.faults p c.args.kernel c.args.session c.args.lines.now c.loop-line.line-index c.line-item.result c.loop-line.between.1 c.in-Ok.next.1 _ _ _ c.loop-line.between.0 c.in-Ok.next.0 own lt c.line-item.is
-          (c.loop-line.invariant.restarts p.first restarts) (c.loop-line.invariant.ran p own beside restarts) c.in-Ok.ensures.told;
-      schema = (c.in-Ok.ensures.schema.0 ∙ c.loop-line.invariant.schema.0, c.in-Ok.ensures.schema.1 ∙ c.loop-line.invariant.schema.1);
-      restarts = λ first restarts. c.in-Ok.ensures.restarts first (c.loop-line.invariant.restarts first restarts);
-    })
+    let through : GoesThrough D.seen D.may_leave c.args.session c.args.kernel (take c.loop-line.line-index c.args.lines.now) (g.W.Write.contents c.args.writer.now) (g.W.Write.contents c.loop-line.writer) c.loop-line.live c.if-is_none.kernel =
+    elim c.if-is_none.branch [
+      | then-is_none+then-is_due+in-Ok w ↦
+          rw w.kernel-is
+          (turned_through D.seen D.may_leave D.faults c.args.session c.args.kernel (take c.loop-line.line-index c.args.lines.now) c.loop-line.live _ _ c.loop-line.kernel w.in-Ok.next
+          (is_nothing c.loop-line.live c.is_none.result c.is_none.ensures w.if-is_none.true) c.loop-line.invariant w.in-Ok.ensures.over)
+      | else-is_none w ↦ rw w.kernel-is c.loop-line.invariant
+    ] in
+    rw add-one
+    (line_through D.seen D.may_leave D.faults c.args.session c.args.kernel c.args.lines.now c.loop-line.line-index c.line-item.result c.loop-line.live c.in-Ok-run_line.now _ _ _ c.if-is_none.kernel c.run_line.new.kernel lt c.line-item.is through
+    c.in-Ok-run_line.ensures.told c.in-Ok-run_line.ensures.schema c.in-Ok-run_line.ensures.restarts)
 
 pub returns-clause-ran : goal.returns-clause-ran
-returns-clause-ran g c = λ p own beside restarts.
-    let D = g.D.Device in
+returns-clause-ran g c =
     let all : take c.loop-line.line-index c.args.lines.now ≡ c.args.lines.now = ap (λ n. take n c.args.lines.now) (omega arith) ∙ take-length c.args.lines.now in
-    rw all at (c.loop-line.invariant.ran p own beside restarts)
+    rw all at c.loop-line.invariant

@@ -1,12 +1,7 @@
 use Rattle.mt_alone.proofs.LeftLemmas.{turned_stands}
 use Rattle.mt_restart.proofs.Ending.{end_cause}
-use Rattle.mt_alone.proofs.TurnoverLemmas.{end_failed, end_full, over_kept, over_same}
+use Rattle.mt_alone.proofs.TurnoverLemmas.{end_failed, end_full, over_kept}
 use Rattle.mt_alone.proofs.rotation.turned.Goals as goal
-
-pub returns-then-used-area_size-clause-over : goal.returns-then-used-area_size-clause-over
-returns-then-used-area_size-clause-over g c =
-    let D = g.D.Device in
-    over_same D.seen D.may_leave c.args.kernel
 
 pub returns-in-Ok-clause-over : goal.returns-in-Ok-clause-over
 returns-in-Ok-clause-over g c = record { state = c.in-Ok.ensures.shows; restarts = c.in-Ok.ensures.restarted; schema = c.in-Ok.ensures.same }

@@ -6,12 +6,12 @@ returns-in-Err-clause-cut g c = λ p own b.
     let D = g.D.Device in
     line_stopped D.seen D.may_leave D.faults p c.args.kernel.now c.args.line.now c.in-Err.refusal _ _ c.answer.new.kernel _ (c.in-Err.ensures.answers p own b) c.end_refused.ensures
 
-pub returns-in-Ok-write_answer-clause-told : goal.returns-in-Ok-write_answer-clause-told
-returns-in-Ok-write_answer-clause-told g c = λ p own b.
+pub returns-in-Ok-tell-clause-told : goal.returns-in-Ok-tell-clause-told
+returns-in-Ok-tell-clause-told g c = λ p own b.
     let D = g.D.Device in
-    line_told D.seen D.may_leave D.faults p c.args.kernel.now c.args.line.now c.in-Ok.told c.args.live _ _ c.answer.new.kernel b c.in-Ok.ensures.schema (c.in-Ok.ensures.answers p own b) c.in-Ok-write_answer.ensures.all
+    line_told D.seen D.may_leave D.faults p c.args.kernel.now c.args.line.now c.in-Ok.told c.args.live _ _ c.answer.new.kernel b c.in-Ok.ensures.schema (c.in-Ok.ensures.answers p own b) c.in-Ok-tell.ensures.all
 
 pub returns-clause-cut : goal.returns-clause-cut
 returns-clause-cut g c = λ p own b.
     let D = g.D.Device in
-    line_unheard D.seen D.may_leave D.faults p c.args.kernel.now c.args.line.now c.in-Ok.told c.args.live _ _ c.answer.new.kernel c.end_unheard.new.kernel _ b c.in-Ok.ensures.schema (c.in-Ok.ensures.answers p own b) c.in-Err-write_answer.ensures.front c.end_unheard.ensures.left
+    line_unheard D.seen D.may_leave D.faults p c.args.kernel.now c.args.line.now c.in-Ok.told c.args.live _ _ c.answer.new.kernel c.end_unheard.new.kernel _ b c.in-Ok.ensures.schema (c.in-Ok.ensures.answers p own b) c.in-Err-tell.ensures.front c.end_unheard.ensures.left

@@ -1,5 +1,5 @@
 use Rattle.std.proofs.Common.{refl}
-use Rattle.std.proofs.lemmas.Result.{IfErr-weaker, IfOk-weaker}
+use Rattle.std.proofs.lemmas.Result.{IfErr-weaker}
 use Rattle.mt_alone.specs.Sessions.{cut_script, unheard_line}
 use Rattle.mt_alone.proofs.SessionLemmas.{beside_session, session_served_of}
 use Rattle.mt_alone.proofs.sessions.run_session.Goals as goal

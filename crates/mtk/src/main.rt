@@ -8,7 +8,7 @@ use mt_cli::perform_words;
 use mt_folder::DiskFolder;
 use std::env;
 use std::fs::{File, OpenOptions};
-use std::io::{self, ErrorKind, IsTerminal, LineWriter, Write};
+use std::io::{self, BufWriter, ErrorKind, IsTerminal, Write};
 use std::os::fd::AsRawFd;
 use std::process::ExitCode;
 use std::rt::{Files, Runtime};
@@ -62,8 +62,8 @@ fn done<
     }
     let mut folder = DiskFolder::new(rt);
     let mut input = rt.reader();
-    // each line is written out by itself, so that a commit is told of when it is durable
-    let mut out = LineWriter::new(alloc, out)?;
+    // a script that runs alone flushes it at the end of each transaction, so a commit is reported once it is durable
+    let mut out = BufWriter::new(alloc, out)?;
     Ok(perform_words(
         rt,
         alloc,

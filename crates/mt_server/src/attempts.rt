@@ -12,7 +12,7 @@ use crate::line_answers::{Stop, fail, refuse, take_back, tell_aborted, tell_begu
 use mt_base::Refusal;
 use mt_disk::Device;
 use mt_script::Line;
-use mt_shared::{Gate, Naming, Pass, Shared, Txn};
+use mt_shared::{Gate, Hold, Naming, Pass, Txn};
 use std::alloc::Global;
 use std::sync::Wait;
 use std::thread;
@@ -32,14 +32,14 @@ pub enum Ran {
 /// Takes back what is open at the script's end, and tells that.
 fn end<D: Device, G: Gate + Drop, J: Naming, R: Wait>(
     rt: &R,
-    shared: &Shared<D, G, J>,
+    hold: &mut Hold<'_, D, G, J>,
     pass: &mut Pass<J>,
     txn: Txn<J>,
     out: &mut Vec<u8>,
 ) -> Result<Ran, Stop>
     ensures { Ending pass.old out.old.items out.new.items pass.new result }
 {
-    if !take_back(rt, shared, pass, txn) {
+    if !take_back(rt, hold, pass, txn) {
         return Err(fail(out));
     }
     tell_aborted(out)?;
@@ -49,7 +49,7 @@ fn end<D: Device, G: Gate + Drop, J: Naming, R: Wait>(
 /// Answers the lines behind a begin until the transaction has ended. The begin is not counted.
 fn go_on<D: Device, G: Gate + Drop, J: Naming, R: Wait>(
     rt: &R,
-    shared: &Shared<D, G, J>,
+    hold: &mut Hold<'_, D, G, J>,
     pass: &mut Pass<J>,
     txn: Txn<J>,
     lines: &[Line],
@@ -65,12 +65,12 @@ fn go_on<D: Device, G: Gate + Drop, J: Naming, R: Wait>(
     let mut count = 0;
     for line in lines {
         count += 1;
-        match turn(rt, shared, pass, kept, line, may_die, out)? {
+        match turn(rt, hold, pass, kept, line, may_die, out)? {
             Some(back) => kept = back,
             None => return Ok(Ran::Ended(count)),
         }
     }
-    end(rt, shared, pass, kept, out)
+    end(rt, hold, pass, kept, out)
 }
 
 /// Counts the begin among the lines that were answered.
@@ -104,7 +104,7 @@ fn unbegun(out: &mut Vec<u8>, why: Refusal) -> Result<Ran, Stop>
 fn run_once<D: Device, G: Gate + Drop, J: Naming, R: Wait>(
     rt: &R,
     alloc: Global,
-    shared: &Shared<D, G, J>,
+    hold: &mut Hold<'_, D, G, J>,
     pass: &mut Pass<J>,
     session: u32,
     lines: &[Line],
@@ -116,11 +116,11 @@ fn run_once<D: Device, G: Gate + Drop, J: Naming, R: Wait>(
         (line.Begin ∷ lines.now) out.old.items out.new.items pass.new result }
     ensures lives { may_die ≡ false → IfErr result (λ told. told ≢ stop.Died) }
 {
-    match shared.begin(rt, alloc, pass, session) {
+    match hold.begin(rt, alloc, pass, session) {
         Ok(txn) => match tell_begun(out) {
-            Ok(()) => and_begin(go_on(rt, shared, pass, txn, lines, may_die, out)),
+            Ok(()) => and_begin(go_on(rt, hold, pass, txn, lines, may_die, out)),
             Err(why) => {
-                take_back(rt, shared, pass, txn);
+                take_back(rt, hold, pass, txn);
                 Err(why)
             }
         },
@@ -139,7 +139,7 @@ fn back_off(run: u32) {
 pub(crate) fn run_surely<D: Device, G: Gate + Drop, J: Naming, R: Wait>(
     rt: &R,
     alloc: Global,
-    shared: &Shared<D, G, J>,
+    hold: &mut Hold<'_, D, G, J>,
     pass: &mut Pass<J>,
     session: u32,
     lines: &[Line],
@@ -152,7 +152,7 @@ pub(crate) fn run_surely<D: Device, G: Gate + Drop, J: Naming, R: Wait>(
 {
     let kept = out.len();
     for run in 1..RUNS {
-        match run_once(rt, alloc, shared, pass, session, lines, true, out) {
+        match run_once(rt, alloc, hold, pass, session, lines, true, out) {
             Err(Stop::Died) => {
                 out.truncate(kept);
                 back_off(run);
@@ -162,5 +162,5 @@ pub(crate) fn run_surely<D: Device, G: Gate + Drop, J: Naming, R: Wait>(
             Err(Stop::Unheard) => return Err(Stop::Unheard),
         }
     }
-    run_once(rt, alloc, shared, pass, session, lines, false, out)
+    run_once(rt, alloc, hold, pass, session, lines, false, out)
 }

@@ -14,7 +14,7 @@ use mt_base::Refusal;
 use mt_disk::Device;
 use mt_model::Op;
 use mt_script::{Answer, Line, write_answer, write_reply};
-use mt_shared::{Gate, Naming, Pass, Refused, Shared, Txn};
+use mt_shared::{Gate, Hold, Naming, Pass, Refused, Txn};
 use std::sync::Wait;
 
 /// Why a session goes on no further in its transaction.
@@ -85,7 +85,7 @@ pub(crate) fn fail(out: &mut Vec<u8>) -> Stop
 /// Takes a transaction back, and answers whether the device let it.
 pub(crate) fn take_back<D: Device, G: Gate + Drop, J: Naming, R: Wait>(
     rt: &R,
-    shared: &Shared<D, G, J>,
+    hold: &mut Hold<'_, D, G, J>,
     pass: &mut Pass<J>,
     txn: Txn<J>,
 ) -> bool
@@ -93,7 +93,7 @@ pub(crate) fn take_back<D: Device, G: Gate + Drop, J: Naming, R: Wait>(
 {
     let mut kept = txn;
     'turns: for _ in rt.forever() {
-        match shared.abort(rt, pass, kept) {
+        match hold.abort(rt, pass, kept) {
             Ok(()) => return true,
             Err(Refused { why: _, txn: None }) => return false,
             Err(
@@ -110,7 +110,7 @@ pub(crate) fn take_back<D: Device, G: Gate + Drop, J: Naming, R: Wait>(
 /// Refuses a line, and the transaction goes on. Where there is no memory for that, it is taken back.
 fn refused<D: Device, G: Gate + Drop, J: Naming, R: Wait>(
     rt: &R,
-    shared: &Shared<D, G, J>,
+    hold: &mut Hold<'_, D, G, J>,
     pass: &mut Pass<J>,
     txn: Txn<J>,
     why: Refusal,
@@ -119,10 +119,12 @@ fn refused<D: Device, G: Gate + Drop, J: Naming, R: Wait>(
     ensures tells { Telling txn pass.old out.old.items out.new.items pass.new (answer.Refused why) result }
     ensures lives { IfErr result (λ told. told ≢ stop.Died) }
 {
+    // a line that is no operation is not counted in the hold
+    hold.give_back();
     match refuse(out, why) {
         Ok(()) => Ok(Some(txn)),
         Err(stop) => {
-            take_back(rt, shared, pass, txn);
+            take_back(rt, hold, pass, txn);
             Err(stop)
         }
     }
@@ -131,7 +133,7 @@ fn refused<D: Device, G: Gate + Drop, J: Naming, R: Wait>(
 /// Answers a line by the last reply, and the transaction goes on.
 fn replied<D: Device, G: Gate + Drop, J: Naming, R: Wait>(
     rt: &R,
-    shared: &Shared<D, G, J>,
+    hold: &mut Hold<'_, D, G, J>,
     pass: &mut Pass<J>,
     txn: Txn<J>,
     out: &mut Vec<u8>,
@@ -146,7 +148,7 @@ fn replied<D: Device, G: Gate + Drop, J: Naming, R: Wait>(
     match write_reply(out, &calls[calls.len() - 1].1) {
         Ok(()) => Ok(Some(txn)),
         Err(_) => {
-            take_back(rt, shared, pass, txn);
+            take_back(rt, hold, pass, txn);
             Err(Stop::Unheard)
         }
     }
@@ -155,7 +157,7 @@ fn replied<D: Device, G: Gate + Drop, J: Naming, R: Wait>(
 /// Ends a transaction that died: it is taken back. Where that may not be told by running it again, it is the answer.
 fn died<D: Device, G: Gate + Drop, J: Naming, R: Wait>(
     rt: &R,
-    shared: &Shared<D, G, J>,
+    hold: &mut Hold<'_, D, G, J>,
     pass: &mut Pass<J>,
     txn: Txn<J>,
     why: Refusal,
@@ -167,7 +169,7 @@ fn died<D: Device, G: Gate + Drop, J: Naming, R: Wait>(
     ensures turns { (op : Op) → Turning J.base txn pass.old (line.Call op) out.old.items out.new.items pass.new result }
     ensures lives { may_die ≡ false → IfErr result (λ told. told ≢ stop.Died) }
 {
-    if !take_back(rt, shared, pass, txn) {
+    if !take_back(rt, hold, pass, txn) {
         return Err(fail(out));
     }
     if may_die {
@@ -180,7 +182,7 @@ fn died<D: Device, G: Gate + Drop, J: Naming, R: Wait>(
 /// Answers an operation that was refused. Its transaction goes on, unless it died or the device failed.
 fn stopped<D: Device, G: Gate + Drop, J: Naming, R: Wait>(
     rt: &R,
-    shared: &Shared<D, G, J>,
+    hold: &mut Hold<'_, D, G, J>,
     pass: &mut Pass<J>,
     txn: Txn<J>,
     why: Refusal,
@@ -192,19 +194,19 @@ fn stopped<D: Device, G: Gate + Drop, J: Naming, R: Wait>(
     ensures lives { may_die ≡ false → IfErr result (λ told. told ≢ stop.Died) }
 {
     match why {
-        Refusal::Die(_) => died(rt, shared, pass, txn, why, may_die, out),
+        Refusal::Die(_) => died(rt, hold, pass, txn, why, may_die, out),
         Refusal::DeviceFailed => {
-            take_back(rt, shared, pass, txn);
+            take_back(rt, hold, pass, txn);
             Err(fail(out))
         }
-        _ => refused(rt, shared, pass, txn, why, out),
+        _ => refused(rt, hold, pass, txn, why, out),
     }
 }
 
 /// Runs an operation to its end, and answers its reply.
 fn call<D: Device, G: Gate + Drop, J: Naming, R: Wait>(
     rt: &R,
-    shared: &Shared<D, G, J>,
+    hold: &mut Hold<'_, D, G, J>,
     pass: &mut Pass<J>,
     txn: Txn<J>,
     op: &Op,
@@ -216,19 +218,19 @@ fn call<D: Device, G: Gate + Drop, J: Naming, R: Wait>(
     ensures lives { may_die ≡ false → IfErr result (λ told. told ≢ stop.Died) }
 {
     let Ok(copy) = op.try_clone() else {
-        return refused(rt, shared, pass, txn, Refusal::NoMemory, out);
+        return refused(rt, hold, pass, txn, Refusal::NoMemory, out);
     };
     let mut kept = txn;
-    match shared.run(rt, &mut kept, copy) {
-        Ok(()) => replied(rt, shared, pass, kept, out),
-        Err(why) => stopped(rt, shared, pass, kept, why, may_die, out),
+    match hold.run(rt, &mut kept, copy) {
+        Ok(()) => replied(rt, hold, pass, kept, out),
+        Err(why) => stopped(rt, hold, pass, kept, why, may_die, out),
     }
 }
 
 /// Commits a transaction, and answers its place.
 fn commit<D: Device, G: Gate + Drop, J: Naming, R: Wait>(
     rt: &R,
-    shared: &Shared<D, G, J>,
+    hold: &mut Hold<'_, D, G, J>,
     pass: &mut Pass<J>,
     txn: Txn<J>,
     out: &mut Vec<u8>,
@@ -237,13 +239,13 @@ fn commit<D: Device, G: Gate + Drop, J: Naming, R: Wait>(
     ensures turns { Turning J.base txn pass.old line.Commit out.old.items out.new.items pass.new result }
     ensures lives { IfErr result (λ told. told ≢ stop.Died) }
 {
-    match shared.commit(rt, pass, txn) {
+    match hold.commit(rt, pass, txn) {
         Ok(place) => {
             tell_committed(out, place)?;
             Ok(None)
         }
         Err(Refused { why, txn: back }) => match back {
-            Some(back) => refused(rt, shared, pass, back, why, out),
+            Some(back) => refused(rt, hold, pass, back, why, out),
             None => Err(fail(out)),
         },
     }
@@ -252,7 +254,7 @@ fn commit<D: Device, G: Gate + Drop, J: Naming, R: Wait>(
 /// Takes a transaction back where its script asks for it.
 fn abort<D: Device, G: Gate + Drop, J: Naming, R: Wait>(
     rt: &R,
-    shared: &Shared<D, G, J>,
+    hold: &mut Hold<'_, D, G, J>,
     pass: &mut Pass<J>,
     txn: Txn<J>,
     out: &mut Vec<u8>,
@@ -261,7 +263,7 @@ fn abort<D: Device, G: Gate + Drop, J: Naming, R: Wait>(
     ensures turns { Turning J.base txn pass.old line.Abort out.old.items out.new.items pass.new result }
     ensures lives { IfErr result (λ told. told ≢ stop.Died) }
 {
-    if !take_back(rt, shared, pass, txn) {
+    if !take_back(rt, hold, pass, txn) {
         return Err(fail(out));
     }
     tell_aborted(out)?;
@@ -273,7 +275,7 @@ fn abort<D: Device, G: Gate + Drop, J: Naming, R: Wait>(
 /// Where the transaction dies, its line is answered so only if it may not die to be run again.
 pub(crate) fn turn<D: Device, G: Gate + Drop, J: Naming, R: Wait>(
     rt: &R,
-    shared: &Shared<D, G, J>,
+    hold: &mut Hold<'_, D, G, J>,
     pass: &mut Pass<J>,
     txn: Txn<J>,
     line: &Line,
@@ -285,9 +287,9 @@ pub(crate) fn turn<D: Device, G: Gate + Drop, J: Naming, R: Wait>(
     ensures lives { may_die ≡ false → IfErr result (λ told. told ≢ stop.Died) }
 {
     match line {
-        Line::Begin => refused(rt, shared, pass, txn, Refusal::Busy, out),
-        Line::Call(op) => call(rt, shared, pass, txn, op, may_die, out),
-        Line::Commit => commit(rt, shared, pass, txn, out),
-        Line::Abort => abort(rt, shared, pass, txn, out),
+        Line::Begin => refused(rt, hold, pass, txn, Refusal::Busy, out),
+        Line::Call(op) => call(rt, hold, pass, txn, op, may_die, out),
+        Line::Commit => commit(rt, hold, pass, txn, out),
+        Line::Abort => abort(rt, hold, pass, txn, out),
     }
 }

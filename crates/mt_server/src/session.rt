@@ -12,7 +12,7 @@ use crate::line_answers::{Stop, refuse};
 use mt_base::Refusal;
 use mt_disk::Device;
 use mt_script::{Line, Script};
-use mt_shared::{Gate, Naming, Pass, Shared};
+use mt_shared::{Gate, Hold, Naming, Pass, Shared};
 use std::alloc::{AllocError, Global};
 use std::sync::Wait;
 
@@ -27,7 +27,7 @@ fn is_begin(line: &Line) -> bool
 fn go_from<D: Device, G: Gate + Drop, J: Naming, R: Wait>(
     rt: &R,
     alloc: Global,
-    shared: &Shared<D, G, J>,
+    hold: &mut Hold<'_, D, G, J>,
     pass: &mut Pass<J>,
     session: u32,
     lines: &[Line],
@@ -40,7 +40,7 @@ fn go_from<D: Device, G: Gate + Drop, J: Naming, R: Wait>(
     ensures lives { IfErr result (λ told. told ≢ stop.Died) }
 {
     if is_begin(&lines[at]) {
-        return run_surely(rt, alloc, shared, pass, session, &lines[at + 1..], out);
+        return run_surely(rt, alloc, hold, pass, session, &lines[at + 1..], out);
     }
     refuse(out, Refusal::Stranger)?;
     Ok(Ran::Ended(1))
@@ -64,11 +64,12 @@ pub(crate) fn run_session<D: Device, G: Gate + Drop, J: Naming, R: Wait>(
     let lines = script.lines();
     let mut out = Vec::new(alloc);
     let mut at = 0;
+    let mut hold = shared.hold();
     'lines: for _ in rt.forever() {
         if at >= lines.len() {
             return Ok((Transcript::new(out), false));
         }
-        match go_from(rt, alloc, shared, pass, session, lines, at, &mut out) {
+        match go_from(rt, alloc, &mut hold, pass, session, lines, at, &mut out) {
             Ok(Ran::Ended(count)) => at += count,
             Ok(Ran::AtEnd) => return Ok((Transcript::new(out), false)),
             Err(Stop::Failed) => return Ok((Transcript::new(out), true)),

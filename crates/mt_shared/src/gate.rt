@@ -19,7 +19,8 @@ pub trait Gate {
     fn at(&self, session: u32, point: Point);
 
     /// Whether it is to be told of this point; it is asked once, when what is shared is made. A step at whose point
-    /// nobody is told is made in one hold of the lock with the next.
+    /// nobody is told is made in one hold of the lock with the next. So are a few calls of one thread, if it wants no
+    /// point before a transaction's end.
     fn wants(&self, _point: Point) -> bool {
         true
     }
@@ -44,6 +45,11 @@ impl Wanted {
             committed: gate.wants(Point::Committed),
             aborted: gate.wants(Point::Aborted),
         }
+    }
+
+    // Whether the gate wants to be told of a point before a transaction's end.
+    pub(crate) fn has_within(self) -> bool {
+        self.began || self.stepped || self.replied
     }
 
     pub(crate) fn has(self, point: Point) -> bool {

@@ -13,15 +13,13 @@ ghost use Rattle.mt_txn.specs.Shown.{is_failed};
 ghost use Rattle.mt_locked.specs.Whole.{HasAllOf, all_own};
 
 use crate::gate::{Gate, Point, Wanted};
-use mt_base::{Refusal, TxnNo};
+use crate::hold::Hold;
+use mt_base::Refusal;
 use mt_disk::Device;
-use mt_locked::{
-    Due, Locked, LogUse, Naming, Pass, Refused, Txn, Unclosed, give_token, put_calls, spend_token,
-    take_calls,
-};
+use mt_locked::{Due, Locked, LogUse, Naming, Pass, Refused, Txn, Unclosed, spend_token};
 use mt_model::{Op, Reply};
 use mt_pool::Flushed;
-use mt_txn::{AbortStepped, Called, Kernel, KernelForced, Stepped};
+use mt_txn::{Kernel, KernelForced};
 use std::alloc::Global;
 use std::array;
 use std::sync::{Condvar, Mutex, MutexGuard, Wait};
@@ -32,15 +30,15 @@ const TURNS: usize = 64;
 
 /// A kernel that threads share, with the commit mark beside it: one history for all.
 pub struct Shared<D: Device, G: Gate + Drop, J: Naming> {
-    locked: Mutex<Locked<D, J>>,
+    pub(crate) locked: Mutex<Locked<D, J>>,
     // on which who waits for an operation, or for a transaction to end, sleeps
-    moved: Condvar,
+    pub(crate) moved: Condvar,
     // on which who commits sleeps until its turn, by its place in the book
     turns: [Condvar; TURNS],
     // on which who tends sleeps until the log is to be turned over
     due: Condvar,
-    gate: G,
-    wanted: Wanted,
+    pub(crate) gate: G,
+    pub(crate) wanted: Wanted,
 }
 
 /// A close that was refused, with all that was handed in.
@@ -78,14 +76,14 @@ impl<D: Device, G: Gate + Drop, J: Naming> Shared<D, G, J> {
     }
 
     // Tells the gate, if it wants to be told.
-    fn tell(&self, session: u32, point: Point) {
+    pub(crate) fn tell(&self, session: u32, point: Point) {
         if self.wanted.has(point) {
             self.gate.at(session, point);
         }
     }
 
     // A refusal that is to be answered. All that sleep are woken where the device has failed.
-    fn refusing(&self, why: Refusal) -> Refusal
+    pub(crate) fn refusing(&self, why: Refusal) -> Refusal
         ensures { result ≡ why }
     {
         if why == Refusal::DeviceFailed {
@@ -95,7 +93,7 @@ impl<D: Device, G: Gate + Drop, J: Naming> Shared<D, G, J> {
     }
 
     // Wakes all that sleep, who tends and who commits too.
-    fn wake_all(&self) {
+    pub(crate) fn wake_all(&self) {
         self.moved.notify_all();
         self.due.notify_all();
         for turn in &self.turns {
@@ -104,7 +102,7 @@ impl<D: Device, G: Gate + Drop, J: Naming> Shared<D, G, J> {
     }
 
     // A transaction was taken back. Wakes who waits for it, and who tends if the log is to be turned over from now on.
-    fn taken_back(&self, mut locked: MutexGuard<'_, Locked<D, J>>) {
+    pub(crate) fn taken_back(&self, mut locked: MutexGuard<'_, Locked<D, J>>) {
         let is_due = locked.stir();
         drop(locked);
         self.moved.notify_all();
@@ -152,10 +150,14 @@ impl<D: Device, G: Gate + Drop, J: Naming> Shared<D, G, J> {
         pass.look()
     }
 
-    /// Begins a transaction of this pass, for a session. Nothing enters the history.
+    /// The calls of a thread that keep the lock from one to the next.
+    pub fn hold(&self) -> Hold<'_, D, G, J> {
+        Hold::of(self)
+    }
+
+    /// Begins a transaction of this pass, for a session, as [`Hold::begin`]. Nothing enters the history.
     ///
-    /// Refused, in this order: 16 where this pass has a transaction, then as [`Kernel::begin`]. Nothing has changed
-    /// then.
+    /// Refused, in this order: 16 if this pass has a transaction, then as [`Kernel::begin`]. Nothing has changed then.
     pub fn begin<R: Wait>(
         &self,
         rt: &R,
@@ -166,125 +168,25 @@ impl<D: Device, G: Gate + Drop, J: Naming> Shared<D, G, J> {
         ensures pass { pass.new ≡ pass.old }
         ensures token { IfOk result (λ t. t ≡ fresh pass.old.number session) }
     {
-        if pass.is_busy() {
-            return Err(Refusal::Busy);
-        }
-        let number = match self.begun(rt, session) {
-            Ok(number) => number,
-            Err(why) => return Err(self.refusing(why)),
-        };
-        let txn = give_token(alloc, pass, number, session);
-        self.tell(session, Point::Began);
-        Ok(txn)
+        let mut hold = self.hold();
+        hold.begin(rt, alloc, pass, session)
     }
 
-    // Begins a transaction once none is held back.
-    fn begun<R: Wait>(&self, rt: &R, session: u32) -> Result<TxnNo, Refusal> {
-        let mut locked = self.locked.lock(rt);
-        for _ in rt.forever() {
-            if !locked.holds_back() {
-                return locked.begin(session);
-            }
-            locked = self.moved.wait(rt, locked);
-        }
-        unreachable!()
-    }
-
-    /// Runs an operation to its end. The token keeps it with its reply, [`Txn::calls`].
+    /// Runs an operation to its end, as [`Hold::run`]. The token keeps it with its reply, [`Txn::calls`].
     ///
-    /// It waits if another transaction is in the way, and flushes pages if frames are wanted. A step that finds no
-    /// memory is made again. Refused as [`Kernel::call`], with 1 only before the operation has started, and with 2 if
-    /// the device fails; the token is as before.
+    /// Refused as [`Kernel::call`], with 1 only before the operation has started, and with 2 if the device fails; the
+    /// token is as before.
     pub fn run<R: Wait>(&self, rt: &R, txn: &mut Txn<J>, op: Op) -> Result<(), Refusal>
         ensures ok { OnOk result ((r : Reply) × (txn.new ≡ with_call txn.old op r)) }
         ensures err { OnErr result (txn.new ≡ txn.old) }
     {
-        let (number, session) = (txn.number(), txn.session());
-        // out of the token meanwhile, where it is known that there is room for one more
-        let mut calls = take_calls(txn);
-        if calls.reserve(1).is_err() {
-            put_calls(txn, calls);
-            return Err(Refusal::NoMemory);
-        }
-        match self.replied(rt, number, session, &op) {
-            Ok(reply) => {
-                calls.push_reserved((op, reply));
-                put_calls(txn, calls);
-                Ok(())
-            }
-            Err(why) => {
-                put_calls(txn, calls);
-                Err(why)
-            }
-        }
+        let mut hold = self.hold();
+        hold.run(rt, txn, op)
     }
 
-    // The reply of an operation.
-    fn replied<R: Wait>(
-        &self,
-        rt: &R,
-        number: TxnNo,
-        session: u32,
-        op: &Op,
-    ) -> Result<Reply, Refusal> {
-        let mut locked = self.locked.lock(rt);
-        for _ in rt.forever() {
-            match locked.call(number, op.try_clone()?) {
-                Ok(Called::Started) => return self.stepped(rt, locked, number, session),
-                Ok(Called::Wait(_)) => locked = self.moved.wait(rt, locked),
-                Err(why) => return Err(self.refusing(why)),
-            }
-        }
-        unreachable!()
-    }
-
-    // The reply of an operation that is under way.
-    fn stepped<'a, R: Wait>(
-        &'a self,
-        rt: &R,
-        locked: MutexGuard<'a, Locked<D, J>>,
-        number: TxnNo,
-        session: u32,
-    ) -> Result<Reply, Refusal> {
-        let mut locked = locked;
-        for _ in rt.forever() {
-            match locked.step(number) {
-                Ok(Stepped::Replied(reply)) => {
-                    self.moved.notify_all();
-                    drop(locked);
-                    self.tell(session, Point::Replied);
-                    return Ok(reply);
-                }
-                Ok(Stepped::Went) => {
-                    if self.wanted.has(Point::Stepped) {
-                        drop(locked);
-                        self.gate.at(session, Point::Stepped);
-                        locked = self.locked.lock(rt);
-                    }
-                }
-                Ok(Stepped::Flush) => match locked.make_room() {
-                    Ok(()) => self.moved.notify_all(),
-                    Err(Refusal::NoMemory) => {}
-                    Err(why) => return Err(self.refusing(why)),
-                },
-                Ok(Stepped::Again) => {
-                    self.moved.notify_all();
-                    locked = self.moved.wait(rt, locked);
-                }
-                Ok(Stepped::Wait(_)) => locked = self.moved.wait(rt, locked),
-                Err(Refusal::NoMemory) => {
-                    drop(locked);
-                    locked = self.locked.lock(rt);
-                }
-                Err(why) => return Err(self.refusing(why)),
-            }
-        }
-        unreachable!()
-    }
-
-    /// Takes a transaction back, and what it did. Nothing enters the history.
+    /// Takes a transaction back, and what it did, as [`Hold::abort`]. Nothing enters the history.
     ///
-    /// Refused: 15 where the token is of another pass; 2 where the device failed, and then the token is gone.
+    /// Refused: 15 if the token is of another pass; 2 if the device failed, and then the token is gone.
     pub fn abort<R: Wait>(&self, rt: &R, pass: &mut Pass<J>, txn: Txn<J>) -> Result<(), Refused<J>>
         ensures same { pass.new ≡ pass.old }
         ensures own { OnOk result (txn.pass ≡ pass.old.number) }
@@ -292,59 +194,8 @@ impl<D: Device, G: Gate + Drop, J: Naming> Shared<D, G, J> {
         ensures back { IfErr result (λ r. IfSome r.txn (λ t. t ≡ txn)) }
         ensures gone { IfErr result (λ r. (r.txn ≡ None) ↔ (r.why ≡ DeviceFailed)) }
     {
-        if txn.pass() != pass.number() {
-            return Err(Refused {
-                why: Refusal::Stranger,
-                txn: Some(txn),
-            });
-        }
-        match self.undone(rt, txn.number()) {
-            Ok(()) => {
-                let session = txn.session();
-                spend_token(pass, txn);
-                self.tell(session, Point::Aborted);
-                Ok(())
-            }
-            Err(Refusal::DeviceFailed) => Err(lost(pass, txn)),
-            Err(why) => {
-                Err(Refused {
-                    why,
-                    txn: Some(txn),
-                })
-            }
-        }
-    }
-
-    fn undone<R: Wait>(&self, rt: &R, number: TxnNo) -> Result<(), Refusal> {
-        let mut locked = self.locked.lock(rt);
-        if let Err(why) = locked.abort_begin(number) {
-            return Err(self.refusing(why));
-        }
-        for _ in rt.forever() {
-            match locked.abort_step(number) {
-                Ok(AbortStepped::Ended) => {
-                    self.taken_back(locked);
-                    return Ok(());
-                }
-                Ok(AbortStepped::More) => self.moved.notify_all(),
-                Ok(AbortStepped::Flush) => match locked.make_room() {
-                    Ok(()) => self.moved.notify_all(),
-                    Err(Refusal::NoMemory) => {}
-                    Err(why) => return Err(self.refusing(why)),
-                },
-                Ok(AbortStepped::Again) => {
-                    self.moved.notify_all();
-                    locked = self.moved.wait(rt, locked);
-                }
-                Ok(AbortStepped::Wait(_)) => locked = self.moved.wait(rt, locked),
-                Err(Refusal::NoMemory) => {
-                    drop(locked);
-                    locked = self.locked.lock(rt);
-                }
-                Err(why) => return Err(self.refusing(why)),
-            }
-        }
-        unreachable!()
+        let mut hold = self.hold();
+        hold.abort(rt, pass, txn)
     }
 
     /// One step of a force. One page is flushed where there is nothing to force, or a commit waits to be durable,
@@ -417,12 +268,11 @@ impl<D: Device, G: Gate + Drop, J: Naming> Shared<D, G, J> {
         self.locked.lock(rt).is_half_used()
     }
 
-    /// Commits, and answers the place in the history, from 1. The transaction is durable then, and in the history.
+    /// Commits, and answers the place in the history, from 1, as [`Hold::commit`]. The transaction is durable then, and in
+    /// the history.
     ///
-    /// It waits until the commits before it are entered. If its own is not durable then, it makes force steps until
-    /// it is; what others have appended meanwhile is forced with it. Refused: 15 where the token is of another pass,
-    /// then as [`Kernel::commit_begin`], and the token comes back. It is refused with 2 where the device failed
-    /// before the commit was durable, and then the token is gone.
+    /// Refused: 15 if the token is of another pass, then as [`Kernel::commit_begin`], and the token comes back. It is
+    /// refused with 2 if the device failed before the commit was durable, and then the token is gone.
     pub fn commit<R: Wait>(
         &self,
         rt: &R,
@@ -436,35 +286,12 @@ impl<D: Device, G: Gate + Drop, J: Naming> Shared<D, G, J> {
         ensures back { IfErr result (λ r. IfSome r.txn (λ t. t ≡ txn)) }
         ensures gone { IfErr result (λ r. (r.txn ≡ None) ↔ (r.why ≡ DeviceFailed)) }
     {
-        if txn.pass() != pass.number() {
-            return Err(Refused {
-                why: Refusal::Stranger,
-                txn: Some(txn),
-            });
-        }
-        let session = txn.session();
-        let mut locked = self.locked.lock(rt);
-        match locked.commit_begin(txn.number()) {
-            Ok(place) => {
-                let place = self.entered(rt, locked, pass, txn, place)?;
-                self.tell(session, Point::Committed);
-                Ok(place)
-            }
-            Err(Refusal::DeviceFailed) => {
-                self.wake_all();
-                Err(lost(pass, txn))
-            }
-            Err(why) => {
-                Err(Refused {
-                    why,
-                    txn: Some(txn),
-                })
-            }
-        }
+        let mut hold = self.hold();
+        hold.commit(rt, pass, txn)
     }
 
     // Enters a commit, once it is its turn and it is durable.
-    fn entered<'a, R: Wait>(
+    pub(crate) fn entered<'a, R: Wait>(
         &'a self,
         rt: &R,
         locked: MutexGuard<'a, Locked<D, J>>,
@@ -646,7 +473,7 @@ impl<D: Device + Drop, G: Gate + Drop, J: Naming> Shared<D, G, J> {
 }
 
 // A token that is spent, since the device failed.
-fn lost<J: Naming>(pass: &mut Pass<J>, txn: Txn<J>) -> Refused<J>
+pub(crate) fn lost<J: Naming>(pass: &mut Pass<J>, txn: Txn<J>) -> Refused<J>
     ensures pass { pass.new ≡ pass.old }
     ensures gone { (result.txn ≡ None) × (result.why ≡ DeviceFailed) }
 {

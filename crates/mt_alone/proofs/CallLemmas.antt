@@ -25,8 +25,8 @@ use Rattle.mt_core.specs.Consistent.{Origin, IsAskedFor, SameStates, log_kept}
 use Rattle.mt_core.specs.Work.{RunsBehind, steps_in}
 use Rattle.mt_core.specs.declared.calls.Called.{Called}
 use Rattle.mt_core.specs.declared.calls.Called.TheVariants as call
-use Rattle.mt_core.specs.declared.kernel_core.Core.{Core}
-use Rattle.mt_core.specs.declared.kernel_core.Running.{Running}
+use Rattle.mt_core.specs.declared.parts.Core.{Core}
+use Rattle.mt_core.specs.declared.parts.Running.{Running}
 use Rattle.mt_txn.proofs.Showing.{kept_of}
 use Rattle.mt_txn.specs.Causes.{call_cause, count_cause, first_of, is_key, is_step, is_value, name_cause, size_cause, unless}
 use Rattle.mt_txn.specs.Events.{HasCalled, IsAnsweredBy}

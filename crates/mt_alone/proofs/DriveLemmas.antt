@@ -23,7 +23,7 @@ use Rattle.mt_model.specs.declared.operations.Reply.{Reply}
 use Rattle.mt_core.specs.Consistent.{SameStates}
 use Rattle.mt_core.specs.Runs.{state_in}
 use Rattle.mt_core.specs.Work.{steps_in, undo_steps}
-use Rattle.mt_core.specs.declared.kernel_core.Running.{Running}
+use Rattle.mt_core.specs.declared.parts.Running.{Running}
 use Rattle.mt_txn.proofs.Living.{busy_of}
 use Rattle.mt_txn.specs.Causes.{IsFault, abort_cause, is_aborting, is_busy, is_open, step_cause, unless, first_of}
 use Rattle.mt_txn.specs.Events.{HasStepped, HasAborted}

@@ -16,7 +16,7 @@ use Rattle.mt_model.specs.declared.history.Committed.{Committed}
 use Rattle.mt_model.specs.History.{Call, run}
 use Rattle.mt_model.specs.Model.{Base}
 use Rattle.mt_core.specs.Booked.{booked_each, durable_count, durable_txns, or_zero, session_at}
-use Rattle.mt_core.specs.declared.kernel_core.Commit.{Commit}
+use Rattle.mt_core.specs.declared.parts.Commit.{Commit}
 use Rattle.mt_txn.specs.Shown.{Shows}
 use Rattle.mt_txn.specs.declared.answers.KernelForced.TheVariants as forced
 use Rattle.mt_txn.specs.declared.kernel.Kernel.{Kernel}

@@ -12,8 +12,8 @@ use Rattle.mt_core.specs.Booked.{booked_each, durable_txns}
 use Rattle.mt_core.specs.Consistent.{OnlyOperations}
 use Rattle.mt_core.specs.Runs.{state_in}
 use Rattle.mt_core.specs.Work.{LeavesUndo}
-use Rattle.mt_core.specs.declared.kernel_core.Commit.{Commit}
-use Rattle.mt_core.specs.declared.kernel_core.Core.{Core}
+use Rattle.mt_core.specs.declared.parts.Commit.{Commit}
+use Rattle.mt_core.specs.declared.parts.Core.{Core}
 use Rattle.mt_txn.proofs.Living.{no_commits}
 use Rattle.mt_txn.specs.Causes.{IsFailure, IsFault}
 use Rattle.mt_txn.specs.Events.{HasForced, IsForcedBy}

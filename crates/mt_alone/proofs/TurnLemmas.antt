@@ -25,8 +25,8 @@ use Rattle.mt_model.specs.declared.operations.Op.{Op}
 use Rattle.mt_core.specs.Consistent.{SameRunning, SameStates, SetsState, log_kept}
 use Rattle.mt_core.specs.Runs.{state_in}
 use Rattle.mt_core.specs.Work.{undo_steps}
-use Rattle.mt_core.specs.declared.kernel_core.Commit.{Commit}
-use Rattle.mt_core.specs.declared.kernel_core.Running.{Running}
+use Rattle.mt_core.specs.declared.parts.Commit.{Commit}
+use Rattle.mt_core.specs.declared.parts.Running.{Running}
 use Rattle.mt_txn.proofs.Living.{idle_of, no_commits}
 use Rattle.mt_txn.proofs.Showing.{kept_of, parts_stay}
 use Rattle.mt_txn.specs.Causes.{begin_cause, commit_cause, first_of, is_busy, is_open, open_cause, unless}

@@ -19,8 +19,8 @@ use Rattle.mt_pool.specs.Views.{pages}
 use Rattle.mt_core.proofs.Effects.{inverse_bytes}
 use Rattle.mt_core.specs.Runs.{entry_bytes, is_open, kept_bytes, taken_bytes}
 use Rattle.mt_core.specs.Work.{abort_steps, effect_steps, effects_left, undo_steps}
-use Rattle.mt_core.specs.declared.kernel_core.Commit.{Commit}
-use Rattle.mt_core.specs.declared.kernel_core.Running.{Running}
+use Rattle.mt_core.specs.declared.parts.Commit.{Commit}
+use Rattle.mt_core.specs.declared.parts.Running.{Running}
 use Rattle.mt_txn.proofs.Living.{no_commits}
 use Rattle.mt_txn.specs.Causes.{is_busy}
 use Rattle.mt_txn.specs.Shown.{Shows}

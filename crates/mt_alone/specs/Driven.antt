@@ -15,7 +15,7 @@ use Rattle.mt_model.specs.declared.operations.Reply.{Reply}
 use Rattle.mt_core.specs.Consistent.{SameCommits, SameRunning, SameStates, SameUncommitted}
 use Rattle.mt_core.specs.Runs.{state_in}
 use Rattle.mt_core.specs.Work.{LeavesUndo, steps_in, undo_steps}
-use Rattle.mt_core.specs.declared.kernel_core.Commit.{Commit}
+use Rattle.mt_core.specs.declared.parts.Commit.{Commit}
 use Rattle.mt_txn.specs.Causes.{begin_cause, call_cause}
 use Rattle.mt_txn.specs.Due.{IsDueIn}
 use Rattle.mt_txn.specs.Events.{HasForced, IsAnsweredBy, IsForcedBy}

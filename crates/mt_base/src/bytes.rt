@@ -1,3 +1,4 @@
+// Bytes of keys, values and pages, in memory of their own.
 ghost use Rattle.std.specs.Prelude.{◌≡◌, ◌==◌, length, IfOk, bytes_eq, Some, refl, nat_eq};
 ghost use Rattle.std.specs.Ordering.{nat_cmp};
 ghost use Rattle.std.specs.Cmp as order;

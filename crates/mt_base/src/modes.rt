@@ -1,3 +1,4 @@
+// In which modes pages, keys and counters are locked.
 ghost use Rattle.std.specs.Prelude.{◌≡◌};
 ghost use Rattle.mt_base.specs.Modes.{granted_together, agree};
 

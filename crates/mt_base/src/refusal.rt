@@ -1,3 +1,4 @@
+// Why calls are refused: the number, the name and the text of each cause.
 ghost use Rattle.std.specs.Prelude.{◌≡◌, Some};
 ghost use Rattle.mt_base.specs.Refusal.{number_of, name_of, place_of, text_of};
 

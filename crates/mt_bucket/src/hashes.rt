@@ -1,3 +1,4 @@
+// By which bits a key finds its bucket.
 ghost use Rattle.std.specs.Prelude.{◌≡◌, ◌<◌};
 ghost use Rattle.mt_bucket.specs.Hash.{hash as hash_of, high};
 

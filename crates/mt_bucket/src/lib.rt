@@ -6,13 +6,13 @@
 //! Nothing is decoded: a find compares the cells where they lie.
 #![tactic(auto)]
 
-mod operations;
+mod entry_changes;
 mod page_rules;
 mod lookup;
 mod hashes;
 mod heads;
 
-pub use operations::{partition, push, remove, set};
+pub use entry_changes::{partition, push, remove, set};
 pub use page_rules::check;
 pub use lookup::{EntryView, entry, find, place_of};
 pub use hashes::{has_bit, hash};

@@ -1,3 +1,4 @@
+// Commands over a reader or a writer that fails in the middle, and with little memory.
 use crate::common::{device_of, kernel_over, put_away};
 use mt_alone::{RunFault, run_alone};
 use mt_base::Refusal;

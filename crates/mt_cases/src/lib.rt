@@ -7,7 +7,7 @@ mod cli;
 #[cfg(test)]
 mod common;
 #[cfg(test)]
-mod drivers;
+mod whole_operations;
 #[cfg(test)]
 mod operations;
 #[cfg(test)]

@@ -1,6 +1,6 @@
 // An operation that splits a bucket: taken back after each of its steps, and over refused memory.
 use crate::common::put_away;
-use crate::drivers::{Told, aborted, called, committed, kernel_of, run, stepped};
+use crate::whole_operations::{Told, aborted, called, committed, kernel_of, run, stepped};
 use mt_base::{Bytes, Refusal, RelNo, TxnNo};
 use mt_disk::MemDevice;
 use mt_model::{Base, Op, Row};

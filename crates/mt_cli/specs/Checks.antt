@@ -9,7 +9,7 @@ use Rattle.mt_op.specs.declared.survey.Survey.{Survey}
 use Rattle.mt_replay.specs.Refused.{BreaksFormat, BreaksLog, IsCause}
 use Rattle.mt_restart.specs.Inspected.{IsInspected}
 use Rattle.mt_restart.specs.Reported.{IsReport}
-use Rattle.mt_restart.specs.declared.report_data.Report.{Report}
+use Rattle.mt_restart.specs.declared.report_figures.Report.{Report}
 use Rattle.mt_script.specs.Answers.{AppendsFront}
 use Rattle.mt_folder.specs.Folders.{IsFileRefusal}
 use Rattle.mt_cli.specs.declared.faults.Fault.{Fault}

@@ -29,8 +29,8 @@ use Rattle.mt_core.specs.Consistent.{Origin, state_of, IsNumbered, AreTold, IsQu
 use Rattle.mt_core.proofs.Resting.{fit_over}
 use Rattle.mt_core.proofs.Told.{told_more}
 use Rattle.mt_core.proofs.Queued.{queued_records}
-use Rattle.mt_core.specs.declared.kernel_core.Core.{Core}
-use Rattle.mt_core.specs.declared.kernel_core.Running.{Running}
+use Rattle.mt_core.specs.declared.parts.Core.{Core}
+use Rattle.mt_core.specs.declared.parts.Running.{Running}
 
 nobodys : (t : ℕ) (ps : List Pending) → pending_of t ps ≡ [] → pending_without t ps ≡ ps
 nobodys t [] none = refl

@@ -37,8 +37,8 @@ use Rattle.mt_steps.specs.Plans.{own_needs, undo_pages}
 use Rattle.mt_live.specs.declared.transactions.TxnState.TheVariants.{Aborting}
 use Rattle.mt_core.specs.Runs.{running_in, state_in, AreApart, AreHeldBy, IsMoving, IsRunning, IsOwned, pages_of, entry_pages, left_of, kept_bytes, taken_bytes}
 use Rattle.mt_core.specs.Consistent.{Origin, state_of, IsNumbered, AreTold, IsQueued, IsFit, IsConsistent, IsAlone, IsReady, IsIn, Advances}
-use Rattle.mt_core.specs.declared.kernel_core.Core.{Core}
-use Rattle.mt_core.specs.declared.kernel_core.Running.{Running}
+use Rattle.mt_core.specs.declared.parts.Core.{Core}
+use Rattle.mt_core.specs.declared.parts.Running.{Running}
 use Rattle.mt_core.proofs.Lists.{all_set, pair_at, pairs_set}
 use Rattle.mt_core.proofs.Underway.{IsSame, apart_flip, running_set}
 use Rattle.mt_core.proofs.Holders.{way_at, held_set, held_step}

@@ -20,8 +20,8 @@ use Rattle.mt_slock.specs.Views.{held_of}
 use Rattle.mt_live.specs.declared.transactions.TxnState.TheVariants.{Open, Committing, Aborting}
 use Rattle.mt_core.specs.Runs.{running_in, IsOwned, is_at_work, is_open, entry_pages, entry_bytes, left_of}
 use Rattle.mt_core.specs.Consistent.{Origin, state_of, state_in, AreLeft, IsNumbered, IsTold, IsWithinSchema, IsConsistent, IsIn}
-use Rattle.mt_core.specs.declared.kernel_core.Core.{Core}
-use Rattle.mt_core.specs.declared.kernel_core.Running.{Running}
+use Rattle.mt_core.specs.declared.parts.Core.{Core}
+use Rattle.mt_core.specs.declared.parts.Running.{Running}
 use Rattle.mt_live.proofs.Alone.{put_other}
 use Rattle.mt_core.proofs.Members.{changed_keeps}
 use Rattle.mt_core.proofs.Told.{told_fresh, told_put, told_changed}

@@ -25,14 +25,14 @@ use Rattle.mt_slock.specs.Views.{held_of}
 use Rattle.mt_steps.specs.Held.{Holds}
 use Rattle.mt_core.specs.Runs.{running_in, AreHeldBy, is_at_work, is_open, entry_pages, entry_bytes}
 use Rattle.mt_core.specs.Consistent.{Origin, state_of, IsNumbered, AreTold, IsQueued, IsWithinSchema, IsEscrowed, IsConsistent, IsIn}
-use Rattle.mt_core.specs.declared.kernel_core.Core.{Core}
-use Rattle.mt_core.specs.declared.kernel_core.Running.{Running}
+use Rattle.mt_core.specs.declared.parts.Core.{Core}
+use Rattle.mt_core.specs.declared.parts.Running.{Running}
 use Rattle.mt_core.proofs.Calling.{txn_low}
 use Rattle.mt_core.proofs.Members.{changed_keeps, changed_other}
 use Rattle.mt_core.proofs.Beginning.{owned_as}
 use Rattle.mt_core.proofs.Told.{told_on_more, told_changed}
 use Rattle.mt_core.proofs.Queued.{queued_push}
-use Rattle.mt_core.specs.declared.kernel_core.Commit.{Commit as Queued}
+use Rattle.mt_core.specs.declared.parts.Commit.{Commit as Queued}
 use Rattle.std.specs.Prelude.{vec_len}
 use Rattle.std.specs.Vec.{vec_capacity}
 use Rattle.mt_model.specs.History.{after}

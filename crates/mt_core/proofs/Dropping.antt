@@ -27,8 +27,8 @@ use Rattle.mt_space.specs.Changes.{PageBytes}
 use Rattle.mt_steps.specs.Held.{Holds}
 use Rattle.mt_core.specs.Runs.{running_in, state_in, AreHeldBy, IsMoving, IsRunning, IsOwned, undo_bytes, pages_of, kept_bytes, taken_bytes}
 use Rattle.mt_core.specs.Consistent.{Origin, state_of, AreTold, DropsIn, IsConsistent, IsCleared, IsIn, GoesBack}
-use Rattle.mt_core.specs.declared.kernel_core.Core.{Core}
-use Rattle.mt_core.specs.declared.kernel_core.Running.{Running}
+use Rattle.mt_core.specs.declared.parts.Core.{Core}
+use Rattle.mt_core.specs.declared.parts.Running.{Running}
 use Rattle.mt_core.proofs.Lists.{all_remove, all_set}
 use Rattle.mt_core.proofs.Underway.{running_at, running_remove}
 use Rattle.mt_core.proofs.Numbers.{adds_dropped, numbered_dropped}

@@ -10,8 +10,8 @@ use Rattle.mt_live.specs.Members.{Member}
 use Rattle.mt_model.specs.Model.{Base}
 use Rattle.mt_core.specs.Booked.{or_zero, session_at, booked_each, txns_of}
 use Rattle.mt_core.specs.Consistent.{Origin, state_of, session_or, session_in, IsConsistent, IsSound, IsIn, BooksIn}
-use Rattle.mt_core.specs.declared.kernel_core.Commit.{Commit}
-use Rattle.mt_core.specs.declared.kernel_core.Core.{Core}
+use Rattle.mt_core.specs.declared.parts.Commit.{Commit}
+use Rattle.mt_core.specs.declared.parts.Core.{Core}
 
 booked_push : (s : State) (ts : List ℕ) (t : ℕ) → booked_each s (ts ++ t ∷ []) ≡ booked (booked_each s ts) t (session_at (booked_each s ts) t)
 booked_push s [] t = refl

@@ -42,8 +42,8 @@ use Rattle.mt_steps.specs.Logged.{logged_of}
 use Rattle.mt_steps.specs.Plans.{own_needs, undo_pages}
 use Rattle.mt_core.specs.Runs.{running_in, AreApart, AreHeldBy, IsRunning, IsOwned, is_open, undo_bytes, pages_of, entry_pages, entry_bytes, left_of, kept_bytes, taken_bytes}
 use Rattle.mt_core.specs.Consistent.{Origin, state_of, state_in, AreLeft, IsNumbered, IsDue, IsTold, AreTold, IsQueued, IsWithinSchema, IsFit, IsAlone, IsReady, IsIn, UndoesIn}
-use Rattle.mt_core.specs.declared.kernel_core.Core.{Core}
-use Rattle.mt_core.specs.declared.kernel_core.Running.{Running}
+use Rattle.mt_core.specs.declared.parts.Core.{Core}
+use Rattle.mt_core.specs.declared.parts.Running.{Running}
 use Rattle.mt_pool.proofs.Logged.{no_records}
 use Rattle.mt_core.proofs.Lists.{all_remove, pair_at}
 use Rattle.mt_core.proofs.Underway.{apart_flip, running_at, running_remove, running_back, running_without}

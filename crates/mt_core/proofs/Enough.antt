@@ -21,8 +21,8 @@ use Rattle.std.proofs.lemmas.List.Sums.{count_by-le-length}
 use Rattle.mt_steps.specs.Plans.{own_needs, undo_pages}
 use Rattle.mt_core.specs.Runs.{is_at_work, is_open, undo_bytes, pages_of, entry_pages, entry_bytes, kept_bytes, taken_bytes}
 use Rattle.mt_core.specs.Consistent.{Origin, state_in, IsFit, IsConsistent}
-use Rattle.mt_core.specs.declared.kernel_core.Core.{Core}
-use Rattle.mt_core.specs.declared.kernel_core.Running.{Running}
+use Rattle.mt_core.specs.declared.parts.Core.{Core}
+use Rattle.mt_core.specs.declared.parts.Running.{Running}
 use Rattle.mt_core.proofs.Effects.{weighs_apart, last_kept}
 use Rattle.mt_core.proofs.Reserves.{HasEntry, has_entry, own_last, taken_within, members_many, members_more}
 

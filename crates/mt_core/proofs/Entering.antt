@@ -6,8 +6,8 @@ use Rattle.mt_live.specs.Members.{with_room}
 use Rattle.mt_model.specs.Model.{Base}
 use Rattle.mt_model.specs.declared.operations.Op.{Op}
 use Rattle.mt_core.specs.Consistent.{Origin, state_of, IsConsistent, MayBeCalled, MayRun, IsIn}
-use Rattle.mt_core.specs.declared.kernel_core.Core.{Core}
-use Rattle.mt_core.specs.declared.kernel_core.Running.{Running}
+use Rattle.mt_core.specs.declared.parts.Core.{Core}
+use Rattle.mt_core.specs.declared.parts.Running.{Running}
 use Rattle.mt_core.proofs.Beginning.{roomed_in, roomed_open}
 use Rattle.mt_core.proofs.Rooms.{rooms_in}
 

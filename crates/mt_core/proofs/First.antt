@@ -20,9 +20,9 @@ use Rattle.mt_steps.specs.Held.{Holds}
 use Rattle.mt_core.proofs.Imaged.{images_end_nothing, images_held}
 use Rattle.mt_core.specs.Runs.{running_in, pages_of, entry_pages, entry_bytes, left_of, kept_bytes, taken_bytes}
 use Rattle.mt_core.specs.Consistent.{Origin, IsSchema, state_of, IsNumbered, IsQueued, IsEscrowed, IsFresh, IsIn}
-use Rattle.mt_core.specs.declared.kernel_core.Commit.{Commit}
-use Rattle.mt_core.specs.declared.kernel_core.Core.{Core}
-use Rattle.mt_core.specs.declared.kernel_core.Running.{Running}
+use Rattle.mt_core.specs.declared.parts.Commit.{Commit}
+use Rattle.mt_core.specs.declared.parts.Core.{Core}
+use Rattle.mt_core.specs.declared.parts.Running.{Running}
 
 pub none_of_none : {X : Type 0} (xs : List X) → length xs ≡ 0 → xs ≡ []
 none_of_none [] is = refl

@@ -12,8 +12,8 @@ use Rattle.mt_op.specs.Operations.{claimed}
 use Rattle.mt_steps.specs.Plans.{undo_pages}
 use Rattle.mt_core.specs.Consistent.{Origin, session_in, IsConsistent}
 use Rattle.mt_core.specs.Runs.{undo_bytes, call_pages, call_bytes, entry_pages, entry_bytes}
-use Rattle.mt_core.specs.declared.kernel_core.Commit.{Commit}
-use Rattle.mt_core.specs.declared.kernel_core.Core.{Core}
+use Rattle.mt_core.specs.declared.parts.Commit.{Commit}
+use Rattle.mt_core.specs.declared.parts.Core.{Core}
 use Rattle.mt_core.proofs.Effects.{weighs_calls}
 use Rattle.mt_core.proofs.Enough.{claims_few, leave_claimed, leave_enough}
 use Rattle.mt_core.proofs.Leaving.{first_idle}

@@ -21,7 +21,7 @@ use Rattle.mt_plock.specs.declared.guards.PageLock.{PageLock}
 use Rattle.mt_core.specs.Consistent.{IsOwnerOf}
 use Rattle.mt_core.specs.Runs.{AreApart, AreHeldBy, IsOwned, is_open, is_under_way, kept_bytes, left_of, pages_of, taken_bytes}
 use Rattle.mt_core.specs.Steps.{IsOfOther, TellsOther}
-use Rattle.mt_core.specs.declared.kernel_core.Running.{Running}
+use Rattle.mt_core.specs.declared.parts.Running.{Running}
 use Rattle.mt_core.proofs.Lists.{pair_at}
 use Rattle.mt_core.proofs.Underway.{apart_flip}
 

@@ -26,7 +26,7 @@ use Rattle.mt_op.specs.World.{IsFresh}
 use Rattle.mt_steps.specs.Logged.{HasSmallReply}
 use Rattle.mt_core.specs.Runs.{is_open}
 use Rattle.mt_core.specs.Consistent.{Origin, IsDue, IsTold, IsConsistent}
-use Rattle.mt_core.specs.declared.kernel_core.Core.{Core}
+use Rattle.mt_core.specs.declared.parts.Core.{Core}
 use Rattle.mt_core.proofs.Calling.{next_fresh}
 
 -- what holds of all entries holds of a transaction's last effect

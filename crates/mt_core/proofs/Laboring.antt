@@ -11,7 +11,7 @@ use Rattle.mt_op.specs.declared.scope.Stage.{Stage}
 use Rattle.mt_op.specs.declared.scope.Stage.TheVariants.{Planning, Writing}
 use Rattle.mt_core.specs.Runs.{AreApart}
 use Rattle.mt_core.specs.Work.{steps_in}
-use Rattle.mt_core.specs.declared.kernel_core.Running.{Running}
+use Rattle.mt_core.specs.declared.parts.Running.{Running}
 use Rattle.mt_core.proofs.Lists.{pairs_head, pairs_tail, pair_at, all_remove}
 use Rattle.mt_core.proofs.Underway.{apart_flip}
 

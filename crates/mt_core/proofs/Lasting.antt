@@ -15,8 +15,8 @@ use Rattle.mt_core.specs.Booked.{durable_count}
 use Rattle.mt_core.specs.Consistent.{Origin, IsPlaced, IsConsistent}
 use Rattle.mt_core.specs.Restartable.{Lasts, TellsBook, SameBook}
 use Rattle.mt_model.specs.Model.{Base}
-use Rattle.mt_core.specs.declared.kernel_core.Commit.{Commit}
-use Rattle.mt_core.specs.declared.kernel_core.Core.{Core}
+use Rattle.mt_core.specs.declared.parts.Commit.{Commit}
+use Rattle.mt_core.specs.declared.parts.Core.{Core}
 
 -- ---- commits that are durable up to a place
 

@@ -17,7 +17,7 @@ use Rattle.mt_steps.specs.Held.{Holds}
 use Rattle.std.specs.Prelude.{vec_len}
 use Rattle.std.specs.Vec.{vec_capacity}
 use Rattle.std.proofs.lemmas.List.Elements.{All-filter, All-head}
-use Rattle.mt_core.specs.declared.kernel_core.Commit.{Commit}
+use Rattle.mt_core.specs.declared.parts.Commit.{Commit}
 use Rattle.mt_live.specs.Undoing.{only, others, last_effect}
 use Rattle.mt_log.specs.Words.{appended, used, area_size}
 use Rattle.mt_model.specs.declared.counters.Count.{Count}
@@ -32,8 +32,8 @@ use Rattle.mt_slock.specs.Views.{held_of}
 use Rattle.mt_core.specs.Runs.{running_in, AreHeldBy, is_at_work, IsOwned, is_open, entry_pages, entry_bytes, undo_bytes, left_of}
 use Rattle.mt_steps.specs.Plans.{undo_pages}
 use Rattle.mt_core.specs.Consistent.{Origin, state_of, state_in, IsNumbered, AreTold, IsQueued, IsWithinSchema, IsFit, IsConsistent, IsIn}
-use Rattle.mt_core.specs.declared.kernel_core.Core.{Core}
-use Rattle.mt_core.specs.declared.kernel_core.Running.{Running}
+use Rattle.mt_core.specs.declared.parts.Core.{Core}
+use Rattle.mt_core.specs.declared.parts.Running.{Running}
 use Rattle.mt_core.proofs.Underway.{runs_none}
 use Rattle.mt_core.proofs.Effects.{last_kept, weighs_apart, weighs_others}
 use Rattle.mt_core.proofs.Told.{told_put}

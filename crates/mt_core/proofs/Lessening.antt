@@ -5,8 +5,8 @@ use Rattle.mt_live.specs.Entries.{Entry, kept}
 use Rattle.mt_pool.specs.Views.{pages}
 use Rattle.mt_core.specs.Consistent.{OnlyOperations, SameRunning}
 use Rattle.mt_core.specs.Work.{effect_steps, effects_left, steps_with, abort_steps, undo_steps, LeavesUndo}
-use Rattle.mt_core.specs.declared.kernel_core.Core.{Core}
-use Rattle.mt_core.specs.declared.kernel_core.Running.{Running}
+use Rattle.mt_core.specs.declared.parts.Core.{Core}
+use Rattle.mt_core.specs.declared.parts.Running.{Running}
 
 effects_less : (ps t : ℕ) (p : ℕ → Bool) (es : List Entry) → effects_left ps (kept p es) t ≤ effects_left ps es t
 effects_less ps t p [] = omega arith

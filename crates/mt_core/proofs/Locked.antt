@@ -20,7 +20,7 @@ use Rattle.mt_slock.specs.Views.{held_of}
 use Rattle.mt_slock.specs.declared.holders.Holder.{Holder}
 use Rattle.mt_core.specs.Consistent.{Origin, state_of, IsConsistent, MayRun, IsGranted, IsLocked, IsAskedFor, IsRestored, IsIn}
 use Rattle.mt_core.specs.Runs.{running_in}
-use Rattle.mt_core.specs.declared.kernel_core.Core.{Core}
+use Rattle.mt_core.specs.declared.parts.Core.{Core}
 use Rattle.mt_core.proofs.Calling.{claims_consistent}
 use Rattle.mt_core.proofs.Granting.{held_already, taken_out}
 

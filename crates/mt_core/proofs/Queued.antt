@@ -11,7 +11,7 @@ use Rattle.mt_frame.specs.declared.records.Record.TheVariants as record_of
 use Rattle.mt_live.specs.Members.{Member}
 use Rattle.mt_live.specs.declared.transactions.TxnState.TheVariants.{Committing}
 use Rattle.mt_core.specs.Consistent.{state_in, IsPlaced, IsQueued}
-use Rattle.mt_core.specs.declared.kernel_core.Commit.{Commit}
+use Rattle.mt_core.specs.declared.parts.Commit.{Commit}
 use Rattle.mt_core.proofs.Lists.{pairs_head, pairs_tail}
 
 pub placed_more : (records rs : List Record) (c : Commit) → IsPlaced records c → IsPlaced (records ++ rs) c

@@ -39,9 +39,9 @@ use Rattle.mt_core.specs.Booked.{txns_of}
 use Rattle.mt_core.specs.Consistent.{Origin, state_of, session_in, IsConsistent, IsWithinSchema}
 use Rattle.mt_core.specs.Restartable.{did, effects_of, entry_of, TellsOf, Recovers}
 use Rattle.mt_core.specs.Runs.{entry_pages, entry_bytes, taken_bytes}
-use Rattle.mt_core.specs.declared.kernel_core.Commit.{Commit}
-use Rattle.mt_core.specs.declared.kernel_core.Core.{Core}
-use Rattle.mt_core.specs.declared.kernel_core.Running.{Running}
+use Rattle.mt_core.specs.declared.parts.Commit.{Commit}
+use Rattle.mt_core.specs.declared.parts.Core.{Core}
+use Rattle.mt_core.specs.declared.parts.Running.{Running}
 
 -- ---- calls that did nothing leave the base
 

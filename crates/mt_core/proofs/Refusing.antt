@@ -20,7 +20,7 @@ use Rattle.mt_slock.specs.Views.{held_of}
 use Rattle.std.specs.Prelude.{Option, Some, None}
 use Rattle.mt_core.specs.Causes.{IsUnreserved, IsRefusedBehind, IsRefusedCall}
 use Rattle.mt_core.specs.Consistent.{Origin, IsAskedFor}
-use Rattle.mt_core.specs.declared.kernel_core.Core.{Core}
+use Rattle.mt_core.specs.declared.parts.Core.{Core}
 
 pub Above-prop : (n : ℕ) (o : Option Member) → IsProp (IsAbove n o)
 Above-prop n None = hlevel props

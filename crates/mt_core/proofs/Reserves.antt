@@ -11,8 +11,8 @@ use Rattle.mt_live.specs.Members.{Member}
 use Rattle.mt_live.specs.Undoing.{only, others, last_effect}
 use Rattle.mt_model.specs.Model.{inverse_of}
 use Rattle.mt_core.specs.Runs.{AreApart, IsOwned, undo_bytes, entry_bytes, taken_bytes}
-use Rattle.mt_core.specs.declared.kernel_core.Commit.{Commit}
-use Rattle.mt_core.specs.declared.kernel_core.Running.{Running}
+use Rattle.mt_core.specs.declared.parts.Commit.{Commit}
+use Rattle.mt_core.specs.declared.parts.Running.{Running}
 use Rattle.mt_core.proofs.Lists.{pairs_head, pairs_tail}
 use Rattle.mt_core.proofs.Effects.{weighs_apart, weighs_last, last_kept, last_only, inverse_bytes}
 

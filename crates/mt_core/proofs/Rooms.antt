@@ -14,9 +14,9 @@ use Rattle.mt_op.specs.Operations.{world}
 use Rattle.mt_slock.specs.Views.{held_of}
 use Rattle.mt_core.specs.Runs.{running_in, AreApart, AreHeldBy, IsRunning, IsOwned, pages_of, left_of, kept_bytes, taken_bytes}
 use Rattle.mt_core.specs.Consistent.{Origin, state_of, IsQueued, IsEscrowed, IsConsistent, IsIn}
-use Rattle.mt_core.specs.declared.kernel_core.Commit.{Commit}
-use Rattle.mt_core.specs.declared.kernel_core.Core.{Core}
-use Rattle.mt_core.specs.declared.kernel_core.Running.{Running}
+use Rattle.mt_core.specs.declared.parts.Commit.{Commit}
+use Rattle.mt_core.specs.declared.parts.Core.{Core}
+use Rattle.mt_core.specs.declared.parts.Running.{Running}
 
 module _ {D : Type 0} (seen : D → List ℕ) (may_leave : D → List ℕ → Type 0) (origin : Origin) (base : Base) where
   pub rooms_in : (k n : Core D) → IsConsistent seen may_leave origin base k → n.running.items ≡ k.running.items → n.commits.items ≡ k.commits.items → n.book.items ≡ k.book.items → vec_len n.book ≡ vec_len k.book → vec_capacity k.book ≤ vec_capacity n.book

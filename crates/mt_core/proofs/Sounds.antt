@@ -20,8 +20,8 @@ use Rattle.mt_pool.proofs.Steady.{IsSteady, steady}
 use Rattle.mt_pool.specs.Kept.{HasOpening}
 use Rattle.mt_core.specs.Runs.{is_open, IsMoving}
 use Rattle.mt_core.specs.Consistent.{state_in, IsSound}
-use Rattle.mt_core.specs.declared.kernel_core.Commit.{Commit}
-use Rattle.mt_core.specs.declared.kernel_core.Core.{Core}
+use Rattle.mt_core.specs.declared.parts.Commit.{Commit}
+use Rattle.mt_core.specs.declared.parts.Core.{Core}
 use Rattle.mt_core.proofs.Calling.{txn_named}
 use Rattle.mt_core.proofs.Enough.{stated_some}
 

@@ -27,9 +27,9 @@ use Rattle.mt_core.specs.Runs.{running_in, IsOwned, is_open, pages_of, entry_pag
 use Rattle.mt_core.specs.Consistent.{Origin, state_of, state_in, IsNumbered, IsQueued, IsEscrowed, IsFresh, IsIn, IsConsistent}
 use Rattle.mt_core.specs.Restartable.{IsRestartable}
 use Rattle.mt_core.specs.Turned.{TurnsOver, turned}
-use Rattle.mt_core.specs.declared.kernel_core.Commit.{Commit}
-use Rattle.mt_core.specs.declared.kernel_core.Core.{Core}
-use Rattle.mt_core.specs.declared.kernel_core.Running.{Running}
+use Rattle.mt_core.specs.declared.parts.Commit.{Commit}
+use Rattle.mt_core.specs.declared.parts.Core.{Core}
+use Rattle.mt_core.specs.declared.parts.Running.{Running}
 
 -- of which none is anybody's
 no_pending : (ps : List Pending) → ((t : ℕ) → pending_of t ps ≡ []) → ps ≡ []

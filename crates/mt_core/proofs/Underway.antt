@@ -11,7 +11,7 @@ use Rattle.std.proofs.lemmas.List.Elements.{All-head, All-tail}
 use Rattle.mt_live.specs.Machine.{put}
 use Rattle.mt_model.specs.declared.operations.Op.{Op}
 use Rattle.mt_core.specs.Runs.{is_for, running_in, AreApart}
-use Rattle.mt_core.specs.declared.kernel_core.Running.{Running}
+use Rattle.mt_core.specs.declared.parts.Running.{Running}
 use Rattle.mt_core.proofs.Lists.{pairs_head, pairs_tail}
 
 -- of the same transaction, operation and purpose

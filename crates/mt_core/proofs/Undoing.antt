@@ -24,8 +24,8 @@ use Rattle.mt_live.specs.Lives.{Lives}
 use Rattle.mt_core.specs.Consistent.{Origin, IsConsistent}
 use Rattle.mt_core.specs.Runs.{AreApart, state_in}
 use Rattle.mt_core.specs.Work.{effect_steps, effects_left, steps_with, abort_steps, undo_steps, most_steps, LeavesStanding}
-use Rattle.mt_core.specs.declared.kernel_core.Core.{Core}
-use Rattle.mt_core.specs.declared.kernel_core.Running.{Running}
+use Rattle.mt_core.specs.declared.parts.Core.{Core}
+use Rattle.mt_core.specs.declared.parts.Running.{Running}
 use Rattle.mt_core.proofs.Lists.{pairs_head, pairs_tail, pair_at, all_remove}
 use Rattle.mt_core.proofs.Underway.{apart_flip}
 

@@ -5,9 +5,9 @@ use Rattle.mt_core.specs.Consistent.{Advances, AtPlace, GoesBack, IsConsistent, 
 use Rattle.mt_core.specs.Restartable.{QuietlyAppends, StepAppends, NotesEnd, NotesUndone, StaysRestartable}
 use Rattle.mt_core.specs.Steps.{LeavesExplained, TellsOther, WantsFrame}
 use Rattle.mt_core.specs.declared.calls.Called.{Called}
-use Rattle.mt_core.specs.declared.kernel_core.Core.{Core}
+use Rattle.mt_core.specs.declared.parts.Core.{Core}
 use Rattle.mt_model.specs.declared.operations.Op.{Op}
-use Rattle.mt_core.specs.declared.kernel_core.Running.{Running}
+use Rattle.mt_core.specs.declared.parts.Running.{Running}
 use Rattle.mt_log.specs.Words.{durable}
 use Rattle.mt_core.specs.Work.{LeavesStanding, LeavesUndo, CallRuns, RunsBehind}
 use Rattle.mt_model.specs.Model.{Base}
@@ -23,7 +23,7 @@ use Rattle.mt_op.specs.declared.answers.TakenBack.TheVariants as back
 use Rattle.mt_model.specs.declared.operations.Reply.{Reply}
 use Rattle.mt_plock.specs.Releasing.{locks_without}
 use Rattle.std.specs.List.{remove}
-use Rattle.mt_core.specs.declared.kernel_core.Commit.{Commit}
+use Rattle.mt_core.specs.declared.parts.Commit.{Commit}
 use Rattle.mt_core.specs.Causes.{IsAnswered, HasReserves, IsUnreserved, IsAdmittedBy, IsRefusedBehind}
 use Rattle.mt_pool.specs.Views.{pages}
 use Rattle.mt_escrow.specs.Seen.{Escrowed}

@@ -2,7 +2,7 @@
 use Rattle.std.specs.Prelude.{ℕ, List, [], ◌∷◌, Option, Some, None, map, take, nat_lt}
 use Rattle.std.specs.List.{position_or_len}
 use Rattle.mt_live.specs.Machine.{State, booked}
-use Rattle.mt_core.specs.declared.kernel_core.Commit.{Commit}
+use Rattle.mt_core.specs.declared.parts.Commit.{Commit}
 
 abbrev pub or_zero : Option ℕ → ℕ
 or_zero None = 0

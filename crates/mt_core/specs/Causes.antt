@@ -15,7 +15,7 @@ use Rattle.mt_core.specs.Runs.{undo_bytes}
 use Rattle.mt_core.specs.Consistent.{Origin, IsAskedFor}
 use Rattle.mt_core.specs.declared.calls.Called.{Called}
 use Rattle.mt_core.specs.declared.calls.Called.TheVariants as answer
-use Rattle.mt_core.specs.declared.kernel_core.Core.{Core}
+use Rattle.mt_core.specs.declared.parts.Core.{Core}
 
 -- what a call reserves, for its operation and for the inverse of that: pages, and bytes of the log
 abbrev pub pages_asked : Op → Bool → ℕ

@@ -51,9 +51,9 @@ use Rattle.mt_core.specs.Runs.{running_in, AreApart, AreHeldBy, IsRunning, IsOwn
 pub use Rattle.mt_core.specs.Runs.{state_in}
 use Rattle.mt_core.specs.declared.calls.Called.{Called}
 use Rattle.mt_core.specs.declared.calls.Called.TheVariants as answer
-use Rattle.mt_core.specs.declared.kernel_core.Commit.{Commit}
-use Rattle.mt_core.specs.declared.kernel_core.Core.{Core}
-use Rattle.mt_core.specs.declared.kernel_core.Running.{Running}
+use Rattle.mt_core.specs.declared.parts.Commit.{Commit}
+use Rattle.mt_core.specs.declared.parts.Core.{Core}
+use Rattle.mt_core.specs.declared.parts.Running.{Running}
 
 -- What a kernel began on: the base on which its book begins, and the schema; and of its log's area the pages as they were when that began,
 -- the base that they held, and the commits that were in the book by then.

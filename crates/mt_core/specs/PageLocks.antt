@@ -7,8 +7,8 @@ use Rattle.mt_op.specs.declared.answers.Stepped.TheVariants as stepped
 use Rattle.mt_op.specs.declared.answers.TakenBack.{TakenBack}
 use Rattle.mt_op.specs.declared.answers.TakenBack.TheVariants as taken
 use Rattle.mt_plock.specs.Releasing.{locks_without}
-use Rattle.mt_core.specs.declared.kernel_core.Core.{Core}
-use Rattle.mt_core.specs.declared.kernel_core.Running.{Running}
+use Rattle.mt_core.specs.declared.parts.Core.{Core}
+use Rattle.mt_core.specs.declared.parts.Running.{Running}
 use Rattle.mt_core.specs.declared.steps.Going.{Going}
 use Rattle.mt_core.specs.declared.steps.Going.TheVariants as going
 use Rattle.mt_core.specs.declared.steps.Stepping.{Stepping}

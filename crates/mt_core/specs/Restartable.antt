@@ -24,8 +24,8 @@ use Rattle.mt_space.specs.Changes.{PageBytes}
 use Rattle.mt_core.specs.Booked.{txns_of, durable_count}
 use Rattle.mt_core.specs.Consistent.{Origin, session_in, IsConsistent}
 use Rattle.mt_core.specs.Runs.{is_at_work}
-use Rattle.mt_core.specs.declared.kernel_core.Core.{Core}
-use Rattle.mt_core.specs.declared.kernel_core.Running.{Running}
+use Rattle.mt_core.specs.declared.parts.Core.{Core}
+use Rattle.mt_core.specs.declared.parts.Running.{Running}
 
 -- ---- what did something
 

@@ -9,8 +9,8 @@ use Rattle.mt_pool.specs.Kept.{IsKept, Explains}
 use Rattle.mt_pool.specs.Views.{IsFull}
 use Rattle.mt_space.specs.Changes.{PageBytes}
 use Rattle.mt_core.specs.Consistent.{Origin, state_of, IsIn, EndsIn, UndoesIn, IsOwnerOf}
-use Rattle.mt_core.specs.declared.kernel_core.Core.{Core}
-use Rattle.mt_core.specs.declared.kernel_core.Running.{Running}
+use Rattle.mt_core.specs.declared.parts.Core.{Core}
+use Rattle.mt_core.specs.declared.parts.Running.{Running}
 use Rattle.mt_core.specs.declared.steps.Going.{Going}
 use Rattle.mt_core.specs.declared.steps.Going.TheVariants as going
 use Rattle.mt_core.specs.declared.steps.Stepping.{Stepping}

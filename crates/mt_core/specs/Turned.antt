@@ -8,8 +8,8 @@ use Rattle.mt_space.specs.Changes.{PageBytes}
 use Rattle.mt_steps.specs.Held.{Holds}
 use Rattle.mt_core.specs.Consistent.{Origin, IsConsistent, IsEscrowed, IsIn, state_of}
 use Rattle.mt_core.specs.Restartable.{IsRestartable}
-use Rattle.mt_core.specs.declared.handover.Rest.{Rest}
-use Rattle.mt_core.specs.declared.kernel_core.Core.{Core}
+use Rattle.mt_core.specs.declared.next_area.Rest.{Rest}
+use Rattle.mt_core.specs.declared.parts.Core.{Core}
 
 -- all of them but the operations, the escrow and what is under way
 pub record IsRestOf {D : Type 0} (k : Core D) (r : Rest) : Type 0 where

@@ -11,8 +11,8 @@ use Rattle.mt_op.specs.declared.answers.TakenBack.{TakenBack}
 use Rattle.mt_op.specs.declared.answers.TakenBack.TheVariants as taken
 use Rattle.mt_op.specs.declared.scope.OpScope.{OpScope}
 use Rattle.mt_pool.specs.Views.{pages}
-use Rattle.mt_core.specs.declared.kernel_core.Core.{Core}
-use Rattle.mt_core.specs.declared.kernel_core.Running.{Running}
+use Rattle.mt_core.specs.declared.parts.Core.{Core}
+use Rattle.mt_core.specs.declared.parts.Running.{Running}
 use Rattle.mt_core.specs.declared.steps.Going.{Going}
 use Rattle.mt_core.specs.declared.steps.Going.TheVariants as going
 use Rattle.mt_core.specs.declared.steps.Stepping.{Stepping}

@@ -1,4 +1,4 @@
-// Calls of operations.
+// An operation is called: its lock, its pending add, what is kept for its inverse, and its begin.
 ghost use Rattle.std.specs.Prelude.{◌≡◌, ◌==◌, is_some, ◌<◌, ◌≤◌, ◌+◌, ◌*◌, ◌^◌, ℕ, length, List};
 ghost use Rattle.std.specs.Bool.{OnTrue, OnFalse};
 ghost use Rattle.std.specs.List.{list_any};
@@ -15,11 +15,11 @@ ghost use Rattle.mt_core.specs.Consistent.{SameCommits, SameStates, log_kept, Or
 ghost use Rattle.mt_core.specs.Causes.{IsAnswered};
 ghost use Rattle.mt_core.specs.Restartable.{StaysRestartable};
 ghost use Rattle.mt_core.specs.Work.{CallRuns};
-ghost use Rattle.mt_core.specs.declared.kernel_core.Running.{Running};
+ghost use Rattle.mt_core.specs.declared.parts.Running.{Running};
 ghost use Rattle.mt_core.specs.Advancing.{AdmitsCall, AsksLeave, LocksObject, StartsCall};
 
 use crate::ends::let_go;
-use crate::kernel_core::{Core, Running};
+use crate::parts::{Core, Running};
 use crate::reserves::{bytes_to_undo, left_in};
 use mt_base::{OpNo, Refusal, TxnNo};
 use mt_disk::Device;

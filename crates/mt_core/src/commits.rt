@@ -22,11 +22,11 @@ ghost use Rattle.mt_core.specs.Work.{LeavesUndo, most_steps, undo_steps};
 ghost use Rattle.std.specs.Vec.{vec_len, vec_capacity};
 ghost use Rattle.mt_core.specs.declared.commits.TheConstants.{END_LOG_BYTES};
 ghost use Rattle.mt_base.specs.declared.limits.TheConstants.{MAX_BEGUN, MAX_LIVE, TRANSACTION_LOG_BYTES};
-ghost use Rattle.mt_core.specs.declared.kernel_core.Commit.{Commit};
-ghost use Rattle.mt_core.specs.declared.kernel_core.Running.{Running};
+ghost use Rattle.mt_core.specs.declared.parts.Commit.{Commit};
+ghost use Rattle.mt_core.specs.declared.parts.Running.{Running};
 ghost use Rattle.mt_core.specs.Advancing.{LeavesFirst};
 
-use crate::kernel_core::{Commit, Core};
+use crate::parts::{Commit, Core};
 use crate::reserves::{all_bytes_kept, all_pages_kept};
 use mt_base::limits::TRANSACTION_LOG_BYTES;
 use mt_base::{LogPos, Refusal, TxnNo};

@@ -10,11 +10,11 @@ ghost use Rattle.mt_core.specs.Consistent.{BacksIn, state_in, IsSound, IsCleared
 ghost use Rattle.mt_core.specs.Restartable.{StaysRestartable};
 ghost use Rattle.mt_core.specs.Steps.{LeavesExplained, WantsFrame};
 ghost use Rattle.mt_core.specs.Work.{LowersBack, undo_steps};
-ghost use Rattle.mt_core.specs.declared.kernel_core.Running.{Running};
+ghost use Rattle.mt_core.specs.declared.parts.Running.{Running};
 ghost use Rattle.mt_core.specs.PageLocks.{GivesLocksBack};
 
 use crate::ends::let_go;
-use crate::kernel_core::{Core, Running};
+use crate::parts::{Core, Running};
 use crate::reserves::bytes_to_undo;
 use mt_base::Refusal;
 use mt_disk::Device;

@@ -5,10 +5,10 @@ ghost use Rattle.mt_model.specs.declared.pending_add.Pending.{Pending};
 ghost use Rattle.mt_model.specs.Model.{Base};
 ghost use Rattle.mt_model.specs.declared.operations.Reply.{Reply};
 ghost use Rattle.mt_core.specs.Consistent.{IsReadyAt, AtPlace, Origin};
-ghost use Rattle.mt_core.specs.declared.kernel_core.Running.{Running};
+ghost use Rattle.mt_core.specs.declared.parts.Running.{Running};
 ghost use Rattle.mt_core.specs.Advancing.{EndsInverse, EndsReady};
 
-use crate::kernel_core::{Core, Running};
+use crate::parts::{Core, Running};
 use crate::reserves::{bytes_kept, bytes_to_undo, pages_kept};
 use mt_base::TxnNo;
 use mt_disk::Device;

@@ -11,14 +11,14 @@ mod calls;
 mod commits;
 mod drops;
 mod ends;
-mod handover;
-mod kernel_core;
+mod next_area;
+mod parts;
 mod reserves;
 mod steps;
 mod undo;
 mod views;
 
 pub use calls::Called;
-pub use handover::Rest;
-pub use kernel_core::{Commit, Core, Running};
+pub use next_area::Rest;
+pub use parts::{Commit, Core, Running};
 pub use steps::{Going, Stepping};

@@ -3,7 +3,7 @@ ghost use Rattle.std.specs.Prelude.{◌≡◌, ◌<◌, ◌+◌, ◌^◌};
 ghost use Rattle.std.specs.List.{sum_by};
 ghost use Rattle.mt_core.specs.Runs.{undo_bytes, call_pages, call_bytes, left_of};
 
-use crate::kernel_core::Running;
+use crate::parts::Running;
 use mt_base::limits::OPERATION_LOG_BYTES;
 use mt_inverse::has_effect;
 use mt_model::{Op, Reply};

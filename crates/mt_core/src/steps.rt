@@ -15,9 +15,9 @@ ghost use Rattle.mt_core.specs.Restartable.{StaysRestartable, StepAppends};
 ghost use Rattle.mt_core.specs.Steps.{LeavesExplained, Steps, UndoSteps, TellsOther, NamesOther, WantsFrame};
 ghost use Rattle.mt_core.specs.PageLocks.{KeepsPageLocks};
 ghost use Rattle.mt_op.specs.Holds.{IsNext, KeepsLocks};
-ghost use Rattle.mt_core.specs.declared.kernel_core.Running.{Running};
+ghost use Rattle.mt_core.specs.declared.parts.Running.{Running};
 
-use crate::kernel_core::Core;
+use crate::parts::Core;
 use mt_base::{OpNo, Refusal};
 use mt_disk::Device;
 use mt_model::Reply;

@@ -11,9 +11,9 @@ ghost use Rattle.mt_core.specs.Consistent.{IsSound, SameStates, SameStatesBut, S
 ghost use Rattle.mt_core.specs.Restartable.{StaysRestartable};
 ghost use Rattle.mt_core.specs.Runs.{is_open};
 ghost use Rattle.mt_core.specs.Work.{undo_steps};
-ghost use Rattle.mt_core.specs.declared.kernel_core.Running.{Running};
+ghost use Rattle.mt_core.specs.declared.parts.Running.{Running};
 
-use crate::kernel_core::{Core, Running};
+use crate::parts::{Core, Running};
 use mt_base::limits::{OPERATION_LOG_BYTES, TRANSACTION_LOG_BYTES};
 use mt_base::{OpNo, Refusal, TxnNo};
 use mt_disk::Device;

@@ -1,9 +1,9 @@
 // What a kernel asks of its parts.
 ghost use Rattle.std.specs.Prelude.{◌≡◌, ◌==◌, ◌<◌, ◌≢◌, ℕ, length, Some, true, not};
 ghost use Rattle.mt_core.specs.Consistent.{AtPlace, IsOwnerOf};
-ghost use Rattle.mt_core.specs.declared.kernel_core.Running.{Running};
+ghost use Rattle.mt_core.specs.declared.parts.Running.{Running};
 
-use crate::kernel_core::{Core, Running};
+use crate::parts::{Core, Running};
 use mt_base::{OpNo, TxnNo};
 use mt_disk::Device;
 use mt_live::Live;

@@ -1,3 +1,4 @@
+// What a device is: reads, writes and syncs of bytes, and what a crash may leave of them.
 ghost use Rattle.std.specs.Prelude.{◌≡◌, ◌≤◌, ◌+◌, List, ℕ, length, OnOk};
 ghost use Rattle.mt_disk.specs.Disk.{Has, Only, Follows, Torn, Wrote, Elapses, HasCause};
 

@@ -1,3 +1,4 @@
+// A device in a file of the system.
 ghost use Rattle.std.specs.Prelude.{◌≡◌, ℕ, List, ◌+◌, ◌*◌, ◌<◌, ◌≤◌, ◌⊎◌, length, replicate, IsTrue, IfOk, IfErr, OnOk, OnErr, IsOk, IsErr};
 ghost use Rattle.mt_disk.specs.Disk.{Has, Only, Follows, Torn, Wrote, Elapses, HasCause};
 ghost use Rattle.mt_disk.specs.Memory.{content, MayLeave, moment_of, left_by, failures_of};

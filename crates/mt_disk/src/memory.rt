@@ -1,3 +1,4 @@
+// A device in memory, which knows what a crash may leave.
 ghost use Rattle.std.specs.Prelude.{◌≡◌, ℕ, ◌+◌, ◌≤◌, ◌++◌, length, vec_len, vec_capacity, IfOk, IsTrue, ◌↔◌, All, replicate};
 ghost use Rattle.mt_disk.specs.Unsynced.{Unsynced, IsInside};
 ghost use Rattle.mt_disk.specs.Disk.{Wrote};

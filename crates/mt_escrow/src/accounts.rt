@@ -1,3 +1,4 @@
+// Admits adds to the counters, and settles or drops those of a transaction.
 ghost use Rattle.std.specs.Prelude.{◌≡◌, ◌<◌, ◌⊎◌, ℕ, [], length, OnOk, OnErr, IfOk, IfErr};
 ghost use Rattle.mt_base.specs.Limits.{IsStep};
 ghost use Rattle.mt_model.specs.Pending.{pending_without, moved_by, TakesOut};

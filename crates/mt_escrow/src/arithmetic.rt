@@ -1,3 +1,4 @@
+// Sums of amounts, none of which leaves the numbers of the machine.
 ghost use Rattle.std.specs.Prelude.{◌≡◌, ◌+ℤ◌, ◌-ℤ◌, ◌≤ℤ◌, ◌↔◌, IsTrue};
 ghost use Rattle.mt_base.specs.Limits.{IsStep};
 ghost use Rattle.mt_model.specs.Escrow.{below, above};

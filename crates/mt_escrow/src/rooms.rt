@@ -1,3 +1,4 @@
+// How far a counter may go while adds to it are pending.
 ghost use Rattle.std.specs.Prelude.{◌≡◌, ℕ, ◌↔◌, IsTrue, MatchOption, Contains};
 ghost use Rattle.mt_base.specs.Limits.{IsStep};
 ghost use Rattle.mt_model.specs.Pending.{pending_without, moved_by};

@@ -11,7 +11,7 @@ ghost use Rattle.mt_index.specs.Pages.{state_of, TakesPage, Rewired, Parted};
 ghost use Rattle.mt_index.specs.Answers.{InMaps, IsPlanned};
 ghost use Rattle.mt_index.specs.Halves.{changed, AreHalves, Apart, PutsInHalf, Links, Notes};
 
-use crate::insertion::{overflow_page, taken_from};
+use crate::entry_insertion::{overflow_page, taken_from};
 use crate::answers::Add;
 use crate::directory::rewired;
 use mt_base::limits::PAGE_BYTES;

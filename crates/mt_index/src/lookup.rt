@@ -1,3 +1,4 @@
+// Finds an entry.
 ghost use Rattle.std.specs.Prelude.{◌≡◌, ◌≤◌, length, Some, None};
 ghost use Rattle.mt_base.specs.declared.limits.TheConstants.{MAX_KEY_BYTES};
 ghost use Rattle.mt_base.specs.declared.modes.Mode.TheVariants.{Read};

@@ -1,3 +1,4 @@
+// What a plan does to one page, as the edits between its bytes before and after.
 ghost use Rattle.std.specs.Prelude.{◌≡◌, ◌≢◌, ◌≤◌, ℕ, length, IfOk};
 ghost use Rattle.mt_base.specs.declared.limits.TheConstants.{PAGE_BYTES};
 ghost use Rattle.mt_space.specs.Changes.{PageBytes, after, IsUntouched, AreShort};

@@ -1,3 +1,4 @@
+// Refusals' texts, and sizes that were computed by hand.
 use mt_base::limits::{
     BATCH_HEAD_BYTES, LARGEST_OP_END, LARGEST_PAGE_RECORD, area_bytes, device_bytes,
 };

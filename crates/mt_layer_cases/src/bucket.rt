@@ -1,3 +1,4 @@
+// Hashes, by vectors from elsewhere.
 use mt_bucket::hash;
 use std::test::Fail;
 

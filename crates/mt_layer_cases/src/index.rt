@@ -1,3 +1,4 @@
+// An index in memory: entries are added until its bucket splits and its directory doubles.
 ghost use Rattle.mt_index.specs.Copies.{AreWhole};
 ghost use Rattle.std.specs.Prelude.{◌≡◌, ◌≤◌, length};
 

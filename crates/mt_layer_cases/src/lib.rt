@@ -1,5 +1,6 @@
-//! The tests of the layers below operations, through their public calls: outside vectors, printed texts, and worked
-//! rows that no script, schedule or command can state. The others are rows of `tests/rows`, which the program runs.
+//! The tests of the layers below operations, and of the mark that threads share, through their public calls. They are
+//! outside vectors, printed texts, and worked rows that no script, schedule or command can state. The others are rows
+//! of `tests/rows`, which the program runs.
 #![tactic(auto)]
 
 #[cfg(test)]

@@ -1,3 +1,4 @@
+// A page lock for read that becomes one for write.
 use mt_base::{Mode, OpNo, PageNo};
 use mt_plock::{Asked, PageGuard, PageLocks};
 use std::process::Abort;

@@ -1,3 +1,4 @@
+// A page of records that is filled, and filled again after a removal.
 ghost use Rattle.mt_slots.specs.Page.{IsShaped};
 
 use mt_base::ranges::u16_at;

@@ -1,3 +1,4 @@
+// The map of free pages: claims, and pages that are taken and put back.
 use mt_base::Refusal;
 use mt_space::Space;
 use std::test::Fail;

@@ -1,3 +1,4 @@
+// The order in which calls ended.
 ghost use Rattle.std.specs.Prelude.{◌≡◌, ◌≤◌, ◌==◌, ◌||◌, nat_lt, not, filter};
 ghost use Rattle.std.specs.Vec.{vec_len, vec_capacity};
 

@@ -1,3 +1,4 @@
+// What is kept of one active transaction.
 ghost use Rattle.std.specs.Prelude.{ℕ, ◌≡◌, ◌<◌, IfSome, IfNone, OnOk, OnErr, length, true, slice_index_or};
 ghost use Rattle.mt_live.specs.Members.{fresh, with_room, with_call, with_state, cut_at, committed_of, last_place};
 

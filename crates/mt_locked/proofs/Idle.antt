@@ -6,7 +6,7 @@ use Rattle.std.specs.Option.{option_map}
 use mathlib.Core.Logic.{∥∥₁_elim}
 use Rattle.mt_disk.specs.declared.device.Device.{Ghosts}
 use Rattle.mt_core.specs.Runs.{AreHeldBy, IsOwned, is_open}
-use Rattle.mt_core.specs.declared.kernel_core.Running.{Running}
+use Rattle.mt_core.specs.declared.parts.Running.{Running}
 use Rattle.mt_live.specs.Entries.{Entry}
 use Rattle.mt_live.specs.Lives.{member_of}
 use Rattle.mt_live.specs.Members.{Member}

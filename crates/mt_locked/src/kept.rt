@@ -11,7 +11,7 @@ ghost use Rattle.mt_locked.specs.Turns.{HasTurned, IsRotation, IsUseOn};
 use crate::based::Based;
 use crate::log_use::LogUse;
 use crate::past::Past;
-use crate::turned::{Turned, turn};
+use crate::rotation::{Turned, turn};
 use core::mem::replace_with;
 use mt_base::{Refusal, TxnNo};
 use mt_disk::Device;

@@ -16,7 +16,7 @@ mod names;
 mod pass;
 mod passes;
 mod past;
-mod turned;
+mod rotation;
 mod txn;
 
 pub use based::Based;

@@ -1,3 +1,4 @@
+// What the lock of a shared kernel guards, and what is done under it.
 ghost use Rattle.std.specs.Prelude.{◌≡◌, ◌+◌, ◌++◌, ◌∷◌, [], ◌≤◌, false, length, OnOk, IfOk, IfErr, IfNone, IfSome, Ok, IsTrue, ◌↔◌, slice_get, Some, All, true};
 ghost use mathlib.Core.List.{IsPrefix};
 ghost use Rattle.mt_mark.specs.Legal.{IsLegal};

@@ -1,3 +1,4 @@
+// By which name a type knows its mark.
 use std::marker::Brand;
 
 /// Names which mark it is, the base that its kernel began on, and the book that stood when the mark was made, for

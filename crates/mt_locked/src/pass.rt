@@ -1,3 +1,4 @@
+// A thread's part in a shared kernel.
 ghost use Rattle.std.specs.Prelude.{◌≡◌};
 ghost use Rattle.mt_locked.specs.Seen.{Looked};
 

@@ -1,3 +1,4 @@
+// The token of an open transaction.
 ghost use Rattle.std.specs.Prelude.{◌≡◌, []};
 ghost use Rattle.mt_locked.specs.Seen.{fresh, with_calls};
 

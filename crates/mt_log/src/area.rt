@@ -1,3 +1,4 @@
+// Which bytes of a device an area has.
 ghost use Rattle.std.specs.Prelude.{false, true, ◌≡◌, ◌+◌, ◌*◌, ◌<◌, ◌≤◌};
 ghost use Rattle.mt_base.specs.declared.limits.TheConstants.{MASTER_BYTES, MAX_AREA_MIB, MIB_BYTES, PAGE_BYTES};
 ghost use Rattle.mt_base.specs.Limits.{IsPageCount, IsAreaSize};

@@ -1,3 +1,4 @@
+// What a scan reads back of one force.
 use mt_frame::Record;
 
 /// A batch of a log area.

@@ -15,7 +15,7 @@ ghost use Rattle.mt_log.specs.Words.{durable_batches, durable, in_flight, waitin
 
 use crate::area::AreaPlace;
 use crate::forces::close_text;
-use crate::durability::write_durably;
+use crate::synced_write::write_durably;
 use crate::log::{Forced, Log, head_alone, push_text};
 use crate::stage::{Stage, Step};
 use mt_base::{History, Refusal};

@@ -1,3 +1,4 @@
+// The two parts of the mark: the end that enters, and the seats of those who look.
 ghost use Rattle.std.specs.Prelude.{◌≡◌, ◌+◌, ◌<◌, ◌≤◌, ◌^◌, ◌++◌, ◌∷◌, [], length, true, Some, None, IfOk, OnOk, vec_len, ℕ, slice_index_or};
 ghost use mathlib.Core.List.{IsPrefix};
 ghost use Rattle.mt_mark.specs.Legal.{IsLegal};

@@ -1,3 +1,4 @@
+// What contracts see of a mark.
 use mt_model::{Base, Committed};
 use std::collections::LinkedList;
 use std::snapshot::Snapshot;

@@ -1,3 +1,4 @@
+// Bounded numbers.
 ghost use Rattle.std.specs.Prelude.{◌≡◌, ◌<◌, ◌+ℤ◌, ◌≤ℤ◌, ◌&&◌, ◌↔◌, IsTrue, int_le, IfOk, All, map, length, slice_set};
 ghost use Rattle.mt_base.specs.Limits.{IsStep, IsCounter};
 ghost use Rattle.mt_model.specs.Model.{added, stays};

@@ -1,3 +1,4 @@
+// What committed, with its replies.
 ghost use Rattle.std.specs.Prelude.{◌≡◌, ◌↔◌, ◌++◌, ◌∷◌, [], IfOk, OnOk, OnErr, IsTrue, length};
 
 use crate::{Op, Reply};

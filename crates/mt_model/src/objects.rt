@@ -1,3 +1,4 @@
+// What an operation is on.
 ghost use Rattle.std.specs.Prelude.{◌≡◌, IfOk};
 ghost use Rattle.mt_model.specs.Model.{object_of, mode_of};
 

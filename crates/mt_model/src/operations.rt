@@ -1,3 +1,4 @@
+// The operations, and what they reply.
 ghost use Rattle.std.specs.Prelude.{◌≡◌, ◌↔◌, IfOk, IsTrue};
 
 use mt_base::{Bytes, CtrNo, RelNo};

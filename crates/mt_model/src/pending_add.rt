@@ -1,3 +1,4 @@
+// An add that was admitted, of a transaction that has not ended.
 use mt_base::{CtrNo, TxnNo};
 
 /// An add of a live transaction that was granted and not taken back. It counts singly beside every other, of its own

@@ -1,3 +1,4 @@
+// Values under keys, in order.
 ghost use Rattle.std.specs.Prelude.{◌≡◌, IfOk, OnOk, OnErr, length, is_none};
 ghost use Rattle.std.specs.Option.{option_copied};
 ghost use Rattle.mt_model.specs.Model.{inserted, updated, deleted};

@@ -1,3 +1,4 @@
+// The map that a kernel represents, and what each operation does to it.
 ghost use Rattle.std.specs.Prelude.{◌≡◌, ◌≤◌, ◌<◌, IfOk, OnOk, IfErr, OnErr, All, map, length};
 ghost use Rattle.mt_base.specs.declared.limits.TheConstants.{MAX_COUNTERS, MAX_RELATIONS};
 ghost use Rattle.mt_base.specs.Limits.{IsCounter, IsStep};

@@ -13,7 +13,7 @@ use Rattle.mt_space.specs.Rooms.{mapped, free_of, reserved_of}
 use Rattle.mt_steps.specs.Plans.{IsGood}
 use Rattle.mt_op.specs.declared.operations.Operations.{Operations}
 use Rattle.mt_op.specs.declared.operations.NotOpened.{NotOpened}
-use Rattle.mt_op.specs.declared.handover.Idle.{Idle}
+use Rattle.mt_op.specs.declared.next_area.Idle.{Idle}
 use Rattle.mt_op.specs.declared.space_map.SpaceMap.{SpaceMap}
 
 -- each is an image, as the records are with which an area begins

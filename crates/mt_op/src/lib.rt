@@ -4,12 +4,15 @@
 //! Whatever is half done, the pages held are good: the present ones with the old bytes of each unfinished
 //! operation's writes put back. The end of an operation is one act on the base that these pages hold, and
 //! every other step leaves them as they are.
+//!
+//! A step reads a page from the device if no frame has it. It writes none: to free a frame, and to make the log durable,
+//! is asked of who calls.
 #![tactic(auto)]
 
 mod answers;
 mod page_locks;
 mod operations;
-mod handover;
+mod next_area;
 mod steps;
 mod scope;
 mod space_map;
@@ -19,6 +22,6 @@ mod take_back;
 
 pub use answers::{Stepped, TakenBack};
 pub use operations::{NotOpened, Operations};
-pub use handover::Idle;
+pub use next_area::Idle;
 pub use scope::{OpScope, Stage};
 pub use survey::Survey;

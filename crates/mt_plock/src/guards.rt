@@ -1,3 +1,4 @@
+// A page lock, and the guard: the value that an operation has for each of its page locks.
 ghost use Rattle.std.specs.Prelude.{◌≡◌};
 
 use mt_base::{Mode, OpNo, PageNo};

@@ -1,3 +1,4 @@
+// Which operation has which page locked.
 ghost use Rattle.std.specs.Prelude.{◌≡◌, ◌≢◌, ◌↔◌, [], ℕ, IsTrue, false, Some, MatchOption, IfOk, IfErr, OnErr, All, Contains};
 ghost use Rattle.mt_plock.specs.Holding.{lock_of, is_in_way, lesser_of, IsLeastHolder, IsAnswered, AreTogether};
 ghost use Rattle.mt_plock.specs.Releasing.{IsLastAt, GivesBack, GivesBackEach, locks_of, locks_without};

@@ -19,7 +19,7 @@ use Rattle.mt_restart.specs.Found.{AreMarked, HasBegun, HasTurned, IsNextLog, Re
 use Rattle.mt_log.specs.NextSlot.{TurnsTo, next_slot}
 use Rattle.mt_replay.specs.Stands.{IsReadAs}
 use Rattle.mt_restart.specs.Turned.{AreImagesOf, AreInPlace, ButForSlots, OnlySlots}
-use Rattle.mt_restart.specs.declared.page_marks.Marks.{Marks}
+use Rattle.mt_restart.specs.declared.restart_writes.Marks.{Marks}
 use Rattle.mt_log.proofs.Ruling.{ruling_elsewhere}
 use Rattle.mt_restart.proofs.NextArea.{in_slots, lost_imaged, next_gives, next_held, slot_same}
 use Rattle.mt_restart.proofs.Read.{IsHeldAs, held_read, master_torn, read_held, read_slots, turns_read}

@@ -15,7 +15,7 @@ use Rattle.mt_frame.specs.declared.records.Record.{Record}
 use Rattle.mt_core.proofs.First.{none_of_none}
 use Rattle.mt_core.specs.Booked.{booked_each, durable_txns}
 use Rattle.mt_core.specs.Consistent.{SameUncommitted}
-use Rattle.mt_core.specs.declared.kernel_core.Commit.{Commit}
+use Rattle.mt_core.specs.declared.parts.Commit.{Commit}
 use Rattle.mt_live.specs.Machine.{State}
 use Rattle.mt_log.specs.Words.{appended, durable, in_flight, waiting, calls_left, IsStep}
 use Rattle.mt_log.specs.declared.log.Forced.TheVariants as log
@@ -38,7 +38,7 @@ use Rattle.mt_txn.specs.Causes.{IsFailure, survey_cause}
 use Rattle.mt_txn.specs.Shown.{LeavesFound, Restarts, SameSchema, Shows, Stays, StaysRestarting, is_failed}
 use Rattle.mt_txn.specs.Turned.{GoesOn, HasNobody, IsRestOf, Resumes}
 use Rattle.mt_txn.specs.Well.{IsWell, Opens, RestartsFrom, ShowsIn}
-use Rattle.mt_txn.specs.declared.rests.KernelRest.{KernelRest}
+use Rattle.mt_txn.specs.declared.kernel_rest.KernelRest.{KernelRest}
 use Rattle.mt_txn.specs.declared.answers.KernelForced.{KernelForced}
 use Rattle.mt_txn.specs.declared.answers.KernelForced.TheVariants as forced
 use Rattle.mt_txn.specs.declared.kernel.Kernel.{Kernel}

@@ -17,7 +17,7 @@ use Rattle.mt_restart.specs.Found.{AreMarked}
 use Rattle.mt_log.specs.NextSlot.{next_slot}
 use Rattle.mt_replay.specs.Stands.{IsReadAs}
 use Rattle.mt_restart.specs.Turned.{ButForSlots, OnlySlots}
-use Rattle.mt_restart.specs.declared.page_marks.Marks.{Marks}
+use Rattle.mt_restart.specs.declared.restart_writes.Marks.{Marks}
 use Rattle.mt_restart.proofs.NextArea.{are_imaged}
 use Rattle.mt_restart.proofs.Read.{read_other_area, read_slots}
 

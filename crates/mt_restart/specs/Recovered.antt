@@ -16,7 +16,7 @@ use Rattle.mt_replay.specs.declared.figures.Figures.{Figures}
 use Rattle.mt_restart.specs.Beside.{IsBeside}
 use Rattle.mt_restart.specs.Found.{AreMarked, CanTurn, HasTurned, IsPrepared}
 use Rattle.mt_restart.specs.Turned.{AreImagesOf}
-use Rattle.mt_restart.specs.declared.page_marks.Marks.{Marks}
+use Rattle.mt_restart.specs.declared.restart_writes.Marks.{Marks}
 use Rattle.mt_restart.specs.declared.recovery.Findings.{Findings}
 use Rattle.mt_restart.specs.declared.recovery.Recovered.{Recovered}
 

@@ -3,7 +3,7 @@ use Rattle.std.specs.Prelude.{◌≡◌, ℕ, List}
 use Rattle.mt_frame.specs.declared.slots.MasterSlot.{MasterSlot}
 use Rattle.mt_replay.specs.Refused.{IsLog}
 use Rattle.mt_replay.specs.declared.figures.Figures.{Figures}
-use Rattle.mt_restart.specs.declared.report_data.Report.{Report}
+use Rattle.mt_restart.specs.declared.report_figures.Report.{Report}
 
 -- epoch and area of the ruling slot, and the figures of the batches of that area
 pub record IsReport (c : List ℕ) (report : Report) : Type 0 where

@@ -10,7 +10,7 @@ ghost use Rattle.mt_space.specs.Changes.{PageBytes};
 ghost use Rattle.mt_replay.specs.Stands.{IsReadAs};
 ghost use Rattle.mt_restart.specs.Found.{AreMarked, CanTurn, HasBegun, HasTurned, IsPrepared, ReadsOldOrNext};
 
-use crate::page_marks::Marks;
+use crate::restart_writes::Marks;
 use crate::slot_writes::write_and_sync;
 use mt_base::Refusal;
 use mt_disk::Device;

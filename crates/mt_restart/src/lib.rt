@@ -7,7 +7,7 @@
 
 mod fresh_kernel;
 mod beside;
-mod page_marks;
+mod restart_writes;
 mod first_pages;
 mod format_calls;
 mod image_marks;
@@ -19,7 +19,7 @@ mod log_report;
 mod opened_kernel;
 mod rotation;
 mod schema;
-mod report_data;
+mod report_figures;
 mod slot_writes;
 
 pub use fresh_kernel::fresh;
@@ -29,4 +29,4 @@ pub use log_report::report;
 pub use opened_kernel::open;
 pub use rotation::{NotRotated, rotate};
 pub use schema::Schema;
-pub use report_data::Report;
+pub use report_figures::Report;

@@ -1,4 +1,4 @@
-// What is told of a device's log.
+// The report on a device's log, by its bytes.
 ghost use Rattle.std.specs.Prelude.{◌≡◌, ◌⊎◌, ◌<◌, ℕ, List, IfOk, IfErr, Err};
 ghost use Rattle.mt_base.specs.declared.refusal.Refusal.{Refusal};
 ghost use Rattle.mt_disk.specs.Disk.{LeavesOnly};
@@ -8,7 +8,7 @@ ghost use Rattle.mt_replay.specs.Refused.{BreaksLog, IsCause};
 ghost use Rattle.mt_replay.specs.Stands.{CanRestart};
 ghost use Rattle.mt_restart.specs.Reported.{IsReport};
 
-use crate::report_data::Report;
+use crate::report_figures::Report;
 use mt_base::Refusal;
 use mt_disk::Device;
 use mt_replay::read_log;

@@ -2,7 +2,7 @@
 ghost use Rattle.mt_restart.specs.Recovered.{FindsAll, Recovers};
 
 use crate::beside::{Beside, beside_of};
-use crate::page_marks::{Marks, can_turn, marks_of};
+use crate::restart_writes::{Marks, can_turn, marks_of};
 use crate::area_renewal::{prepare_next, turn};
 use mt_base::Refusal;
 use mt_disk::Device;

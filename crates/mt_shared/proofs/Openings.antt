@@ -5,7 +5,7 @@ use mathlib.Core.Logic.{∥∥₁_elim}
 use Rattle.mt_base.specs.declared.refusal.Refusal.{Refusal}
 use Rattle.mt_base.specs.declared.refusal.Refusal.TheVariants as refusal
 use Rattle.mt_disk.specs.declared.device.Device.{Ghosts}
-use Rattle.mt_core.specs.declared.kernel_core.Core.{Core}
+use Rattle.mt_core.specs.declared.parts.Core.{Core}
 use Rattle.mt_live.specs.Machine.{State, start}
 use Rattle.mt_model.specs.Model as model
 use Rattle.mt_model.specs.Views.{base_of}

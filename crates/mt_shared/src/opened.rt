@@ -1,3 +1,4 @@
+// A device or a kernel that becomes one which threads share, with an observer and as many passes as are asked for.
 ghost use Rattle.std.specs.Prelude.{◌≡◌, ◌<◌, ◌^◌, [], ℕ, List, All, IfOk, IfErr, vec_len};
 ghost use Rattle.mt_base.specs.declared.refusal.Refusal.{Refusal};
 ghost use Rattle.mt_mark.specs.Legal.{IsLegal};

@@ -1,3 +1,4 @@
+// What threads call of a kernel that they share, and how they sleep and are woken.
 ghost use Rattle.std.specs.Prelude.{◌≡◌, ◌≢◌, ◌+◌, ◌↔◌, All, false, length, None, IfOk, IfErr, OnOk, OnErr, IfSome};
 ghost use mathlib.Core.List.{IsPrefix};
 ghost use Rattle.mt_base.specs.declared.refusal.Refusal.TheVariants.{DeviceFailed, Stranger};

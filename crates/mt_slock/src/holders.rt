@@ -1,3 +1,4 @@
+// Who holds one object.
 ghost use Rattle.std.specs.Prelude.{◌≡◌, ◌++◌, ◌∷◌, [], List, filter, not, OnOk, OnErr, MatchOption, IsTrue, ◌↔◌, ◌||◌};
 ghost use Rattle.std.specs.Bool.{OnTrue};
 ghost use Rattle.mt_slock.specs.Views.{is_holder, is_among, conflicts, in_order, least_of, IsUnbarred, IsOldestBar};

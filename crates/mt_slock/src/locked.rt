@@ -1,3 +1,4 @@
+// Which objects are locked.
 ghost use Rattle.std.specs.Prelude.{◌≡◌, IfSome, OnOk, OnErr, None, true};
 ghost use Rattle.std.specs.Map.{lookup};
 ghost use Rattle.mt_model.specs.Model.{same_object};

@@ -1,3 +1,4 @@
+// Which locks each transaction has, by which they are dropped at its end.
 ghost use Rattle.std.specs.Prelude.{◌≡◌, ◌&&◌, ◌++◌, ◌∷◌, [], ◌↔◌, IsTrue, IfOk, OnOk, OnErr};
 ghost use Rattle.mt_model.specs.Model.{same_object};
 ghost use Rattle.mt_model.specs.Locks.{same_mode};

@@ -1,3 +1,4 @@
+// Grants semantic locks, or answers who is in the way.
 ghost use Rattle.std.specs.Prelude.{◌≡◌, ◌<◌, ◌≤◌, IfOk, IfErr, OnErr, None, true, false};
 ghost use Rattle.std.specs.Map.{lookup};
 ghost use Rattle.mt_base.specs.declared.refusal.Refusal.{Refusal};

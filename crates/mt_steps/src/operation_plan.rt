@@ -1,4 +1,4 @@
-// Any operation.
+// The plan of an operation of any kind, and how many free pages it and its inverse may take.
 ghost use Rattle.std.specs.Prelude.{◌≡◌, ◌⊎◌, ◌<◌, ◌≤◌, ℕ, [], length, false, None, Some, IfOk};
 ghost use Rattle.mt_base.specs.declared.limits.TheConstants.{MAX_RELATIONS, MAX_WRITTEN_PAGES};
 ghost use Rattle.mt_base.specs.declared.modes.Mode.TheVariants.{Read as ToRead};

@@ -13,8 +13,8 @@ use Rattle.mt_core.specs.Consistent.{Origin, state_of, IsConsistent, IsIn, MayBe
 use Rattle.mt_core.specs.Runs.{state_in}
 use Rattle.mt_core.specs.declared.calls.Called.{Called}
 use Rattle.mt_core.specs.declared.calls.Called.TheVariants as call
-use Rattle.mt_core.specs.declared.kernel_core.Core.{Core}
-use Rattle.mt_core.specs.declared.kernel_core.Running.{Running}
+use Rattle.mt_core.specs.declared.parts.Core.{Core}
+use Rattle.mt_core.specs.declared.parts.Running.{Running}
 use Rattle.mt_txn.proofs.Showing.{open_works, within_of}
 use Rattle.mt_txn.specs.Causes.{IsNamed, IsSized}
 use Rattle.mt_txn.specs.Events.{HasCalled, HasStepped, HasForced, HasAborted}

@@ -10,8 +10,8 @@ use Rattle.mt_core.proofs.Holders.{owners_same, owner_works}
 use Rattle.mt_core.specs.Consistent.{Origin, SameStates, AtPlace, IsConsistent, IsOwnerOf}
 use Rattle.mt_core.specs.Runs.{is_open}
 use Rattle.mt_core.specs.Steps.{IsOfOther, AwaitsOther}
-use Rattle.mt_core.specs.declared.kernel_core.Core.{Core}
-use Rattle.mt_core.specs.declared.kernel_core.Running.{Running}
+use Rattle.mt_core.specs.declared.parts.Core.{Core}
+use Rattle.mt_core.specs.declared.parts.Running.{Running}
 use Rattle.mt_core.specs.declared.steps.Going.{Going}
 use Rattle.mt_core.specs.declared.steps.Going.TheVariants as going
 use Rattle.mt_txn.proofs.Showing.{at_place}

@@ -6,7 +6,7 @@ use Rattle.mt_base.specs.declared.refusal.Refusal.TheVariants as refusal
 use Rattle.mt_core.specs.Causes.{IsAnswered}
 use Rattle.mt_core.specs.Consistent.{Origin}
 use Rattle.mt_core.specs.Runs.{state_in}
-use Rattle.mt_core.specs.declared.kernel_core.Core.{Core}
+use Rattle.mt_core.specs.declared.parts.Core.{Core}
 use Rattle.mt_model.specs.declared.operations.Op.{Op}
 use Rattle.mt_model.specs.declared.operations.Op.TheVariants.{Get, Insert, Update, Delete, Add, Read}
 use Rattle.mt_txn.specs.Causes.{busy_cause, call_cause, count_cause, first_of, is_busy, is_key, is_open, is_step, name_cause, size_cause, unless}

@@ -15,8 +15,8 @@ use Rattle.mt_core.specs.Booked.{txns_of}
 use Rattle.mt_core.specs.Consistent.{Origin, IsConsistent, IsEscrowed, SameUncommitted, session_in, state_in, state_of}
 use Rattle.mt_core.specs.Restartable.{effects_of}
 use Rattle.mt_core.specs.Turned.{TurnsOver}
-use Rattle.mt_core.specs.declared.kernel_core.Commit.{Commit}
-use Rattle.mt_core.specs.declared.kernel_core.Core.{Core}
+use Rattle.mt_core.specs.declared.parts.Commit.{Commit}
+use Rattle.mt_core.specs.declared.parts.Core.{Core}
 use Rattle.mt_live.specs.Laws.{in_turn}
 use Rattle.mt_live.specs.Lives.{member_of}
 use Rattle.mt_live.specs.Machine.{State}

@@ -14,9 +14,9 @@ use Rattle.mt_live.specs.declared.transactions.TxnState.TheVariants.{Open, Commi
 use Rattle.mt_model.specs.Model.{Base}
 use Rattle.mt_model.specs.declared.operations.Op.{Op}
 use Rattle.mt_core.specs.Runs.{running_in, state_in, is_for}
-use Rattle.mt_core.specs.declared.kernel_core.Commit.{Commit}
-use Rattle.mt_core.specs.declared.kernel_core.Core.{Core}
-use Rattle.mt_core.specs.declared.kernel_core.Running.{Running}
+use Rattle.mt_core.specs.declared.parts.Commit.{Commit}
+use Rattle.mt_core.specs.declared.parts.Core.{Core}
+use Rattle.mt_core.specs.declared.parts.Running.{Running}
 use Rattle.mt_txn.specs.Causes.{is_busy}
 use Rattle.mt_txn.specs.Well.{IsWell, ShowsIn}
 

@@ -37,7 +37,7 @@ use Rattle.mt_core.specs.Restartable.{Recovers, StaysRestartable}
 use Rattle.mt_core.specs.Steps.{Steps, UndoSteps}
 use Rattle.mt_core.specs.declared.calls.Called.{Called}
 use Rattle.mt_core.specs.declared.calls.Called.TheVariants as call
-use Rattle.mt_core.specs.declared.kernel_core.Core.{Core}
+use Rattle.mt_core.specs.declared.parts.Core.{Core}
 use Rattle.mt_core.specs.declared.steps.Stepping.{Stepping}
 use Rattle.mt_core.specs.declared.steps.Stepping.TheVariants.{Going, Ended}
 use Rattle.mt_txn.proofs.Showing.{at_place}

@@ -23,8 +23,8 @@ use Rattle.mt_core.proofs.Underway.{running_at}
 use Rattle.mt_core.specs.Consistent.{Origin, state_of, AtPlace, IsConsistent, IsSound, IsIn, BacksIn, DropsIn, UndoesIn, StaysIn}
 use Rattle.mt_core.specs.Runs.{running_in, state_in, is_at_work, is_open, IsMoving, IsOwned, IsRunning}
 use Rattle.mt_core.specs.Steps.{Steps, UndoSteps}
-use Rattle.mt_core.specs.declared.kernel_core.Core.{Core}
-use Rattle.mt_core.specs.declared.kernel_core.Running.{Running}
+use Rattle.mt_core.specs.declared.parts.Core.{Core}
+use Rattle.mt_core.specs.declared.parts.Running.{Running}
 use Rattle.mt_core.specs.declared.steps.Stepping.{Stepping}
 use Rattle.mt_core.specs.declared.steps.Stepping.TheVariants.{Going, Ended}
 use Rattle.mt_op.specs.Operations.{world}

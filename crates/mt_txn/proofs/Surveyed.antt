@@ -7,7 +7,7 @@ use Rattle.mt_disk.specs.declared.device.Device.{Ghosts}
 use Rattle.mt_index.specs.Pages.{depth_in}
 use Rattle.mt_core.proofs.Surveyed.{nobody_locks}
 use Rattle.mt_core.specs.Consistent.{IsConsistent, Origin}
-use Rattle.mt_core.specs.declared.kernel_core.Core.{Core}
+use Rattle.mt_core.specs.declared.parts.Core.{Core}
 use Rattle.mt_live.specs.Machine.{State}
 use Rattle.mt_model.specs.Model.{Base}
 use Rattle.mt_model.specs.Views.{base_of}

@@ -10,7 +10,7 @@ use Rattle.mt_model.specs.Model.{Base, reply_of, inverse_of}
 use Rattle.mt_model.specs.declared.operations.Op.{Op}
 use Rattle.mt_model.specs.declared.pending_add.Pending.{Pending}
 use Rattle.mt_core.specs.Booked.{booked_each, durable_count, durable_txns}
-use Rattle.mt_core.specs.declared.kernel_core.Commit.{Commit}
+use Rattle.mt_core.specs.declared.parts.Commit.{Commit}
 use Rattle.mt_log.specs.Words.{IsStep}
 use Rattle.mt_log.specs.declared.log.Log.{Log}
 use Rattle.mt_log.specs.declared.log.Forced.TheVariants as log

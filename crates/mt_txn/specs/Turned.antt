@@ -7,12 +7,12 @@ use Rattle.mt_log.specs.Words.{appended, durable}
 use Rattle.mt_model.specs.History.{after}
 use Rattle.mt_model.specs.Model.{Base}
 use Rattle.mt_op.specs.declared.operations.Operations.{Operations}
-use Rattle.mt_core.specs.declared.kernel_core.Core.{Core}
+use Rattle.mt_core.specs.declared.parts.Core.{Core}
 use Rattle.mt_live.specs.Machine.{State}
 use Rattle.mt_txn.specs.Shown.{Restarts, Shows}
 use Rattle.mt_txn.specs.Well.{Opens, RestartsFrom, ShowsIn}
 use Rattle.mt_txn.specs.declared.kernel.Kernel.{Kernel}
-use Rattle.mt_txn.specs.declared.rests.KernelRest.{KernelRest}
+use Rattle.mt_txn.specs.declared.kernel_rest.KernelRest.{KernelRest}
 
 -- no transaction lives
 abbrev pub HasNobody : {D : Type 0} {g : Ghosts D} → Kernel D g → Type 0

@@ -8,7 +8,7 @@ use Rattle.mt_op.specs.declared.operations.Operations.{Operations}
 use Rattle.mt_steps.specs.Held.{Holds}
 use Rattle.mt_core.specs.Consistent.{Origin, IsSchema, IsFirstArea, IsEscrowed, IsConsistent, IsIn}
 use Rattle.mt_core.specs.Restartable.{IsRestartable}
-use Rattle.mt_core.specs.declared.kernel_core.Core.{Core}
+use Rattle.mt_core.specs.declared.parts.Core.{Core}
 
 -- what a kernel of so many relations and counters began on, with this base
 pub record IsOrigin (relations counters : ℕ) (first : Base) (origin : Origin) : Type 0 where

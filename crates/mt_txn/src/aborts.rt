@@ -10,7 +10,7 @@ ghost use Rattle.mt_core.specs.Runs.{state_in};
 ghost use Rattle.mt_core.specs.Steps.{WantsFrame};
 ghost use Rattle.mt_core.specs.Work.{most_steps, undo_steps};
 ghost use Rattle.mt_pool.specs.Views.{pages};
-ghost use Rattle.mt_core.specs.declared.kernel_core.Running.{Running};
+ghost use Rattle.mt_core.specs.declared.parts.Running.{Running};
 ghost use Rattle.mt_txn.specs.Aborted.{StepsAbort};
 ghost use Rattle.mt_txn.specs.Causes.{IsFault, abort_cause, is_busy, open_cause};
 ghost use Rattle.mt_txn.specs.Events.{HasAborted};

@@ -1,4 +1,4 @@
-// Calls of operations.
+// `Kernel::call`: the causes in their order, and then the call of the core.
 ghost use Rattle.std.specs.Prelude.{◌≡◌, ◌+◌, ◌*◌, None, Some, Err};
 ghost use Rattle.mt_base.specs.declared.refusal.Refusal.{Refusal};
 ghost use Rattle.mt_live.specs.Machine.{State};

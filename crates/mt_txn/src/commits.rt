@@ -10,7 +10,7 @@ ghost use Rattle.mt_pool.specs.declared.flushes.Flushed.TheVariants as flushed;
 ghost use Rattle.mt_live.specs.declared.transactions.TxnState.TheVariants.{Committing};
 ghost use Rattle.mt_core.specs.Consistent.{OnlyOperations, SameCommits, SameRunning, SameStates, SameUncommitted, SetsState};
 ghost use Rattle.mt_core.specs.Work.{LeavesUndo};
-ghost use Rattle.mt_core.specs.declared.kernel_core.Commit.{Commit};
+ghost use Rattle.mt_core.specs.declared.parts.Commit.{Commit};
 ghost use Rattle.mt_txn.specs.Causes.{IsFailure, commit_cause};
 ghost use Rattle.mt_txn.specs.Events.{HasForced, IsForcedBy};
 ghost use Rattle.mt_txn.specs.Shown.{FailsForGood, SameSchema, Shows, Stays, StaysRestarting, TellsEachFault, is_failed};

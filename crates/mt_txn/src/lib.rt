@@ -13,13 +13,13 @@ mod calls;
 mod causes;
 mod commits;
 mod kernel;
-mod rests;
+mod kernel_rest;
 mod steps;
 mod surveys;
-mod handover;
+mod next_area;
 
 pub use answers::{AbortStepped, KernelForced, Stepped};
 pub use kernel::Kernel;
 pub use mt_core::Called;
 pub use mt_op::Survey;
-pub use rests::KernelRest;
+pub use kernel_rest::KernelRest;

@@ -10,7 +10,7 @@ use Rattle.mt_disk.specs.Disk.{LeavesOnly}
 use Rattle.mt_disk.specs.declared.device.Device.{Ghosts}
 use Rattle.mt_core.specs.Booked.{txns_of}
 use Rattle.mt_core.specs.Consistent.{session_in}
-use Rattle.mt_core.specs.declared.kernel_core.Commit.{Commit as CommitUnderWay}
+use Rattle.mt_core.specs.declared.parts.Commit.{Commit as CommitUnderWay}
 use Rattle.mt_live.specs.Laws.{in_turn}
 use Rattle.mt_live.specs.Machine.{State, start}
 use Rattle.mt_log.specs.Words.{durable}

@@ -10,7 +10,7 @@ use Rattle.mt_core.specs.Consistent.{OnlyOperations, SameCommits, SameStates, Sa
 use Rattle.mt_core.specs.Runs.{state_in}
 use Rattle.mt_core.specs.declared.calls.Called.{Called}
 use Rattle.mt_core.specs.declared.calls.Called.TheVariants as call
-use Rattle.mt_core.specs.declared.kernel_core.Core.{Core}
+use Rattle.mt_core.specs.declared.parts.Core.{Core}
 use Rattle.mt_live.specs.Machine.{State, begun, called, ended, gone}
 use Rattle.mt_live.specs.declared.transactions.TxnState.{TxnState}
 use Rattle.mt_live.specs.declared.transactions.TxnState.TheVariants.{Open, Committing as IsCommitting, Aborting as IsAborting}

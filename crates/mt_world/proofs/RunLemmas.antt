@@ -13,7 +13,7 @@ use Rattle.mt_base.specs.declared.refusal.Refusal.TheVariants as refusal
 use Rattle.mt_core.specs.Booked.{booked_each, durable_count, session_at, txns_of}
 use Rattle.mt_core.specs.Consistent.{SameCommits, SameUncommitted, SetsState, session_in, session_or}
 use Rattle.mt_core.specs.Runs.{state_in}
-use Rattle.mt_core.specs.declared.kernel_core.Commit.{Commit as CommitUnderWay}
+use Rattle.mt_core.specs.declared.parts.Commit.{Commit as CommitUnderWay}
 use Rattle.mt_live.proofs.Alone.{put_other, put_own}
 use Rattle.mt_live.proofs.Keeping.{kept_explained}
 use Rattle.mt_live.specs.Entries.{calls as calls_of_entries, kept}

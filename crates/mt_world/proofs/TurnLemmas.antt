@@ -10,7 +10,7 @@ use Rattle.mt_disk.specs.declared.device.Device.{Ghosts}
 use Rattle.mt_core.proofs.First.{none_of_none}
 use Rattle.mt_core.specs.Consistent.{state_of}
 use Rattle.mt_core.specs.Runs.{state_in}
-use Rattle.mt_core.specs.declared.kernel_core.Commit.{Commit}
+use Rattle.mt_core.specs.declared.parts.Commit.{Commit}
 use Rattle.mt_live.specs.Machine.{State, is_live}
 use Rattle.mt_live.specs.Members.{Member}
 use Rattle.mt_live.specs.declared.transactions.TxnState.{TxnState}

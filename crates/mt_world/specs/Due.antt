@@ -7,7 +7,7 @@ use Rattle.mt_core.specs.Consistent.{SameCommits, SameStates, SameStatesBut, Sam
 use Rattle.mt_core.specs.Runs.{state_in}
 use Rattle.mt_core.specs.Steps.{WantsFrame}
 use Rattle.mt_core.specs.Work.{steps_in, undo_steps}
-use Rattle.mt_core.specs.declared.kernel_core.Commit.{Commit as CommitUnderWay}
+use Rattle.mt_core.specs.declared.parts.Commit.{Commit as CommitUnderWay}
 use Rattle.mt_live.specs.Sound.{Each}
 use Rattle.mt_live.specs.declared.transactions.TxnState.TheVariants as state
 use Rattle.mt_log.specs.Words.{appended, durable}

@@ -12,7 +12,7 @@ use Rattle.std.specs.Prelude.{Result}
 use Rattle.mt_base.specs.declared.refusal.Refusal.{Refusal}
 use Rattle.mt_pool.specs.Views.{pages}
 use Rattle.mt_core.specs.Work.{undo_steps}
-use Rattle.mt_core.specs.declared.kernel_core.Core.{Core}
+use Rattle.mt_core.specs.declared.parts.Core.{Core}
 use Rattle.mt_txn.specs.Work.{LowersAbort}
 use Rattle.mt_txn.specs.declared.answers.AbortStepped.{AbortStepped}
 use Rattle.mt_txn.proofs.Restarting.{either_goes, no_call, restarts_on, stays_goes}

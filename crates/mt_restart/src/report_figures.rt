@@ -1,0 +1,15 @@
+// The figures of a report.
+/// What is told of a device's log.
+#[derive(Clone, Copy, PartialEq, Eq, Debug)]
+pub struct Report {
+    /// The epoch of the master slot that rules.
+    pub epoch: u64,
+    /// The area that it names: 0 or 1.
+    pub area: u8,
+    /// All open batches of that area, the first one among them.
+    pub batches: u64,
+    /// All records in them.
+    pub records: u64,
+    /// The commits among these.
+    pub commits: u64,
+}

@@ -1,0 +1,108 @@
+// A kernel that goes on over the other area of its log.
+ghost use Rattle.std.specs.Prelude.{◌≡◌, ◌↔◌, ℕ, List, IsTrue};
+ghost use Rattle.mt_core.specs.Consistent.{IsFresh};
+ghost use Rattle.mt_log.specs.Words.{area_size, has_failed, used};
+ghost use Rattle.mt_model.specs.History.{after};
+ghost use Rattle.mt_model.specs.Model.{Base};
+ghost use Rattle.mt_replay.specs.Stands.{CanRestart};
+ghost use Rattle.mt_txn.specs.Shown.{Restarts, is_failed};
+ghost use Rattle.mt_txn.specs.Turned.{CanGoOn, HasNobody, IsForced, IsRestOf, Resumes};
+
+use crate::kernel::Kernel;
+use crate::kernel_rest::KernelRest;
+use mt_disk::Device;
+use mt_escrow::Escrow;
+use mt_core::Core;
+use mt_op::Operations;
+
+impl<D: Device> Kernel<D> {
+    /// Whether no transaction lives.
+    pub fn has_nobody(&self) -> bool
+        ensures { IsTrue result ↔ HasNobody self.now }
+    {
+        self.core.live().count() == 0
+    }
+
+    /// How many bytes of the log's area are in use. They are those before the place of the next batch. Each record
+    /// that is in no batch yet takes 5 more and its own length.
+    pub fn used(&self) -> u64
+        ensures { result ≡ used self.now.core.operations.store.log }
+    {
+        self.core.log().used()
+    }
+
+    /// How many bytes the log's area has.
+    pub fn area_size(&self) -> u64
+        ensures { result ≡ area_size self.now.core.operations.store.log }
+    {
+        self.core.log().area_size()
+    }
+
+    /// Where nobody lives and all that was appended is durable, a restart finds what the whole book leads to, whatever a
+    /// crash leaves.
+    pub fn rests_on_its_book(&self)
+        ensures { (first : Base) (c : List ℕ) → Restarts D.seen D.may_leave first self.now → HasNobody self.now
+            → IsForced self.now → D.may_leave self.now.core.operations.store.device c
+            → ∥ CanRestart self.now.relations self.now.counters c (after first self.now.core.book.items) ∥₁ }
+    {}
+
+    /// The kernel goes on over other operations and another escrow, which have what its book leads to: the laws see nothing
+    /// of it. The operations are those of a log area without records but the images that it began with. It takes no
+    /// memory.
+    pub fn join(rest: KernelRest, operations: Operations<D>, escrow: Escrow) -> Kernel<D>
+        requires fresh { IsFresh operations escrow }
+        requires goes_on { CanGoOn D.seen D.may_leave rest operations escrow }
+        ensures resumed { Resumes D.seen D.may_leave rest operations escrow result }
+        ensures schema { (result.relations ≡ rest.relations) × (result.counters ≡ rest.counters) }
+        ensures fails { is_failed result ≡ has_failed operations.store.log }
+        ensures operations { result.core.operations ≡ operations }
+        ensures book { result.core.book ≡ rest.rest.book }
+    {
+        let KernelRest {
+            rest,
+            alloc,
+            relations,
+            counters,
+        } = rest;
+        Kernel {
+            core: Core::join(rest, operations, escrow),
+            alloc,
+            relations,
+            counters,
+            failed: false,
+        }
+    }
+}
+
+impl<D: Device + Drop> Kernel<D> {
+    /// The device, and what outlasts the log's area. What lived is gone, and nothing of it is taken back. It takes no
+    /// memory.
+    pub fn part(self) -> (D, KernelRest)
+        ensures device { result.0 ≡ self.core.operations.store.device }
+        ensures rest { IsRestOf self result.1 }
+    {
+        let Kernel {
+            core,
+            alloc,
+            relations,
+            counters,
+            failed: _,
+        } = self;
+        let (device, rest) = core.part();
+        let rest = KernelRest {
+            rest,
+            alloc,
+            relations,
+            counters,
+        };
+        (device, rest)
+    }
+
+    /// The device, for another opening. What lived is gone, and nothing of it is taken back. It takes no memory.
+    pub fn into_device(self) -> D
+        ensures { result ≡ self.core.operations.store.device }
+    {
+        let (device, _rest) = self.part();
+        device
+    }
+}

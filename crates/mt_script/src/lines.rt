@@ -169,7 +169,7 @@ fn row_of(alloc: Global, words: &[u8]) -> Result<Option<(RelNo, Bytes, Bytes)>, 
     Ok(Some((RelNo::new(relation), key, value)))
 }
 
-/// `get R K` and `delete R K`, of the words behind the first.
+/// `get R K`, of the words after the first.
 fn get_of(alloc: Global, words: &[u8]) -> Result<Option<Op>, AllocError>
     ensures { IfOk result (ReadsOp (codes "get" ++ 32 ∷ words.now)) }
 {
@@ -179,6 +179,7 @@ fn get_of(alloc: Global, words: &[u8]) -> Result<Option<Op>, AllocError>
     Ok(Some(Op::Get(relation, key)))
 }
 
+/// `delete R K`, of the words after the first.
 fn delete_of(alloc: Global, words: &[u8]) -> Result<Option<Op>, AllocError>
     ensures { IfOk result (ReadsOp (codes "delete" ++ 32 ∷ words.now)) }
 {

@@ -49,7 +49,7 @@ pub record FirstDiffers (old new : List ℕ) (from at : ℕ) : Type 0 where
   pub before : AreEqual old new from at
   pub differs : at < length old → get_or old at 0 ≢ get_or new at 0
 
--- The edits so far change all below `last`. Behind it stay fifteen bytes, or as many as there are.
+-- The edits so far change all below `last`. After it stay fifteen bytes, or as many as there are.
 pub record Edited (old new : List ℕ) (edits : List Edit) (last : ℕ) : Type 0 where
   pub ends : last ≤ length old
   pub made : Halfway old new (patched edits old) last

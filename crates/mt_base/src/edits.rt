@@ -43,7 +43,7 @@ pub fn edits_of(alloc: Global, old: &[u8], new: &[u8]) -> Result<Vec<Edit>, Allo
     Ok(edits)
 }
 
-// The next edit, behind the last one's end, if a byte differs there. Answers where it ends, or the length.
+// The next edit, after the last one's end, if a byte differs there. Answers where it ends, or the length.
 fn step(
     alloc: Global,
     edits: &mut Vec<Edit>,

@@ -31,7 +31,7 @@ impl<T> History<T> {
         History { of: PhantomData }
     }
 
-    /// This history, and behind it one value more.
+    /// This history, and after it one value more.
     pub fn and(&self, last: &T) -> History<T>
         ensures { result.items ≡ self.now.items ++ last.now ∷ [] }
     {

@@ -15,7 +15,7 @@ use mt_base::limits::PAGE_BYTES;
 use mt_base::ranges::{part_of, put, put_u16};
 use mt_base::{RecordName, RelNo};
 
-/// Puts an entry behind the others and answers true. Where the page has 58 already, it answers false, and
+/// Puts an entry after the others and answers true. If the page has 58 already, it answers false, and
 /// the page is as before. In a page a relation has one byte, and a key at most 64.
 pub fn push(page: &mut [u8], relation: RelNo, key: &[u8], name: RecordName) -> bool
     requires whole { length page.old ≡ PAGE_BYTES }
@@ -36,7 +36,7 @@ pub fn push(page: &mut [u8], relation: RelNo, key: &[u8], name: RecordName) -> b
     true
 }
 
-/// Gives the entry of a relation and a key another record name and answers true. Where there is no such
+/// Gives the entry of a relation and a key another record name and answers true. If there is no such
 /// entry, it answers false, and the page is as before.
 pub fn set(page: &mut [u8], relation: RelNo, key: &[u8], name: RecordName) -> bool
     requires whole { length page.old ≡ PAGE_BYTES }
@@ -56,7 +56,7 @@ pub fn set(page: &mut [u8], relation: RelNo, key: &[u8], name: RecordName) -> bo
     true
 }
 
-/// Takes the entry of a relation and a key out and answers true; the last entry takes its place. Where there
+/// Takes the entry of a relation and a key out and answers true; the last entry takes its place. If there
 /// is no such entry, it answers false, and the page is as before.
 pub fn remove(page: &mut [u8], relation: RelNo, key: &[u8]) -> bool
     requires whole { length page.old ≡ PAGE_BYTES }
@@ -74,7 +74,7 @@ pub fn remove(page: &mut [u8], relation: RelNo, key: &[u8]) -> bool
     true
 }
 
-/// Moves the entries whose hash has a bit, in their order, behind those of another page, which has room for them. The
+/// Moves the entries whose hash has a bit, in their order, after those of another page, which has room for them. The
 /// others stay, in their order.
 pub fn partition(page: &mut [u8], bit: u8, to: &mut [u8])
     requires whole { length page.old ≡ PAGE_BYTES }
@@ -98,7 +98,7 @@ pub fn partition(page: &mut [u8], bit: u8, to: &mut [u8])
     }
 }
 
-// Puts a cell behind the others of the page that its hash's bit names.
+// Puts a cell after the others of the page that its hash's bit names.
 fn sort_cell(page: &mut [u8], bit: u8, to: &mut [u8], bytes: &[u8])
     requires whole { length page.old ≡ PAGE_BYTES }
     requires to_whole { length to.old ≡ PAGE_BYTES }
@@ -118,7 +118,7 @@ fn sort_cell(page: &mut [u8], bit: u8, to: &mut [u8], bytes: &[u8])
     }
 }
 
-// Puts a cell behind the others.
+// Puts a cell after the others.
 fn push_cell(page: &mut [u8], bytes: &[u8])
     requires whole { length page.old ≡ PAGE_BYTES }
     requires cell { length bytes.now ≡ CELL_BYTES }

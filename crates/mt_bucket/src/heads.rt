@@ -33,7 +33,7 @@ pub fn count(page: &[u8]) -> usize
     usize::from(u16_at(page, 2)).min(MAX_ENTRIES)
 }
 
-/// The overflow page behind this one; page 0 where there is none.
+/// The overflow page after this one; page 0 where there is none.
 pub fn next(page: &[u8]) -> PageNo
     requires whole { length page.now ≡ PAGE_BYTES }
     ensures { result ≡ next_of page.now }

@@ -1,5 +1,5 @@
 //! A bucket page of the index, in place on its 4,096 bytes. Its head has the bucket's depth, the count of entries and
-//! the overflow page behind; 58 cells of 70 bytes follow. Contracts see a page as the list of its entries, whatever
+//! the overflow page after; 58 cells of 70 bytes follow. Contracts see a page as the list of its entries, whatever
 //! its bytes are. An entry is a relation, a key and the name of the record under them, and each call is an operation
 //! of that list. The hash by which a bucket splits is here too (Fagin 1979).
 //!

@@ -9,7 +9,7 @@ use crate::heads::{CELL_BYTES, HEAD_BYTES, count};
 use mt_base::ranges::{part_of, u16_at};
 use mt_base::{PageNo, RecordName, RelNo};
 
-/// The name of the record under a relation and a key; `None` where the page has no entry of them.
+/// The name of the record under a relation and a key; `None` if the page has no entry of them.
 pub fn find(page: &[u8], relation: RelNo, key: &[u8]) -> Option<RecordName>
     requires whole { length page.now ≡ PAGE_BYTES }
     requires short { length key.now ≤ MAX_KEY_BYTES }
@@ -49,7 +49,7 @@ pub fn entry(page: &[u8], i: usize) -> EntryView<'_>
     }
 }
 
-/// The place of the first entry of a relation and a key, from 0; `None` where the page has none of them.
+/// The place of the first entry of a relation and a key, from 0; `None` if the page has none of them.
 pub fn place_of(page: &[u8], relation: RelNo, key: &[u8]) -> Option<usize>
     requires whole { length page.now ≡ PAGE_BYTES }
     requires short { length key.now ≤ MAX_KEY_BYTES }

@@ -10,7 +10,7 @@ use mt_base::ranges::u16_at;
 
 /// Whether these 4,096 bytes are a bucket page of a schema of so many relations and pages. Its depth is at most 9, it
 /// has at most 58 entries, and its overflow page is of the device or none. Zeros stand where the head has them. Each
-/// entry has a relation, a key and a page within their limits, and zeros behind its key.
+/// entry has a relation, a key and a page within their limits, and zeros after its key.
 pub fn check(page: &[u8], relations: u16, pages: u16) -> bool
     requires whole { length page.now ≡ PAGE_BYTES }
     ensures { MatchBool result (IsBucket relations pages page.now) (IsBucket relations pages page.now → ⊥) }
@@ -46,7 +46,7 @@ fn is_cell(page: &[u8], relations: u16, pages: u16, at: usize) -> bool
     is_filled(page, at + 2, key)
 }
 
-// Whether the bytes behind a key, up to the 64th, are zero.
+// Whether the bytes after a key, up to the 64th, are zero.
 fn is_filled(page: &[u8], at: usize, key: usize) -> bool
     requires whole { length page.now ≡ PAGE_BYTES }
     requires within { at + MAX_KEY_BYTES ≤ PAGE_BYTES }

@@ -75,7 +75,7 @@ fn is_as_at(kernel: &mut Kernel<MemDevice>, before: &Survey) -> Result<bool, Ref
     Ok(same && now.depth == before.depth && now.free == before.free)
 }
 
-// Gives the insert of key 58 up behind no step, behind one, and so on, until it has replied. It tells behind how many
+// Gives the insert of key 58 up after no step, after one, and so on, until it has replied. It tells after how many
 // it has, and whether all was as before each time until then.
 fn give_up_in_turn(alloc: Global, kernel: &mut Kernel<MemDevice>) -> Result<(u8, bool), Refusal> {
     let before = kernel.survey()?;

@@ -95,7 +95,7 @@ pub fn stepped<D: Device>(kernel: &mut Kernel<D>, txn: TxnNo) -> Told {
     }
 }
 
-// Writes a page into its slot, behind the log's force where it waits for one. Tells `Went` where one was written.
+// Writes a page into its slot, after the log's force where it waits for one. Tells `Went` where one was written.
 fn flushed<D: Device>(kernel: &mut Kernel<D>) -> Told {
     for _step in 0..16u8 {
         match kernel.flush_step() {

@@ -62,7 +62,7 @@ IsRefusedCall seen origin k kept t op split (refusal.Die holder) = IsLeastBar (h
 IsRefusedCall seen origin k kept t op split refusal.NoMemory = ⊤
 IsRefusedCall seen origin k kept t op split why = IsFree (held_of k.locks) t (object_of op) (mode_of op) × IsRefusedBehind seen origin k kept t op split why
 
--- It runs only where nobody is in the way and all that it reserves is there; it waits only for a younger one.
+-- It runs only if nobody is in the way and all that it reserves is there; it waits only for a younger one.
 abbrev pub IsAnswered : {D : Type 0} → (D → List ℕ) → Origin → Core D → ℕ → ℕ → Op → Bool → Result Called Refusal → Type 0
 IsAnswered seen origin k kept t op split (Ok answer.Started) = IsFree (held_of k.locks) t (object_of op) (mode_of op) × IsAdmittedBy seen origin k kept t op split
 IsAnswered seen origin k kept t op split (Ok (answer.Wait holder)) = IsLeastBar (held_of k.locks) t (object_of op) (mode_of op) holder × (t < holder)

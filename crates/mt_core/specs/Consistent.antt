@@ -313,7 +313,8 @@ pub record IsLocked {D : Type 0} (seen : D → List ℕ) (may_leave : D → List
   pub locked : held_of k.locks ≡ with_lock (held_of was_locks) t (object_of op) (mode_of op)
   pub free : IsFree (held_of was_locks) t (object_of op) (mode_of op)
 
--- Where it is an add, the escrow admits it besides, and it is pending. But for that and the lock the parts are as they were.
+-- If it is an add, the escrow admits it besides, and it is pending. But for that and the lock the parts are as they
+-- were.
 pub record IsGranted {D : Type 0} (seen : D → List ℕ) (may_leave : D → List ℕ → Type 0) (origin : Origin) (base : Base) (was_locks : List (Object × List Holder)) (was_escrow : Escrowed) (k : Core D) (t : ℕ) (op : Op) : Type 0 where
   pub was : IsConsistent seen may_leave origin base (record k { locks = was_locks; escrow = was_escrow })
   pub may : MayRun origin k t op

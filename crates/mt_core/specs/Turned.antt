@@ -23,8 +23,8 @@ pub record IsRestOf {D : Type 0} (k : Core D) (r : Rest) : Type 0 where
 abbrev pub turned : {D : Type 0} → Origin → Base → PageBytes → Core D → Origin
 turned origin base pages k = record origin { earlier = k.book.items; begun = base; pages = pages }
 
--- Nobody lives in parts that are consistent on a base. Other operations are right over pages that hold it, and an escrow
--- has its counters.
+-- No transaction is active in parts that are consistent on a base. Other operations are right over pages that hold it,
+-- and an escrow has its counters.
 pub record TurnsOver {D : Type 0} (seen : D → List ℕ) (may_leave : D → List ℕ → Type 0) (origin : Origin) (base : Base) (k : Core D) (pages : PageBytes) (operations : Operations D) (escrow : Escrowed) : Type 0 where
   pub nobody : k.live.members ≡ []
   pub consistent : IsConsistent seen may_leave origin base k

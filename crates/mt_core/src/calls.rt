@@ -76,7 +76,7 @@ fn place_in(running: &[Running], txn: TxnNo) -> Option<usize>
 }
 
 impl<D: Device> Core<D> {
-    /// The place of a transaction's operation among those under way; `None` where it runs nothing.
+    /// The place of a transaction's operation among those under way; `None` if it runs nothing.
     pub fn place_of(&self, txn: TxnNo) -> Option<usize>
         ensures place { IsPlaceOf self.now.running.items txn result }
         ensures busy { is_some result ≡ list_any (λ (r : Running). r.scope.txn == txn) self.now.running.items }

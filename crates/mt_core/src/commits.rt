@@ -41,7 +41,7 @@ use std::alloc::Global;
 // What the Commit of a transaction, or the end of its abort, takes of the log.
 const END_LOG_BYTES: u64 = 14;
 
-// How many of the commits stand before the first whose record is behind this place.
+// How many of the commits stand before the first whose record is after this place.
 fn durable_count(commits: &[Commit], place: LogPos) -> usize
     ensures count { result ≡ durable_count commits.now place }
     ensures within { result ≤ length commits.now }
@@ -156,7 +156,7 @@ impl<D: Device> Core<D> {
     }
 
     /// Books each of the commits under way whose record is in the log up to this place. It does so in their order, as
-    /// [`Core::leave_first`] does, and puts their transactions behind the names. It takes no memory.
+    /// [`Core::leave_first`] does, and puts their transactions after the names. It takes no memory.
     pub fn leave_durable(&mut self, place: LogPos, names: &mut Vec<TxnNo>)
         requires safe { IsSound D.seen D.may_leave self.old }
         requires room { vec_len names.old + length self.old.commits.items ≤ vec_capacity names.old }
@@ -230,8 +230,8 @@ impl<D: Device> Core<D> {
         self.operations.flush_step()
     }
 
-    /// Tells what the pages come to, by their bytes, where nobody lives. Nothing has changed then. Refused for want of
-    /// memory, and with 2 if and only if the device failed in this call.
+    /// Tells what the pages come to, by their bytes, where no transaction is active. Nothing has changed then. Refused
+    /// for want of memory, and with 2 if and only if the device failed in this call.
     pub fn survey(&mut self, alloc: Global) -> Result<Survey, Refusal>
         requires safe { IsSound D.seen D.may_leave self.old }
         requires nobody { self.old.live.members ≡ [] }

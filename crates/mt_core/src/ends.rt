@@ -16,7 +16,7 @@ use mt_escrow::Escrow;
 use mt_model::{Op, Reply};
 use mt_steps::pages_to_undo;
 
-// Where the operation is an add, the last such add of the transaction is pending no more.
+// If the operation is an add, the last such add of the transaction is pending no more.
 pub(crate) fn let_go(escrow: &mut Escrow, txn: TxnNo, op: &Op)
     ensures given { GivesBack txn op.now escrow.old.pending escrow.new.pending }
     ensures last { (ps : List Pending) → escrow.old.pending ≡ ps ++ add_before txn op.now []
@@ -29,7 +29,7 @@ pub(crate) fn let_go(escrow: &mut Escrow, txn: TxnNo, op: &Op)
 }
 
 impl<D: Device> Core<D> {
-    // Ends an operation that is ready and no inverse: it stands behind all others, with this reply. Where it did
+    // Ends an operation that is ready and no inverse: it stands after all others, with this reply. If it did
     // nothing, what was kept for its inverse is free.
     pub(crate) fn note_end(&mut self, place: usize, reply: Reply)
         requires ready { ∥ ((origin : Origin) × (base : Base)
@@ -48,7 +48,7 @@ impl<D: Device> Core<D> {
         self.live.note(txn, number, op, reply);
     }
 
-    // Ends an inverse that is ready: what it takes back stands no more, nor what its transaction did behind it.
+    // Ends an inverse that is ready: what it takes back stands no more, nor what its transaction did after it.
     pub(crate) fn note_undone(&mut self, place: usize)
         requires ready { ∥ ((origin : Origin) × (base : Base) × (reply : Reply)
             × IsReadyAt D.seen D.may_leave origin base self.old place reply) ∥₁ }

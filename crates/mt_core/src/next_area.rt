@@ -12,7 +12,7 @@ use mt_op::Operations;
 use mt_slock::LockTable;
 
 /// What a kernel has beside its operations and its escrow: the book, and the numbers of transactions and operations.
-/// While nobody lives it outlasts the area of the log.
+/// While no transaction is active it outlasts the area of the log.
 #[derive(Drop)]
 pub struct Rest {
     live: Live,

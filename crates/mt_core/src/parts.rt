@@ -48,7 +48,7 @@ pub struct Core<D: Device> {
 }
 
 impl<D: Device> Core<D> {
-    /// The core of a kernel that begins: no transaction lives, and no commit is in the book. The operations are
+    /// The core of a kernel that begins: no transaction is active, and no commit is in the book. The operations are
     /// those of a log area without records but the images that it began with. The escrow has the counters as page 2
     /// has them. It takes no memory.
     pub fn new(alloc: Global, operations: Operations<D>, escrow: Escrow) -> Core<D>

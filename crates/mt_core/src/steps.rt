@@ -58,8 +58,8 @@ impl<D: Device> Core<D> {
         self.operations.step(alloc, &mut self.running[place].scope)
     }
 
-    /// Makes a step of an operation that is no inverse, at a place of those under way. Where it ends it has acted
-    /// once on the base that the pages hold, and stands behind all others with the model's reply. Else it leaves that
+    /// Makes a step of an operation that is no inverse, at a place of those under way. If it ends it has acted
+    /// once on the base that the pages hold, and stands after all others with the model's reply. Else it leaves that
     /// base. It waits, or begins anew, only for an operation of another transaction.
     ///
     /// Refused with 1 for want of memory, and with 2 where the device has failed; the base is as before.
@@ -98,8 +98,8 @@ impl<D: Device> Core<D> {
         }
     }
 
-    /// Makes a step of an inverse, at a place of those under way. Where it ends, with the model's reply on the base,
-    /// what it takes back stands no more, nor what its transaction did behind that. Its add, where it is one, is
+    /// Makes a step of an inverse, at a place of those under way. If it ends, with the model's reply on the base,
+    /// what it takes back stands no more, nor what its transaction did after that. Its add, where it is one, is
     /// pending no more. It waits, or begins anew, only for an operation of another transaction.
     ///
     /// Refused with 1 for want of memory, and with 2 where the device has failed; the base is as before.

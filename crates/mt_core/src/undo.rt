@@ -23,7 +23,7 @@ use std::alloc::Global;
 
 impl<D: Device> Core<D> {
     /// Begins the inverse of the last operation that did something, of a transaction that is to be undone and runs
-    /// nothing (Weikum 1991). Answers `false` where there is none. It runs on the pages and the log bytes that were
+    /// nothing (Weikum 1991). Answers `false` if there is none. It runs on the pages and the log bytes that were
     /// kept for it, under the locks that its transaction holds, and splits no bucket.
     ///
     /// Refused with 1 for want of memory; nothing has begun then.

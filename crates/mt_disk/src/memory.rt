@@ -24,7 +24,7 @@ pub enum Fill {
     Old,
     /// The write's own bytes.
     New,
-    /// The first half of the write's own bytes, its length divided by two and rounded down. Behind
+    /// The first half of the write's own bytes, its length divided by two and rounded down. After
     /// them stand the bytes from before.
     FrontHalf,
     /// This byte at each place.
@@ -40,7 +40,7 @@ pub(crate) struct State {
     synced: Vec<u8>,
     /// The writes since then, the oldest first.
     writes: Vec<Write>,
-    /// Their own bytes, one write's behind the other's. What a crash may leave of a write can be its bytes, where a
+    /// Their own bytes, one write's after the other's. What a crash may leave of a write can be its bytes, where a
     /// later one has overwritten them.
     written: Vec<u8>,
     /// How many of them there may be, and how many bytes they may have.
@@ -115,7 +115,7 @@ impl State {
     }
 }
 
-/// Adds these bytes behind the others, in room that is there.
+/// Adds these bytes after the others, in room that is there.
 fn append(bytes: &mut Vec<u8>, more: &[u8])
     requires { vec_len bytes.old + length more.now ≤ vec_capacity bytes.old }
     ensures items { bytes.new.items ≡ bytes.old.items ++ more.now }
@@ -180,7 +180,7 @@ fn blot(bytes: &mut Vec<u8>, at: usize, len: usize, byte: u8)
 /// A device in memory. It is the model of a device. Until a sync, a crash may leave any bytes in each range that was
 /// written since the last one. Outside of them it leaves what that sync left.
 ///
-/// It fails only where a write is one too many. It has room for a number of writes without a sync and for a number of
+/// It fails only if a write is one too many. It has room for a number of writes without a sync and for a number of
 /// bytes in them, both fixed when it is made. Such a write changes nothing. Reads and syncs never fail. A write costs
 /// the copying of its own bytes, a sync that of the bytes written since the last one.
 #[derive(Drop)]
@@ -196,7 +196,7 @@ impl MemDevice {
     ghost use Rattle.mt_disk.specs.LeftBy.{LeftBy, synced_content};
 
     /// A device with these bytes, all of them synced, that has not failed. It has room for so many writes without a
-    /// sync and for so many bytes in them. The only error is want of memory, and then the bytes are let go.
+    /// sync and for so many bytes in them. The only error is want of memory, and then the bytes are dropped.
     pub fn new(
         alloc: Global,
         bytes: Vec<u8>,
@@ -307,7 +307,7 @@ impl Device for MemDevice {
         Ok(())
     }
 
-    /// Fails just where the room is used up, and then changes nothing but the count of failures.
+    /// Fails just if the room is used up, and then changes nothing but the count of failures.
     fn write_at(&mut self, at: u64, bytes: &[u8]) -> Result<(), DeviceFault>
         requires { at + length bytes.now ≤ length (content self.old) }
         ensures written { OnOk result (Wrote at bytes.now (content self.old) (content self.new)) }

@@ -78,7 +78,7 @@ fn write_row<W: Write>(writer: &mut W, row: &Row) -> Result<(), Unheard>
     put(writer, b"\n")
 }
 
-/// Writes rows, a line each. Where the writer fails, it has written a beginning of them.
+/// Writes rows, a line each. If the writer fails, it has written a beginning of them.
 pub fn write_rows<W: Write>(writer: &mut W, rows: &[Row]) -> Result<(), Unheard>
     ensures all { OnOk result (Appends (W.contents writer.old) (W.contents writer.new)
         (concat (map row_line rows.now))) }
@@ -114,7 +114,7 @@ fn write_counter<W: Write>(writer: &mut W, number: usize, counter: &Count) -> Re
     )
 }
 
-/// Writes counters in order, a line each. Where the writer fails, it has written a beginning of them.
+/// Writes counters in order, a line each. If the writer fails, it has written a beginning of them.
 pub fn write_counters<W: Write>(writer: &mut W, counters: &[Count]) -> Result<(), Unheard>
     ensures all { OnOk result (Appends (W.contents writer.old) (W.contents writer.new)
         (counter_lines counters.now)) }

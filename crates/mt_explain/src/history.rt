@@ -43,8 +43,8 @@ pub fn history_of(alloc: Global, batches: Vec<Batch>) -> Result<History, Refusal
     })
 }
 
-/// Writes the lines of a history. There is one for each record, in order. Behind them stands one for each operation
-/// that a restart puts back. The last ones are for those that it undoes, the last one first. Where the writer fails,
+/// Writes the lines of a history. There is one for each record, in order. After them stands one for each operation
+/// that a restart puts back. The last ones are for those that it undoes, the last one first. If the writer fails,
 /// it has written a beginning of them.
 pub fn write_history<W: Write>(writer: &mut W, history: &History) -> Result<(), Unheard>
     requires { AllByRecursion (λ l. IsOperation l.done) history.now.losers.items }

@@ -85,7 +85,7 @@ IsSeen at_hand before step = IfDone step (λ plan. (p : ℕ) → at_hand p ≡ N
 
 -- ---- a removal
 
--- the answer of a removal: the map is asked for only where the page is given back
+-- the answer of a removal: the map is asked for only if the page is given back
 abbrev pub IsRemoval : (ℕ → Option (List ℕ)) → PageBytes → ℕ → ℕ → Step → Type 0
 IsRemoval at_hand pages p s (Need q mode) =
     (at_hand q ≡ None) × (mode ≡ Write) × ((q ≡ p) ⊎ ((q ≡ 0) × ((t : ℕ) → t ≢ s → record_in pages p t ≡ None)))
@@ -98,7 +98,7 @@ IsRemoval at_hand pages p s Full = ⊥
 abbrev pub IsOutgrown : PageBytes → ℕ → Row → Row → Type 0
 IsOutgrown pages p r row = room_of (pages p) + row_length r < row_length row
 
--- The record stays under its name where its page has room for it, and moves to a chosen page only where it has not.
+-- The record stays under its name where its page has room for it, and moves to a chosen page only if it has not.
 abbrev pub IsReplaced : Option ℕ → ℕ → PageBytes → PageBytes → ℕ → ℕ → Row → Row → ℕ → ℕ → Type 0
 IsReplaced room total pages next p s r row q t =
     ((q ≡ p) × (t ≡ s) × Stays pages next p s row)

@@ -13,7 +13,7 @@ use mt_space::pages::{FREE, MAP};
 use mt_space::{Changes, Pages};
 use std::alloc::{AllocError, Global};
 
-/// Plans to take away the record under a name. That name holds nothing then, and no other changes. Where it was the
+/// Plans to take away the record under a name. That name holds nothing then, and no other changes. If it was the
 /// last record of its page, the page is given back. Its kind is that of a free page, and its own bytes, which are
 /// open from then on, are left. Never `Full`. The only error is want of memory.
 pub fn plan_remove<V: Pages>(alloc: Global, views: &V, name: RecordName) -> Result<Step, AllocError>

@@ -66,8 +66,8 @@ impl Rooms {
         })
     }
 
-    /// The first page, from this one on, that takes a record of so many bytes; `None` where there is none. Who
-    /// passes a page by goes on behind it. It is found in a few steps for each doubling of the pages.
+    /// The first page, from this one on, that takes a record of so many bytes; `None` if there is none. Who
+    /// passes a page by goes on after it. It is found in a few steps for each doubling of the pages.
     pub fn with_room_from(&self, from: u16, bytes: u16) -> Option<PageNo>
         requires some { 0 < bytes }
         requires within { from ≤ length self.now }

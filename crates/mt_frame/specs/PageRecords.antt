@@ -6,7 +6,7 @@ use Rattle.mt_base.specs.declared.edits.Edit.{Edit}
 use Rattle.mt_frame.specs.declared.records.Record.{Record}
 use Rattle.mt_frame.specs.declared.records.Record.TheVariants.{Page, OpEnd, OpDropped, Commit, AbortEnd}
 
--- the record of an edit's range, of a page that is `old` before the whole change and `new` behind it
+-- the record of an edit's range, of a page that is `old` before the whole change and `new` after it
 abbrev pub range_record : ℕ → ℕ → ℕ → Option (List ℕ) → List ℕ → List ℕ → Edit → Record
 range_record txn op page image old new e = Page txn op page image e.start (part old e.start (length e.bytes)) (part new e.start (length e.bytes))
 

@@ -179,7 +179,7 @@ impl AreaRules {
         }
     }
 
-    // Whether the record may stand behind those that are known.
+    // Whether the record may stand after those that are known.
     fn may_stand(&self, first: bool, entry: &Record) -> bool
         ensures { (earlier : List Record) → Knows self.now earlier → result ≡ may_stand first earlier entry.now }
     {
@@ -202,9 +202,9 @@ impl AreaRules {
         note_undoing(&mut self.undone, entry)
     }
 
-    /// Whether each of the records may stand behind those known before and those before it in this list. `first` says
-    /// that they are the area's first batch. Where they may, they are known from then on. After `false` and after the
-    /// only refusal, [`Refusal::NoMemory`], some of them may be known, so the rules are then to be let go.
+    /// Whether each of the records may stand after those known before and those before it in this list. `first` says
+    /// that they are the area's first batch. If they may, they are known from then on. After `false` and after the
+    /// only refusal, [`Refusal::NoMemory`], some of them may be known, so the rules are then to be dropped.
     pub fn admit(&mut self, first: bool, records: &[Record]) -> Result<bool, Refusal>
         ensures yes { IfOk result (λ ok. (earlier : List Record) → Knows self.old earlier → ok ≡ true
             → MayFollow first earlier records.now) }

@@ -1,4 +1,4 @@
-// Bytes as records and batches. Each reader takes its value from the front and hands back the bytes behind it.
+// Bytes as records and batches. Each reader takes its value from the front and hands back the bytes after it.
 // Nothing is read twice, and only the bytes that a record keeps are copied.
 ghost use Rattle.std.specs.Prelude.{◌≡◌, ◌≤◌, ℕ, List, length, IfOk, IfErr, IfSome, IfNone, Err};
 ghost use Rattle.std.specs.Int.{w16, w32, w64};

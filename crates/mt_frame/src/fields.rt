@@ -1,5 +1,5 @@
 // Numbers and bytes at the front of bytes. Each reader takes its value from the front and hands back
-// the bytes behind it.
+// the bytes after it.
 ghost use Rattle.std.specs.Prelude.{◌≡◌, length, IfOk, IfErr};
 ghost use Rattle.std.specs.Int.{w16, w32, w64};
 ghost use Rattle.mt_frame.specs.declared.fields.ReadError.TheVariants.{Memory, Wrong};

@@ -21,5 +21,5 @@ pub use encoders::{encode_batch, push_record};
 /// The gate of what is there to be read. A gate of any other value is closed.
 pub const OPEN_GATE: u8 = 0xA5;
 
-/// The closed gate that is written behind each batch.
+/// The closed gate that is written after each batch.
 pub const CLOSED_GATE: u8 = 0x00;

@@ -53,7 +53,7 @@ pub enum Record {
         old: Bytes,
         new: Bytes,
     },
-    /// The operation has ended. Where `undoes` is not 0, it is the inverse of the operation of that
+    /// The operation has ended. If `undoes` is not 0, it is the inverse of the operation of that
     /// number.
     OpEnd {
         txn: TxnNo,

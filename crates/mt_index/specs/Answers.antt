@@ -192,7 +192,7 @@ pub record MayTake (split : Bool) (key : List ℕ) (total : ℕ) (pages : PageBy
   pub within : q < total
   pub before : (n : ℕ) → n < q → kind pages n ≡ 0 → (split ≡ true) × MaySplit key (state_of pages) × IsSmallest (state_of pages) n
 
--- each of these only where the bucket has no room: the map of the space; the directory where it splits; a page
+-- each of these only if the bucket has no room: the map of the space; the directory where it splits; a page
 -- that it then takes
 abbrev pub IsDueInAdd : Bool → List ℕ → ℕ → PageBytes → ℕ → Mode → Type 0
 IsDueInAdd split key total pages p mode =

@@ -111,7 +111,7 @@ pub record Redirected (from to bit : ℕ) (old new : List ℕ) : Type 0 where
   pub rest : Torn 8 (2 * 2 ^ depth_in old) old new
   pub each : (i : ℕ) → i < 2 ^ depth_in old → pointer_at new i ≡ cond (pointer_at old i == from && high bit i) to (pointer_at old i)
 
--- doubled before, just where it goes by so many bits as the bucket
+-- doubled before, just if it goes by so many bits as the bucket
 pub record Rewired (from to bit : ℕ) (old new : List ℕ) : Type 0 where
   pub between : List ℕ
   pub first : ((bit ≡ depth_in old) × Doubled old between) ⊎ ((bit ≢ depth_in old) × (between ≡ old))

@@ -49,7 +49,7 @@ pub enum Add {
     Endless,
 }
 
-// Where in its bucket an entry goes: into a page with room, or behind the last page, which may be the only one.
+// Where in its bucket an entry goes: into a page with room, or after the last page, which may be the only one.
 pub(crate) enum Spot {
     Need(PageNo, Mode),
     In(PageNo),

@@ -47,7 +47,7 @@ fn parted(old: &[u8; PAGE_BYTES], spare: &[u8; PAGE_BYTES]) -> ([u8; PAGE_BYTES]
 }
 
 impl Halves {
-    // Puts an entry into the one half or the other, and answers true. Where that one is full it answers
+    // Puts an entry into the one half or the other, and answers true. If that one is full it answers
     // false, and they are as before.
     fn put(&mut self, upper: bool, relation: RelNo, key: &[u8], name: RecordName) -> bool
         requires relation_fits { relation < 256 }
@@ -62,7 +62,7 @@ impl Halves {
         }
     }
 
-    // Chains a page behind the one half or the other.
+    // Chains a page after the one half or the other.
     fn link(&mut self, upper: bool, overflow: PageNo)
         requires { overflow < PAGE_BYTES }
         ensures { Links upper overflow self.old self.new }

@@ -7,7 +7,7 @@ use crate::directory::{DIRECTORY_HEAD_BYTES, MAX_DEPTH, POINTER_BYTES};
 use mt_base::limits::PAGE_BYTES;
 
 /// Whether these 4,096 bytes are a directory page. It goes by at most 9 bits of a hash. The bytes between their
-/// number and the pointers are zero, and so are those behind the pointers. That each pointer names a bucket is no
+/// number and the pointers are zero, and so are those after the pointers. That each pointer names a bucket is no
 /// matter of this page alone.
 pub fn check_directory(page: &[u8]) -> bool
     requires whole { length page.now ≡ PAGE_BYTES }

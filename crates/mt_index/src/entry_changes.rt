@@ -15,7 +15,7 @@ use mt_space::Pages;
 use std::alloc::{AllocError, Global};
 
 /// The changes that give the record under a relation and a key another name: of one page of its bucket, by
-/// that entry alone. Where there is no such record, nothing is to change. The directory is needed for read, pages of
+/// that entry alone. If there is no such record, nothing is to change. The directory is needed for read, pages of
 /// the bucket for write. The only error is want of memory.
 pub fn plan_set<V: Pages>(
     alloc: Global,
@@ -55,7 +55,7 @@ pub fn plan_set<V: Pages>(
 }
 
 /// The changes that take the entry of a relation and a key out: of one page of its bucket, by that entry
-/// alone. Where there is no such record, nothing is to change. The directory is needed for read, pages of the
+/// alone. If there is no such record, nothing is to change. The directory is needed for read, pages of the
 /// bucket for write. The only error is want of memory.
 pub fn plan_drop<V: Pages>(
     alloc: Global,

@@ -40,7 +40,7 @@ pub(crate) fn plan_put<V: Pages>(
     Ok(Add::Changes(change_of(alloc, page, old, &new)?))
 }
 
-// Chains an overflow page with the entry behind the last page of its bucket.
+// Chains an overflow page with the entry after the last page of its bucket.
 pub(crate) fn plan_chain<V: Pages>(
     alloc: Global,
     views: &V,

@@ -68,7 +68,7 @@ fn unsettled_from(
     find_misplaced(alloc, pages, page)
 }
 
-// A page of this bucket with an entry that belongs elsewhere, or whose key stands behind it too.
+// A page of this bucket with an entry that belongs elsewhere, or whose key stands after it too.
 fn find_misplaced(
     alloc: Global,
     pages: &[[u8; 4096]],

@@ -16,7 +16,7 @@ use mt_base::limits::PAGE_BYTES;
 use mt_space::pages::{BUCKET, DIRECTORY, FIXED, MAP};
 use std::alloc::{AllocError, Global};
 
-/// Reads any pages, all of a device of a schema of so many relations. `None` where they are an index, each byte of
+/// Reads any pages, all of a device of a schema of so many relations. `None` if they are an index, each byte of
 /// the directory and of the bucket pages as it has to be. Else it is a page that breaks a rule.
 ///
 /// Each bucket page stands once in one chain. A bucket is named by just the pointers of its pattern, and holds keys

@@ -12,7 +12,7 @@ pub fn a_formatted_index_is_the_empty_map()
     ensures { BeginsEmpty }
 {}
 
-/// Where other layers change their own pages, the index stays the same map, and well formed: each bucket page stands in
+/// If other layers change their own pages, the index stays the same map, and well formed: each bucket page stands in
 /// a chain as before.
 pub fn other_changes_keep_the_map()
     ensures map { KeepsMap }

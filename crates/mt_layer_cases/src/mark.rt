@@ -27,7 +27,7 @@ fn look_apart<R: Threads>(rt: &R, seat: &mut Seat) -> u64 {
     seen
 }
 
-/// Another pass looks, in another thread, between the name of this pass's entry and its exchange, and behind it.
+/// Another pass looks, in another thread, between the name of this pass's entry and its exchange, and after it.
 fn seen_by_another<R: Threads + Abort>(
     rt: &R,
     end: &mut End,

@@ -32,7 +32,7 @@ fn fill(page: &mut [u8; 4096]) -> [Option<u16>; 3]
 // The slots of those that fill an empty page.
 const FILLED: [Option<u16>; 3] = [Some(0), Some(1), Some(2)];
 
-// A page that they fill, and the room that was there before and behind it.
+// A page that they fill, and the room that was there before and after it.
 fn filled() -> ([u8; 4096], [Option<u16>; 3], [u16; 2])
     ensures { IsShaped result.0 }
 {
@@ -65,7 +65,7 @@ fn remove_second(page: &mut [u8; 4096]) -> bool
     true
 }
 
-// Puts a record into the slot that is empty: which one, and the room and how many are live before and behind it.
+// Puts a record into the slot that is empty: which one, and the room and how many are live before and after it.
 fn fill_again(page: &mut [u8; 4096]) -> (Option<u16>, [u16; 4])
     requires { IsShaped page.old }
     ensures { IsShaped page.new }

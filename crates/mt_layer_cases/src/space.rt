@@ -19,7 +19,7 @@ fn three_claims(space: &mut Space) -> [Result<(), Refusal>; 3] {
 }
 
 /// Takes two pages, puts the first back and takes again: which pages these are, and how many were free and reserved
-/// behind the first two.
+/// after the first two.
 fn three_takes(space: &mut Space) -> [u16; 5] {
     if space.reserved() < 3 {
         return [0; 5];

@@ -20,7 +20,7 @@ pub record IsAlone (s : State) (t session : ℕ) (cs : List Call) : Type 0 where
   pub calls_are : calls (kept (only t) s.standing) ≡ cs
   pub idle : s.running t ≡ None
 
--- where nobody lives, one that begins is alone
+-- where no transaction is active, one that begins is alone
 abbrev pub BeginsAlone : Type 0
 BeginsAlone = (b : Base) (s : State) (session : ℕ) → IsKept b s → NobodyLives s → IsAlone (begun s session) s.next session []
 
@@ -46,6 +46,6 @@ AloneCommits =
     (s : State) (t session : ℕ) (cs : List Call) → IsAlone s t session cs
     → ((booked s t session).book ≡ s.book ++ record { session = session; calls = cs } ∷ []) × NobodyLives (booked s t session)
 
--- and without it nobody lives
+-- and without it no transaction is active
 abbrev pub AloneLeaves : Type 0
 AloneLeaves = (s : State) (t session : ℕ) (cs : List Call) → IsAlone s t session cs → ((gone s t).book ≡ s.book) × NobodyLives (gone s t)

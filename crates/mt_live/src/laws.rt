@@ -28,7 +28,7 @@ pub fn drop_keeps()
     ensures given_back { GivingBackKeeps }
 {}
 
-/// A commit moves its transaction's entries behind the book, whatever others did in between. The book stays legal,
+/// A commit moves its transaction's entries after the book, whatever others did in between. The book stays legal,
 /// and what stands is explained on the base that it leaves. That base's counters move by what the transaction had
 /// pending.
 pub fn commit_keeps()
@@ -42,7 +42,7 @@ pub fn inverse_keeps()
     ensures { InverseKeeps }
 {}
 
-/// Where nothing is left to undo, a transaction leaves no trace. What stands is the list without it, on the same
+/// If nothing is left to undo, a transaction leaves no trace. What stands is the list without it, on the same
 /// book, and the held base is that of a run without it.
 pub fn abort_keeps()
     ensures kept { AbortKeeps }
@@ -71,7 +71,7 @@ pub fn every_schedule_is_right()
     ensures schedule { EveryScheduleIsRight }
 {}
 
-/// Where nothing stands, the held base is what the book leaves. Where nobody is live, nothing stands, no add is
+/// If nothing stands, the held base is what the book leaves. If nobody is live, nothing stands, no add is
 /// pending, and no lock is held.
 pub fn an_empty_kernel_holds_its_book()
     ensures base { EmptyHoldsBook }
@@ -79,8 +79,8 @@ pub fn an_empty_kernel_holds_its_book()
 {}
 
 /// A transaction that lives alone acts as the model: nobody is in its way. Each of its operations replies as on the
-/// base that the book and its calls before leave. Its commit puts just these calls behind the book, and when it is
-/// gone nobody lives.
+/// base that the book and its calls before leave. Its commit puts just these calls after the book, and when it is
+/// gone no transaction is active.
 pub fn one_alone_acts_as_the_model()
     ensures begins { BeginsAlone }
     ensures holds { AloneHolds }

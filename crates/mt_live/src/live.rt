@@ -59,7 +59,7 @@ impl Model for Live {
 }
 
 // A place before which the transaction of a number is not: as many as numbers lie between it and the last can stand
-// behind it.
+// after it.
 fn first_place(transactions: &[Transaction], txn: TxnNo) -> usize
     requires { AreInOrder transactions.now }
     ensures within { result ≤ length transactions.now }
@@ -189,7 +189,7 @@ impl Live {
         self.transactions[place].set_state(state);
     }
 
-    /// Makes room for one [`Live::note`] of a live transaction. Where there is room already, it stays.
+    /// Makes room for one [`Live::note`] of a live transaction. If there is room already, it stays.
     ///
     /// Refused 1 for want of memory; nothing has changed then.
     pub fn room(&mut self, txn: TxnNo) -> Result<(), Refusal>
@@ -208,7 +208,7 @@ impl Live {
         Ok(())
     }
 
-    /// The operation of this number, of a live transaction, has ended with this reply: it stands behind all
+    /// The operation of this number, of a live transaction, has ended with this reply: it stands after all
     /// others. Its number is above those of the transaction's others. It takes the room that [`Live::room`]
     /// made, and no memory.
     pub fn note(&mut self, txn: TxnNo, operation: OpNo, op: Op, reply: Reply)
@@ -242,7 +242,7 @@ impl Live {
     }
 
     /// The inverse of [`Live::last_to_undo`] has ended. Neither that operation stands any more, nor the transaction's
-    /// later ones, which did nothing but may have seen what is undone. Where there is nothing to undo, nothing
+    /// later ones, which did nothing but may have seen what is undone. If there is nothing to undo, nothing
     /// changes. It takes no memory.
     pub fn undone(&mut self, txn: TxnNo)
         requires { is_member self.old.members txn ≡ true }

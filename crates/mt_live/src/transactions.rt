@@ -114,7 +114,7 @@ impl Transaction {
         Ok(())
     }
 
-    /// Puts a call behind the others, in the room that was made for it.
+    /// Puts a call after the others, in the room that was made for it.
     pub fn note(&mut self, operation: OpNo, op: Op, reply: Reply)
         requires { self.old.has_room ≡ true }
         ensures { self.new ≡ with_call self.old operation (op, reply) }

@@ -21,7 +21,7 @@ StandsOn seen may_leave base k = ∥ ((s : State) × Shows seen may_leave (base_
 abbrev pub BeganOn : {D : Type 0} → {g : Ghosts D} → (D → List ℕ) → (D → List ℕ → Type 0) → Base → Kernel D g → Type 0
 BeganOn seen may_leave base k = StandsOn seen may_leave base k × Restarts seen may_leave (base_of base) k
 
--- no transaction lives in it, and it holds no lock, neither of an object nor of a page
+-- no transaction is active in it, and it holds no lock, neither of an object nor of a page
 pub record IsIdle {D : Type 0} {g : Ghosts D} (k : Kernel D g) : Type 0 where
   pub nobody : HasNobody k
   pub objects : (t : ℕ) (x : Object) (m : LockMode) → held_of k.core.locks t x m ≡ false

@@ -54,7 +54,7 @@ impl<D: Device> Based<D> {
         kernel
     }
 
-    // The kernel, if it has failed or nobody lives in it; or all as it was.
+    // The kernel, if it has failed or no transaction is active in it; or all as it was.
     pub(crate) fn into_idle(self) -> Result<Kernel<D>, Based<D>>
         ensures began { IfOk result (BeganOn D.seen D.may_leave self.base) }
         ensures book { IfOk result (λ k. k.core.book.items ≡ self.book) }
@@ -137,7 +137,7 @@ impl<D: Device> Based<D> {
     }
 }
 
-// Whether a kernel has failed, or nobody lives in it.
+// Whether a kernel has failed, or no transaction is active in it.
 fn has_ended<D: Device>(kernel: &Kernel<D>) -> bool
     ensures { IsTrue result → is_failed kernel.now ≡ false → HasNobody kernel.now }
 {

@@ -60,7 +60,7 @@ impl<D: Device> Kept<D> {
         }
     }
 
-    // The kernel, if it has failed or nobody lives in it; or all as it was.
+    // The kernel, if it has failed or no transaction is active in it; or all as it was.
     pub(crate) fn into_idle(self) -> Result<Kernel<D>, Kept<D>>
         ensures began { IfOk result (BeganOn D.seen D.may_leave self.base) }
         ensures book { IfOk result (λ k. k.core.book.items ≡ self.book) }
@@ -213,7 +213,7 @@ impl<D: Device> Kept<D> {
 }
 
 impl<D: Device + Drop> Kept<D> {
-    // Turns the log over, where so many commits are all and no transaction lives; whether it did.
+    // Turns the log over, where so many commits are all and no transaction is active; whether it did.
     pub(crate) fn rotate(
         &mut self,
         commits: u64,
@@ -229,7 +229,7 @@ impl<D: Device + Drop> Kept<D> {
     }
 }
 
-// What is kept behind that, and whether it did.
+// What is kept after that, and whether it did.
 fn turn_kept<D: Device + Drop>(
     kept: Kept<D>,
     at: (u64, Global, usize),

@@ -144,8 +144,8 @@ impl<D: Device, J: Naming> Locked<D, J> {
         self.kernel.len() < self.appended
     }
 
-    /// Whether who commits at this place makes force steps: it is the next to be entered, and not in the book yet. Where the
-    /// device has failed, that is how it is reported.
+    /// Whether who commits at this place makes force steps: it is the next to be entered, and not in the book yet. If
+    /// the device has failed, that is how it is reported.
     pub fn is_to_force(&mut self, place: u64) -> bool
         ensures { self.new ≡ self.old }
     {
@@ -401,8 +401,8 @@ impl<D: Device, J: Naming> Locked<D, J> {
 }
 
 impl<D: Device + Drop, J: Naming> Locked<D, J> {
-    /// Turns the log over if each transaction of the book is entered and none lives; whether it did. Unless it was too
-    /// early for that, who tends is not to turn it over before a further transaction has ended.
+    /// Turns the log over if each transaction of the book is entered and no transaction is active; whether it did.
+    /// Unless it was too early for that, who tends is not to turn it over before a further transaction has ended.
     pub fn rotate(&mut self, alloc: Global, frames: usize) -> Result<bool, Refusal>
         ensures why { IfErr result IsTurnFault }
         ensures did { result ≡ Ok true → HasTurned ⟦<D as Device>⟧ J.base }

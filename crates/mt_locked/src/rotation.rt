@@ -50,7 +50,7 @@ fn has_just<D: Device>(kernel: &Based<D>, commits: u64) -> bool
     kernel.book().len() as u64 == commits
 }
 
-// Turns a kernel's log over, where its book has so many commits, and no transaction lives.
+// Turns a kernel's log over, where its book has so many commits, and no transaction is active.
 pub(crate) fn turn<D: Device + Drop>(
     kernel: Based<D>,
     commits: u64,

@@ -11,7 +11,7 @@ use Rattle.mt_log.specs.declared.stage.Step.TheVariants.{WriteBody, SyncBody, Wr
 use Rattle.mt_log.specs.declared.stage.Stage.{Stage}
 use Rattle.mt_log.specs.declared.stage.Stage.TheVariants.{Idle, Forcing, Failed}
 
--- behind the gate at `next` stand the batch's length and body, and behind them a closed gate
+-- after the gate at `next` stand the batch's length and body, and after them a closed gate
 abbrev pub Body : List ℕ → ℕ → List Record → Type 0
 Body c next batch = Has c (next + 1) (framed batch ++ 0 ∷ [])
 

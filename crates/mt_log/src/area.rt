@@ -8,7 +8,7 @@ ghost use Rattle.mt_log.specs.Masters.{area_end, area_start};
 use mt_base::limits::{MASTER_BYTES, area_bytes};
 use mt_frame::MasterSlot;
 
-/// Where a log area lies on its device: from its first byte to the one behind its last.
+/// Where a log area lies on its device: from its first byte to the one after its last.
 #[derive(Clone, Copy, Debug)]
 pub struct AreaPlace {
     pub start: u64,

@@ -26,7 +26,7 @@ fn number_of(bytes: &[u8]) -> u32
     u32::from_be_bytes([bytes[0], bytes[1], bytes[2], bytes[3]])
 }
 
-// The length of the body of the batch whose gate stands here. `None` where the gate behind the body would not lie
+// The length of the body of the batch whose gate stands here. `None` if the gate after the body would not lie
 // within the area.
 pub(crate) fn body_length<D: Device>(
     device: &mut D,

@@ -1,4 +1,4 @@
-// The beginning of an area: an empty first batch, forced as any other behind a gate that is closed.
+// The beginning of an area: an empty first batch, forced as any other after a gate that is closed.
 ghost use Rattle.std.specs.Prelude.{◌≡◌, ◌⊎◌, ◌+◌, ◌-◌, ◌<◌, ◌≤◌, ◌^◌, ◌++◌, ◌∷◌, [], ℕ, List, false, length, vec_capacity, IfOk, IfErr, IsErrOf, OnOk};
 ghost use Rattle.std.specs.List.{AllByRecursion};
 ghost use Rattle.mt_base.specs.declared.refusal.Refusal.{Refusal};
@@ -23,7 +23,7 @@ use mt_disk::Device;
 use mt_frame::{CLOSED_GATE, Record};
 use std::alloc::Global;
 
-// What a force of these records writes behind the gate, and the records as a batch.
+// What a force of these records writes after the gate, and the records as a batch.
 fn first_batch(alloc: Global, records: &[Record]) -> Result<(Vec<u8>, History<Record>), Refusal>
     requires grammar { AllByRecursion IsRecord records.now }
     requires short { 5 + length (body_text records.now) < 2 ^ 32 }
@@ -81,7 +81,7 @@ fn force_all<D: Device>(log: &mut Log, device: &mut D) -> Result<(), Refusal>
 }
 
 /// Begins an area anew with the batch that [`prepare_area`] made ready, and answers its log. The area may hold
-/// anything before. Its first gate is closed and synced. Then the batch is written with a closed gate behind it and
+/// anything before. Its first gate is closed and synced. Then the batch is written with a closed gate after it and
 /// synced. Then the gate is opened and synced. Until the first sync a crash may leave any byte as the first gate, and
 /// the rest as it was. Until the last one it leaves a gate that is closed, or the batch; from then on the batch.
 ///

@@ -1,4 +1,4 @@
-// A force makes four device calls: the batch's length, its body and a closed gate behind it; a sync;
+// A force makes four device calls: the batch's length, its body and a closed gate after it; a sync;
 // the open gate; a sync. So no open gate ever stands before a body that a crash may take away.
 ghost use Rattle.std.specs.Prelude.{◌≡◌, ◌⊎◌, ◌+◌, ◌*◌, ◌<◌, ◌≤◌, ◌^◌, ◌++◌, ◌∷◌, [], ◌↔◌, ℕ, true, false, length, drop, vec_len, vec_capacity, IfOk, IfErr, OnErr, IsOk, IsErr};
 ghost use Rattle.std.specs.Int.{w32, to_be_bytes};
@@ -17,7 +17,7 @@ use mt_frame::{CLOSED_GATE, OPEN_GATE};
 /// The most force steps until all that was appended is durable: of a force that is under way, and of the next one.
 pub const FORCE_STEPS: usize = 8;
 
-// Puts the body's length before the body, and a closed gate behind it.
+// Puts the body's length before the body, and a closed gate after it.
 pub(crate) fn close_text(text: &mut Vec<u8>)
     requires head { 4 ≤ vec_len text.old }
     requires short { vec_len text.old < 2 ^ 32 }
@@ -150,7 +150,7 @@ impl Log {
         // No call at all where the device has failed before, nor where every record is durable.
         ensures failed_still { has_failed self.old ≡ true → device.new ≡ device.old }
         ensures idle_still { calls_left self.old ≡ 0 → waiting self.old ≡ [] → device.new ≡ device.old }
-        // The last call of a force is a sync: a crash behind it leaves what is there.
+        // The last call of a force is a sync: a crash after it leaves what is there.
         ensures alone { IfOk result (λ forced. IsLast forced → Only (D.seen device.new) (D.may_leave device.new)) }
         // At most one device call, within the area, for what others keep on the device.
         ensures time { Elapses (D.moment device.old) (D.moment device.new) (D.left_since device.old)

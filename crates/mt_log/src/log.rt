@@ -34,7 +34,7 @@ pub struct Log {
     pub(crate) place: AreaPlace,
     /// The gate of the batch that is being forced, or of the next one.
     pub(crate) next: u64,
-    /// The gate behind that batch.
+    /// The gate after that batch.
     pub(crate) behind: u64,
     pub(crate) stage: Stage,
     /// Four bytes, and the texts of the records that wait.
@@ -62,7 +62,7 @@ pub struct Log {
     ghost under_way: { (stage ≡ Idle → ⊥) → IsUnderWay next behind flight.items in_flight.items },
 }
 
-// Four bytes for a length, with room for a gate behind them.
+// Four bytes for a length, with room for a gate after them.
 pub(crate) fn head_alone(alloc: Global) -> Result<Vec<u8>, AllocError>
     ensures len { IfOk result (λ text. vec_len text ≡ 4) }
     ensures capacity { IfOk result (λ text. 5 ≤ vec_capacity text) }
@@ -72,7 +72,7 @@ pub(crate) fn head_alone(alloc: Global) -> Result<Vec<u8>, AllocError>
     Ok(text)
 }
 
-// Puts a record's text behind the others, and keeps room for a gate behind it.
+// Puts a record's text after the others, and keeps room for a gate after it.
 pub(crate) fn push_text(text: &mut Vec<u8>, entry: &Record) -> Result<(), AllocError>
     requires { IsRecord entry.now }
     ensures { PushesText text.old text.new entry.now result }
@@ -184,7 +184,7 @@ impl Log {
         ensures calls { calls_left self.new ≡ calls_left self.old }
         ensures failed { has_failed self.new ≡ has_failed self.old }
         ensures stands { stands_at self.new ≡ stands_at self.old }
-        // A record that may stand behind the others leaves a log whose records break no rule one.
+        // A record that may stand after the others leaves a log whose records break no rule one.
         ensures sound { (pages : ℕ) → IsSound pages self.old → HasItsPage pages entry
             → may_stand false (appended self.old) entry ≡ true → IsSound pages self.new }
         ensures room { 0 < record_length entry → record_length entry ≤ room self.old → IsOk result }

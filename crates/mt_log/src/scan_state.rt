@@ -51,7 +51,7 @@ fn have_their_pages(records: &[Record], pages: u16) -> bool
     true
 }
 
-// The records that the body is a row of, where they may stand behind those that are known; they
+// The records that the body is a row of, where they may stand after those that are known; they
 // are known then.
 fn admitted(
     alloc: Global,

@@ -53,7 +53,7 @@ fn close_beside<D: Device>(device: &mut D, at: u64, other: u64) -> Result<(), De
     write_durably(device, at, &[CLOSED_GATE])
 }
 
-// Has the next slot rule at `at`, where the gate is closed, beside the slot that rules at `other`. Writes it behind the
+// Has the next slot rule at `at`, where the gate is closed, beside the slot that rules at `other`. Writes it after the
 // gate, and then opens the gate.
 fn open_beside<D: Device>(
     device: &mut D,
@@ -92,7 +92,7 @@ fn rule_beside<D: Device>(
 
 /// Has the next master slot rule in place of this one: one opening later, over the other log area.
 ///
-/// It closes the gate beside the ruling slot where that gate is open, and syncs. It writes the slot behind the gate,
+/// It closes the gate beside the ruling slot where that gate is open, and syncs. It writes the slot after the gate,
 /// and syncs; then it opens the gate, and syncs. It never writes a closed gate before that gate's slot.
 ///
 /// A crash in this call leaves a device on which one of the two slots rules. Once it has answered, the next one rules.

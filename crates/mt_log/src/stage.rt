@@ -1,6 +1,6 @@
 // How far the force of a batch has come.
 
-/// The device call that comes next in a force: the body with a closed gate behind it, a sync, the
+/// The device call that comes next in a force: the body with a closed gate after it, a sync, the
 /// open gate, a sync.
 #[derive(Clone, Copy)]
 pub enum Step {

@@ -246,7 +246,7 @@ impl End {
         self.hear(seat); // it has seen the whole list, so all of it is counted
     }
 
-    /// Answers where the mark stands. All behind the book that stood when it was made are entries of its passes.
+    /// Answers where the mark stands. All after the book that stood when it was made are entries of its passes.
     pub fn check(&mut self) -> u64
         requires confirmed { IsConfirmed self.old.view }
         ensures same { self.new ≡ self.old }

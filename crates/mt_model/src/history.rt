@@ -59,7 +59,7 @@ impl Calls {
         self.list.len()
     }
 
-    /// Puts a call behind the others. The only error is want of memory; the calls are then as
+    /// Puts a call after the others. The only error is want of memory; the calls are then as
     /// before.
     pub fn push(&mut self, op: Op, reply: Reply) -> Result<(), AllocError>
         ensures ok { OnOk result (self.new ≡ self.old ++ (op, reply) ∷ []) }

@@ -40,13 +40,13 @@ pub fn acted_is_alone()
     ensures base { RunIsAlone }
 {}
 
-/// Transactions behind others are legal if and only if the others are, and they themselves from the
+/// Transactions after others are legal if and only if the others are, and they themselves from the
 /// base that the others leave.
 pub fn legal_appends()
     ensures { LegalAppends }
 {}
 
-/// The base that transactions behind others leave is theirs from the base that the others leave.
+/// The base that transactions after others leave is theirs from the base that the others leave.
 pub fn after_appends()
     ensures { AfterAppends }
 {}

@@ -180,8 +180,8 @@ IsMisled s = (p : ℕ) → s.room ≡ Some p → fits_of (looked_bytes s p) < re
 abbrev pub KeepsRoom : OpScope → OpScope → Type 0
 KeepsRoom s t = (t.room ≡ s.room) ⊎ (((s.room ≡ None) × ((p : ℕ) → t.room ≡ Some p → looked s p ≡ None)) ⊎ ((t.room ≡ None) × IsMisled s))
 
--- It stays where it waits; where it begins anew it is as at its beginning. Where it needs a frame or is refused it
--- stays, unless its plan was made in this step. It forgets the page that it was led to only where that does not take its
+-- It stays where it waits; where it begins anew it is as at its beginning. If it needs a frame or is refused it
+-- stays, unless its plan was made in this step. It forgets the page that it was led to only if that does not take its
 -- record.
 abbrev pub KeepsScope : OpScope → OpScope → Result Stepped Refusal → Type 0
 KeepsScope s t (Ok stepped.Went) = KeepsRoom s t

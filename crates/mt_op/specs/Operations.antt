@@ -98,7 +98,7 @@ pub record Goes (relations counters : ℕ) (w z : World) (s t : OpScope) : Type 
   pub same : SameOp s t
 
 -- The operation acts once on the base that the pages hold, whatever the others have half done, with this reply, whose
--- value is within its limit; pages are taken only where it needs one, and its record goes into the page that it was led
+-- value is within its limit; pages are taken only if it needs one, and its record goes into the page that it was led
 -- to, or into a free one where it was led to none; and nothing but its end is appended.
 pub record Acts (relations counters : ℕ) (w z : World) (s t : OpScope) (reply : Reply) : Type 0 where
   pub own : IsUnderWay relations counters z t

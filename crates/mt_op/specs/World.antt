@@ -76,7 +76,7 @@ HasNothing w s = by s.number (unfinished_in w) ≡ []
 abbrev pub HasWritten : World → OpScope → Type 0
 HasWritten w s = by s.number (unfinished_in w) ≡ changes_of s.number (take s.written (changes_in s)) (looked_bytes s)
 
--- Its changes are one act on whatever good pages agree with those that it looked at, and take pages only where it needs
+-- Its changes are one act on whatever good pages agree with those that it looked at, and take pages only if it needs
 -- one, for its record none but the page that it was led to; it has looked at each page
 -- that changes, and locked it to write.
 pub record HasPlan (relations counters : ℕ) (s : OpScope) : Type 0 where

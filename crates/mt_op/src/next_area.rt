@@ -79,7 +79,7 @@ impl Idle {
 impl<D: Device> Operations<D> {
     /// The store, and what operations keep beside it, to be joined to a store over the same pages. It takes no memory.
     ///
-    /// Where none is under way the pages held are those that the store shows, and what is kept fits them.
+    /// If none is under way the pages held are those that the store shows, and what is kept fits them.
     pub fn part(self) -> (Store<D>, Idle)
         ensures store { result.0 ≡ self.store }
         ensures locks { result.1.locks ≡ self.locks }

@@ -56,7 +56,7 @@ pub struct NotOpened<D: Device> {
     pub store: Store<D>,
 }
 
-/// The store is let go.
+/// The store is dropped.
 impl<D: Device + Drop> From<NotOpened<D>> for Refusal {
     ghost from_gives = { λ gone refusal. refusal ≡ gone.refusal };
 
@@ -143,7 +143,7 @@ impl<D: Device + Drop> Operations<D> {
 
 impl<D: Device> Operations<D> {
     /// Begins an operation, with a number that no other has, of a transaction that has no other under way. `undoes`
-    /// is the number of the operation that it takes back, or 0. An insert splits a bucket of the index only where
+    /// is the number of the operation that it takes back, or 0. An insert splits a bucket of the index only if
     /// `split` is set. It holds no page lock, and no page has been looked at. The only refusal is
     /// [`Refusal::NoMemory`].
     pub fn begin_op(

@@ -20,7 +20,7 @@ use mt_pool::Fetched;
 use std::mem::replace;
 
 impl<D: Device> Operations<D> {
-    // Brings a page into a frame; `false` where every frame holds a page that is yet to be flushed.
+    // Brings a page into a frame; `false` if every frame holds a page that is yet to be flushed.
     pub(crate) fn bring(&mut self, page: PageNo) -> Result<bool, Refusal>
         requires kept { HasOpening D.seen D.may_leave self.old.store }
         requires inside { page < pages self.old.store.pool }
@@ -33,7 +33,7 @@ impl<D: Device> Operations<D> {
         }
     }
 
-    // Asks for a page lock, with room for its guard made before. Where it is not to be had and a smaller
+    // Asks for a page lock, with room for its guard made before. If it is not to be had and a smaller
     // operation holds one in the way, all locks are given back.
     pub(crate) fn hold(
         &mut self,

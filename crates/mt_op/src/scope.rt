@@ -24,7 +24,7 @@ pub enum Stage {
 
 /// An operation under way, with its page locks and copies of the pages that it looked at.
 ///
-/// It cannot be let go: it is spent by [`Operations::end`](crate::Operations::end) or
+/// It cannot be dropped: it is spent by [`Operations::end`](crate::Operations::end) or
 /// [`Operations::drop_out`](crate::Operations::drop_out), or with everything else by
 /// [`Operations::into_device`](crate::Operations::into_device).
 pub struct OpScope {
@@ -100,7 +100,7 @@ impl OpScope {
         self.left
     }
 
-    // Its guards, and its copies of the pages that it looked at. The rest of it is let go.
+    // Its guards, and its copies of the pages that it looked at. The rest of it is dropped.
     pub(crate) fn into_guards_and_copies(self) -> (Vec<PageGuard>, Copies)
         ensures { result ≡ (self.guards, self.seen) }
     {

@@ -51,7 +51,7 @@ impl SpaceMap {
         }
     }
 
-    // Makes the changes that are of the map; `false` where none is.
+    // Makes the changes that are of the map; `false` if none is.
     fn follow(&mut self, changes: &Changes) -> bool
         requires short { ∥ ((pages : PageBytes) × (pages 0 ≡ self.old.kinds.value) × AreShort changes.now.list.items pages
             × (length self.old.kinds.value ≡ PAGE_BYTES)) ∥₁ }

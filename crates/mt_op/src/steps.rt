@@ -88,7 +88,7 @@ impl<D: Device> Operations<D> {
             self.new.locks result }
         ensures scope { KeepsScope scope.old scope.new result }
         ensures writing { scope.old.stage ≡ Writing → self.new.locks ≡ self.old.locks }
-        // Where the plan is made, a page more is written then.
+        // If the plan is made, a page more is written then.
         ensures went { scope.old.stage ≡ Writing → result ≡ Ok stepped.Went
             → scope.new.written ≡ scope.old.written + 1 }
         ensures why { IfErr result IsCause }
@@ -145,7 +145,7 @@ impl<D: Device> Operations<D> {
         }
     }
 
-    // Locks the page that a plan needs. Where a new page is due for a record, a page with room that nobody has locked
+    // Locks the page that a plan needs. If a new page is due for a record, a page with room that nobody has locked
     // comes first.
     fn lock_next(
         &mut self,

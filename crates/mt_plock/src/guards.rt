@@ -12,7 +12,7 @@ pub struct PageLock {
     pub mode: Mode,
 }
 
-/// A lock that was granted, in the hands of the operation that holds it. It cannot be let go: it is
+/// A lock that was granted, in the hands of the operation that holds it. It cannot be dropped: it is
 /// spent by [`PageLocks::release`](crate::PageLocks::release) or
 /// [`PageLocks::release_all`](crate::PageLocks::release_all). Contracts see its lock.
 #[derive(Debug)]

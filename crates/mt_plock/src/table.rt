@@ -91,7 +91,7 @@ impl PageLocks {
         least
     }
 
-    /// Asks for a lock. Where no other operation holds the page in a mode that does not agree, it is granted, and is
+    /// Asks for a lock. If no other operation holds the page in a mode that does not agree, it is granted, and is
     /// the last of the locks. So a read becomes a write where the operation is the only holder. Else the answer names
     /// the smallest such holder. It is to wait for it if it is larger than the asker, as all of them are then, and
     /// otherwise to begin again. Both leave the table as it was.
@@ -130,7 +130,7 @@ impl PageLocks {
         }
     }
 
-    /// Gives these locks back, the last of them first, and no others. Where they are all the locks of
+    /// Gives these locks back, the last of them first, and no others. If they are all the locks of
     /// one operation, in order of grant, those of the others stay. It takes no memory.
     pub fn release_all(&mut self, mut guards: Vec<PageGuard>)
         ensures gone { GivesBackEach guards.items self.old self.new }

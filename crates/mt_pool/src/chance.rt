@@ -6,7 +6,7 @@ use crate::Pool;
 /// What the hand came to in some of the frames.
 enum Passed {
     /// This frame, whose page is not to be flushed, and was not used since the hand passed it. The hand
-    /// stands behind it.
+    /// stands after it.
     Unused(usize),
     /// None such; this is the last one whose page is not to be flushed.
     Used(usize),
@@ -42,7 +42,7 @@ impl Pool {
     }
 
     /// A frame without a page yet to be flushed. It is the first from the hand on that was not used since the hand
-    /// passed it, else the last of them. `None` where there is none.
+    /// passed it, else the last of them. `None` if there is none.
     pub(crate) fn victim(&mut self) -> Option<usize>
         requires pool { IsPool self.old }
         ensures some { IfSome result (IsClean self.old) }

@@ -5,7 +5,7 @@ use mt_disk::Device;
 
 /// A law, while the images of the log are right, and a slot without a durable image is as at the opening. Each
 /// content that a crash may leave gives every page as at the opening. It does so together with the durable records
-/// and any part of those behind them. A slot whose page has a durable image may be torn.
+/// and any part of those after them. A slot whose page has a durable image may be torn.
 pub fn a_crash_gives_the_pages<D: Device>()
     ensures { CrashGivesPages D.may_leave }
 {}

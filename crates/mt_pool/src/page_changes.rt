@@ -91,7 +91,7 @@ impl Pool {
         Ok(None)
     }
 
-    /// What is to be logged of a change of a page in a frame. The page is copied once, to know its bytes behind
+    /// What is to be logged of a change of a page in a frame. The page is copied once, to know its bytes after
     /// the change.
     pub(crate) fn prepare(
         &self,

@@ -1,4 +1,4 @@
-// The slots of the pages on the device, 4096 bytes each, one behind the other.
+// The slots of the pages on the device, 4096 bytes each, one after the other.
 ghost use Rattle.std.specs.Prelude.{◌≡◌, ◌+◌, ◌*◌, ◌<◌, ◌≤◌, ◌^◌, length};
 ghost use Rattle.mt_base.specs.declared.limits.TheConstants.{PAGE_BYTES};
 ghost use Rattle.mt_pool.specs.Slots.{ReadsSlot, WritesSlot};

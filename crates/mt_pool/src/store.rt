@@ -48,7 +48,7 @@ pub struct NotBegun<D: Device> {
     pub device: D,
 }
 
-/// The device is let go.
+/// The device is dropped.
 impl<D: Device + Drop> From<NotBegun<D>> for Refusal {
     ghost from_gives = { λ gone refusal. refusal ≡ gone.refusal };
 

@@ -21,13 +21,13 @@ pub record Takes (total bytes : ℕ) (pages : PageBytes) (p : ℕ) : Type 0 wher
   pub records : kind pages p ≡ 3
   pub fits : bytes ≤ fits_of (pages p)
 
--- such a page, and none only where there is none
+-- such a page, and none only if there is none
 abbrev pub IsRoom : ℕ → ℕ → PageBytes → Option ℕ → Type 0
 IsRoom total bytes pages (Some p) = Takes total bytes pages p
 IsRoom total bytes pages None = 1 ≤ bytes → (p : ℕ) → Takes total bytes pages p → ⊥
 
 -- The inverse of what is logged is one act on these pages, which finds there what the record says. Its record goes into a
--- page of records with room, and into a new one only where no page has room. It splits no bucket, and gives the page back
+-- page of records with room, and into a new one only if no page has room. It splits no bucket, and gives the page back
 -- that it leaves without a record.
 pub record UndoesOne (relations counters total : ℕ) (before : PageBytes) (done : LoggedOp) (after : PageBytes) : Type 0 where
   pub replies : (b : Base) → Holds before b → reply_of b (undo_of done) ≡ reply_back done

@@ -1,4 +1,4 @@
-// From the bytes of a device to the pages that they stand for.
+// From the bytes of a device to the pages that they represent.
 ghost use Rattle.std.specs.Prelude.{◌≡◌, ◌⊎◌, ◌<◌, ◌≤◌, ℕ, List, ◌^◌, length, IfOk, IfErr, Err};
 ghost use Rattle.mt_base.specs.declared.limits.TheConstants.{MAX_PAGES};
 ghost use Rattle.mt_base.specs.declared.refusal.Refusal.{Refusal};
@@ -90,14 +90,14 @@ fn undone(alloc: Global, pages: Vec<[u8; 4096]>, losers: &[Loser]) -> Result<Res
     checked.undo_all(alloc, losers)
 }
 
-/// What the bytes of a device stand for: the passes of a restart in memory. The ruling slot names the log's area. The
+/// What the bytes of a device represent: the passes of a restart in memory. The ruling slot names the log's area. The
 /// area's records are repeated over the pages as the area found them, and what is unfinished is put back (Mohan
 /// 1992). All pages are looked at, and the losers are undone by inverses, the latest end first (Weikum 1991).
 ///
 /// Of bytes that a kernel left, the pages hold the base that the area's committed transactions lead to. It is refused
 /// only for want of memory or a fault of the device then.
 ///
-/// Any bytes are read. Where they are answered, the pages break no rule of their formats and of the index, those held
+/// Any bytes are read. If they are answered, the pages break no rule of their formats and of the index, those held
 /// and those that the losers' inverses leave.
 ///
 /// Refusals are [`Refusal::NoMemory`], and [`Refusal::DeviceFailed`], if and only if the device failed in this call.

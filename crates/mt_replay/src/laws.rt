@@ -2,7 +2,7 @@
 ghost use Rattle.mt_replay.specs.Laws.{RestartFindsBase, EachInverseFinds, OnlyOwnPagesMatter};
 
 /// Of records that are recoverable the losers' operations are undone by inverses, the latest end first. That leads to
-/// good pages that hold the base that the records stand for.
+/// good pages that hold the base that the records represent.
 pub fn restart_finds_the_base()
     ensures { RestartFindsBase }
 {

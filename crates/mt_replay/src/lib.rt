@@ -1,4 +1,4 @@
-//! What the bytes of a device stand for: which master slot rules, and the pages that its log's area found. What the
+//! What the bytes of a device represent: which master slot rules, and the pages that its log's area found. What the
 //! records there make of them comes next, and the base that is left once the losers are undone.
 //!
 //! History is repeated for all operations alike, with what is unfinished put back by page (Mohan 1992, Lomet 1992).

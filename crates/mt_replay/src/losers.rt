@@ -33,7 +33,7 @@ pub struct Loser {
 }
 
 /// What the records from a place on tell: the losers among them, the latest end first, and the transactions that end
-/// there. It tells the operations, each behind its transaction, that a finished inverse names. Each record costs a
+/// there. It tells the operations, each after its transaction, that a finished inverse names. Each record costs a
 /// look-up or two in ordered sets.
 #[derive(Drop)]
 pub(crate) struct Telling {

@@ -253,7 +253,7 @@ impl AllPages {
         None
     }
 
-    // The first page that breaks a rule; `None` where none does.
+    // The first page that breaks a rule; `None` if none does.
     pub(crate) fn first_broken(&self, alloc: Global) -> Result<Option<PageNo>, AllocError>
         ensures found { IfOk result (λ broken. MatchOption broken (AreChecked self.now.pages.items)
             (λ p. AreBroken self.now.pages.items)) }

@@ -210,7 +210,8 @@ impl Repeating {
         Ok(())
     }
 
-    // The pages held, behind all records of the batches: the changes that are unfinished are put back, the last one first.
+    // The pages held, after all records of the batches: the changes that are unfinished are put back, the last one
+    // first.
     pub(crate) fn take_back(self, batches: &[Batch]) -> Vec<[u8; 4096]>
         requires whole { AreWhole self.pages.items }
         requires each { AreBatches (length self.pages.items) (records_of batches.now) }
@@ -240,7 +241,7 @@ impl Repeating {
 
 impl TakingBack {
     // The record before those that were passed. The last changes of an operation that is unfinished are those that it has
-    // not ended: no end of it stands behind them.
+    // not ended: no end of it stands after them.
     fn pass_one(&mut self, entry: &Record)
         requires whole { AreWhole self.old.pages.items }
         requires grammar { IsRecord entry.now }

@@ -171,7 +171,7 @@ impl Restored {
         }
     }
 
-    // A page of records that takes a record of so many bytes; `None` where none does, and where there is no record.
+    // A page of records that takes a record of so many bytes; `None` if none does, and where there is no record.
     fn room_for(&self, bytes: usize) -> Option<PageNo>
         ensures { (f : PageBytes) → AreFirst self.now.pages.items f
             → IsRoom (length self.now.pages.items) bytes f result }
@@ -189,7 +189,7 @@ impl Restored {
         None
     }
 
-    // The changes of the inverse of what is logged; `None` where it does not find what the record says.
+    // The changes of the inverse of what is logged; `None` if it does not find what the record says.
     fn plan_undo(&self, alloc: Global, done: &LoggedOp) -> Result<Option<Changes>, Refusal>
         requires { IsOperation done.now }
         ensures planned { IfOk result (λ plan. IsUndoPlan self.now.pages.items done.now plan) }
@@ -217,7 +217,7 @@ impl Restored {
     }
 
     /// Undoes a finished operation by its inverse, which splits no bucket of the index. Its record goes into a page of
-    /// records with room, and into a new page only where no page has room. It gives back each page that it leaves
+    /// records with room, and into a new page only if no page has room. It gives back each page that it leaves
     /// without a record, and changes eight pages at most.
     ///
     /// `false` tells that the inverse does not find what the record says, or too few free pages. It tells too that
@@ -244,7 +244,7 @@ impl Restored {
     /// Undoes the losers, the latest end first, each on the pages that the later ones left (Weikum 1991).
     ///
     /// It is refused with [`Refusal::BadFormat`] at the batch of a record whose inverse does not find what it says,
-    /// or too few free pages. The only other refusal is [`Refusal::NoMemory`]. The pages are let go then.
+    /// or too few free pages. The only other refusal is [`Refusal::NoMemory`]. The pages are dropped then.
     pub(crate) fn undo_all(self, alloc: Global, losers: &[Loser]) -> Result<Restored, Refusal>
         requires { AllByRecursion (λ loser. IsOperation loser.done) losers.now }
         ensures undone { IfOk result (λ restored. HasUndone self.pages.items losers.now restored.pages.items) }

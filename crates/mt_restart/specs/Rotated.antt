@@ -33,7 +33,7 @@ pub record Keeps {D : Type 0} {g : Ghosts D} (seen : D → List ℕ) (may_leave 
 abbrev pub Grows : {D : Type 0} {g : Ghosts D} → Kernel D g → Kernel D g → Type 0
 Grows k n = (more : List Record) × (durable n.core.operations.store.log ≡ durable k.core.operations.store.log ++ more)
 
--- nobody lives, all that was appended is durable, and the same slot rules
+-- no transaction is active, all that was appended is durable, and the same slot rules
 pub record IsForcedOut {D : Type 0} {g : Ghosts D} (k n : Kernel D g) : Type 0 where
   pub nobody : HasNobody n
   pub forced : IsForced n

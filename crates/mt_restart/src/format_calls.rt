@@ -75,7 +75,7 @@ pub(crate) fn first_slot_of(schema: &Schema) -> MasterSlot
     }
 }
 
-// Makes what stands behind the first master slot's gate durable: a write and a sync.
+// Makes what stands after the first master slot's gate durable: a write and a sync.
 fn write_slot<D: Device>(device: &mut D, schema: &Schema) -> Result<(), DeviceFault>
     requires { MASTER_BYTES ≤ length (D.seen device.old) }
     ensures { WritesDurably D.seen D.may_leave D.moment D.left_since D.faults
@@ -108,7 +108,7 @@ fn write_all<D: Device>(device: &mut D, schema: &Schema) -> Result<(), DeviceFau
 }
 
 /// Formats a device with a schema, whatever it held. It closes the gates of both master slots, and syncs. It writes
-/// every page and an empty first log area, and syncs. It writes the first master slot behind its gate, and syncs;
+/// every page and an empty first log area, and syncs. It writes the first master slot after its gate, and syncs;
 /// then it opens the gate, and syncs. It takes no memory.
 ///
 /// Then the device holds the schema's first base, whatever a crash leaves, and [`open`](crate::open) finds it. A
@@ -117,7 +117,7 @@ fn write_all<D: Device>(device: &mut D, schema: &Schema) -> Result<(), DeviceFau
 ///
 /// A device that is shorter than the schema needs is refused with [`Refusal::BadLength`], before any call of it. The
 /// only other refusal is [`Refusal::DeviceFailed`], where the device failed in this call. Of a longer device the
-/// bytes behind those that the schema needs are as before in any case.
+/// bytes after those that the schema needs are as before in any case.
 pub fn format<D: Device>(device: &mut D, schema: &Schema) -> Result<(), Refusal>
     ensures formatted { OnOk result (IsFormattedAs schema.now (D.seen device.new)) }
     // A restart finds the schema's first base in it.

@@ -13,7 +13,7 @@ use mt_txn::Kernel;
 use std::alloc::Global;
 
 /// Formats a device by the schema, and gives a kernel over it that keeps so many pages in frames. The kernel has not
-/// failed. No transaction lives, the book is empty, and the pages hold no row and each counter at its start.
+/// failed. No transaction is active, the book is empty, and the pages hold no row and each counter at its start.
 ///
 /// Refused, in this order, with the device: 1 for want of memory, 5 where the device is shorter than
 /// [`Schema::device_len`], 2 if and only if it failed. A device that is too short is not touched. After 1 or 2 another

@@ -156,7 +156,7 @@ pub(crate) fn images_of(
     Ok(images)
 }
 
-/// Whether a batch of these records fits into an area of so many bytes, with a gate behind it.
+/// Whether a batch of these records fits into an area of so many bytes, with a gate after it.
 pub(crate) fn images_fit(images: &[Record], bytes: u64) -> bool
     requires { AllByRecursion IsRecord images.now }
     ensures { IsTrue result ↔ (5 + length (body_text images.now) < bytes) }

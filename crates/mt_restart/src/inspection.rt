@@ -1,4 +1,4 @@
-// What a device's bytes stand for, told without a write.
+// What a device's bytes represent, told without a write.
 ghost use Rattle.std.specs.Prelude.{◌≡◌, ◌⊎◌, ◌<◌, ◌≤◌, ◌+◌, ℕ, List, length, IfErr, IfOk, OnOk, Err};
 ghost use Rattle.mt_base.specs.declared.limits.TheConstants.{MAX_PAGES};
 ghost use Rattle.mt_base.specs.declared.refusal.Refusal.{Refusal};
@@ -84,13 +84,13 @@ fn survey_of(alloc: Global, restored: &Restored) -> Result<Survey, Refusal>
     })
 }
 
-/// Tells what the bytes of a device stand for, as a restart would find it, and only reads them. A restart's passes are
+/// Tells what the bytes of a device represent, as a restart would find it, and only reads them. A restart's passes are
 /// made in memory, as [`replay`] says, and the pages that they leave are surveyed.
 ///
 /// Of bytes that a kernel left, the survey tells the base that the log's committed transactions lead to. It is then
 /// refused only for want of memory or a fault of the device.
 ///
-/// Any bytes are read. Where they are answered, the pages break no rule, and every base that they hold is the survey's.
+/// Any bytes are read. If they are answered, the pages break no rule, and every base that they hold is the survey's.
 ///
 /// It is refused with:
 /// - [`Refusal::NoMemory`];

@@ -85,10 +85,10 @@ fn kernel_over<D: Device + Drop>(alloc: Global, device: D, recovered: Recovered)
 /// over to the other area, once. Its first batch has images of the pages that are neither in the ruling area nor in
 /// their slots.
 ///
-/// Whenever a crash comes in this call, what it leaves is what it might have left before, or stands for the same base. So
-/// a device may be opened again, however often that is cut off.
+/// Whenever a crash comes in this call, what it leaves is what it might have left before, or represents the same base.
+/// So a device may be opened again, however often that is cut off.
 ///
-/// Any bytes are read. Where they are answered, the kernel has not failed. It begins on the pages that those passes make
+/// Any bytes are read. If they are answered, the kernel has not failed. It begins on the pages that those passes make
 /// of them, which break no rule of their formats. Each refusal hands the device back:
 /// - [`Refusal::NoMemory`];
 /// - [`Refusal::DeviceFailed`], if and only if the device failed in this call;
@@ -110,7 +110,7 @@ pub fn open<D: Device + Drop>(
     // It is the base that the passes of a restart leave in memory.
     ensures restored { IfOk result (BeginsOnRestored D.seen D.may_leave (D.seen device)) }
     ensures well { IfOk result (λ kernel. is_failed kernel ≡ false) }
-    // What lies behind its last counter is open.
+    // What lies after its last counter is open.
     ensures counted { IfOk result (λ kernel. (b : Base) × BeginsOn D.seen D.may_leave b kernel) }
     ensures no_other_refusal { (relations counters : ℕ) (b : Base) → CanRestart relations counters (D.seen device) b
         → IfErr result (λ gone. (gone.0 ≡ Refusal.NoMemory)

@@ -67,8 +67,8 @@ fn find<D: Device>(alloc: Global, device: &mut D, frames: usize) -> Result<Findi
 // The other area begins with images of the pages that are neither there nor in their slots. Its master slot comes to
 // rule, and those pages are written in place too.
 //
-// Whatever a crash leaves in this call, it is what it might have left before, or stands for the base that the bytes
-// stood for. Behind a sync that went well it stands for that base. So it may be made again, however often it is cut
+// Whatever a crash leaves in this call, it is what it might have left before, or represents the base that the bytes
+// stood for. After a sync that went well it represents that base. So it may be made again, however often it is cut
 // off.
 pub(crate) fn recover<D: Device>(
     alloc: Global,

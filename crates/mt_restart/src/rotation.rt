@@ -27,7 +27,7 @@ pub enum NotRotated<D: Device> {
     Ended(Refusal, D),
 }
 
-// Forces the log of a kernel in which nobody lives until all that was appended is durable.
+// Forces the log of a kernel in which no transaction is active until all that was appended is durable.
 fn force_out<D: Device>(kernel: &mut Kernel<D>) -> Result<(), Refusal>
     requires nobody { HasNobody kernel.old }
     ensures keeps { Keeps D.seen D.may_leave D.moment D.left_since kernel.old kernel.new }
@@ -66,8 +66,8 @@ fn turn_over<D: Device + Drop>(
     }
 }
 
-/// Turns the log of a kernel over while no transaction lives, and gives the kernel with so many pages in frames. The
-/// state that it shows goes on: its book, and the numbers of its transactions. The kernel has not failed.
+/// Turns the log of a kernel over while no transaction is active, and gives the kernel with so many pages in frames.
+/// The state that it shows goes on: its book, and the numbers of its transactions. The kernel has not failed.
 ///
 /// The log is forced, and the device recovered as [`open`](crate::open) does. It is synced, and its pages are read back
 /// and written in place where they are not. The other area begins and comes to rule, once. Whenever a crash comes in
@@ -81,7 +81,7 @@ fn turn_over<D: Device + Drop>(
 /// - [`Refusal::DeviceFailed`], where its device fails in the force;
 /// - [`Refusal::NoMemory`], for the force.
 ///
-/// Then refused with the device, which stands for what the book leads to unless it failed:
+/// Then refused with the device, which represents what the book leads to unless it failed:
 /// - [`Refusal::NoMemory`], before the device is written;
 /// - [`Refusal::LogFull`], if the ruling slot has the last epoch, or the images have no room in the other area;
 /// - [`Refusal::DeviceFailed`], if the device failed.
@@ -91,7 +91,7 @@ pub fn rotate<D: Device + Drop>(
     frames: usize,
 ) -> Result<Kernel<D>, NotRotated<D>>
     ensures may { OnOk result (early_cause kernel ≡ None) }
-    // Where nothing is done, the kernel is handed back as it was.
+    // If nothing is done, the kernel is handed back as it was.
     ensures early { (why : Refusal) → early_cause kernel ≡ Some why → result ≡ Err (NotRotated.Kept why kernel) }
     // The laws see nothing of it.
     ensures shows { (first : Base) (s : State) → Restarts D.seen D.may_leave first kernel

@@ -91,7 +91,7 @@ fn cuts(alloc: Global) -> Result<Tally, Refusal> {
 }
 
 // The whole content has a base. So has each cut from the second-last byte of the second batch's length back to the
-// byte behind the empty first batch's gate. That is a batch of no bytes, or none. The batches have 12,511 bytes, and
+// byte after the empty first batch's gate. That is a batch of no bytes, or none. The batches have 12,511 bytes, and
 // each slot 17.
 const CUTS: Tally = Tally {
     bases: 9,

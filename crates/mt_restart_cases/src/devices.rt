@@ -1,4 +1,4 @@
-// Devices in memory, what a crash leaves of them, and what they stand for.
+// Devices in memory, what a crash leaves of them, and what they represent.
 use mt_base::Refusal;
 use mt_disk::{Device, Fill, MemDevice};
 use mt_model::{Base, Count, Row};
@@ -68,7 +68,7 @@ fn last_batch(device: &MemDevice, start: usize) -> usize {
     last
 }
 
-/// The place behind the last open batch of the area that begins there: that of the closed gate.
+/// The place after the last open batch of the area that begins there: that of the closed gate.
 pub fn log_end(device: &MemDevice, start: usize) -> usize {
     let last = last_batch(device, start);
     match device.bytes().get(last..) {
@@ -98,7 +98,7 @@ fn add_count(text: &mut Vec<u8>, alloc: Global, count: &Count) -> Result<(), All
     text.extend_from_slice(number.as_bytes())
 }
 
-/// A base as text: each row as `0 key=value;`, and behind them each counter's number with a space before it.
+/// A base as text: each row as `0 key=value;`, and after them each counter's number with a space before it.
 pub fn text_of(alloc: Global, base: &Base) -> Result<Vec<u8>, AllocError> {
     let mut text = Vec::new(alloc);
     for row in base.rows() {
@@ -110,7 +110,7 @@ pub fn text_of(alloc: Global, base: &Base) -> Result<Vec<u8>, AllocError> {
     Ok(text)
 }
 
-/// The text of the base that a device stands for.
+/// The text of the base that a device represents.
 pub fn inspected(alloc: Global, device: &mut MemDevice) -> Result<Vec<u8>, Refusal> {
     let survey = inspect(alloc, device)?;
     Ok(text_of(alloc, &survey.base)?)

@@ -1,4 +1,4 @@
-// Lists of events that are stopped at each call of the device behind the first event. What each crash leaves then is
+// Lists of events that are stopped at each call of the device after the first event. What each crash leaves then is
 // opened, and each opening is stopped at each of its own calls.
 use crate::devices::{FILLS, crashed, device_of, empty_device, inspected, recovered, row_schema};
 use crate::events::{
@@ -118,7 +118,8 @@ struct Run {
     calls: u64,
 }
 
-// Stops the events behind so many calls, and looks at what the fills leave, but for one that is as the last one before it.
+// Stops the events after so many calls, and looks at what the fills leave, but for one that is as the last one before
+// it.
 fn stop(
     alloc: Global,
     schema: &Schema,
@@ -225,7 +226,7 @@ fn an_abort_under_way_leaves_the_number_wherever_it_stops(rt: HostRuntime) -> Re
     Ok(())
 }
 
-// Behind a force the page, the rotation's pages and the other area's first batch leave 29 contents. From the closing
+// After a force the page, the rotation's pages and the other area's first batch leave 29 contents. From the closing
 // of the other slot's gate to its opening it is closed in ten, and open in two. The new area rules in two. Another
 // force follows.
 const ROTATION_OPENINGS: u64 = ROW_OPENINGS
@@ -253,7 +254,7 @@ fn rows_stand_wherever_a_rotation_stops(rt: HostRuntime) -> Result<(), Fail> {
     Ok(())
 }
 
-// Behind the first force the pages leave four contents and five, and four behind the second one.
+// After the first force the pages leave four contents and five, and four after the second one.
 const SPLIT_OPENINGS: u64 = ROW_OPENINGS
     + (4 + 5 + 1 + BEFORE_GATE) * TWO_BATCHES
     + (BEHIND_GATE + 4 + 1 + BEFORE_GATE) * THREE_BATCHES
@@ -285,7 +286,7 @@ fn rows_stand_wherever_a_split_and_an_abort_stop(rt: HostRuntime) -> Result<(), 
 
 // ---- one commit
 
-// Whether the row is in the base that each of the fills leaves behind so many calls of its commit.
+// Whether the row is in the base that each of the fills leaves after so many calls of its commit.
 fn has_row_after(alloc: Global, events: &[Event], stop_at: u64) -> Result<[bool; 5], Refusal> {
     let schema = row_schema(alloc, PAGES)?;
     let mut each = [false; 5];
@@ -317,7 +318,7 @@ fn a_stopped_commit_stands_once_its_gate_is_open(rt: HostRuntime) -> Result<(), 
 
 // ---- a device that fails
 
-/// What the answers of a run tell: whether each behind the first refusal 2 is that, and whether there is one. Then
+/// What the answers of a run tell: whether each after the first refusal 2 is that, and whether there is one. Then
 /// how many commits were acknowledged.
 #[derive(Clone, Copy)]
 struct Heard {
@@ -344,7 +345,7 @@ fn hear_all(answers: &[Answer]) -> Heard {
 }
 
 // Makes the events over a device that fails at its n-th call, reads counted too, and opens that again. It tells
-// whether all was well, and whether it ever failed; None where it failed before the first event.
+// whether all was well, and whether it ever failed; None if it failed before the first event.
 fn failing_at(alloc: Global, events: &[Event], n: u64) -> Result<Option<(bool, bool)>, Refusal> {
     let schema = row_schema(alloc, PAGES)?;
     let device = FaultDevice::new(empty_device(alloc, PAGES)?, n);
@@ -363,7 +364,7 @@ fn failing_at(alloc: Global, events: &[Event], n: u64) -> Result<Option<(bool, b
     Ok(Some((is_well, heard.has_failed)))
 }
 
-// Of the calls of a run, each failing in turn: how many come behind the first event, if all was well each time.
+// Of the calls of a run, each failing in turn: how many come after the first event, if all was well each time.
 fn each_failing(alloc: Global) -> Result<Option<u64>, Refusal> {
     let events = events_of(alloc, &A_ROTATION)?;
     let mut count = 0u64;

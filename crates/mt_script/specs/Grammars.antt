@@ -4,7 +4,7 @@ use Rattle.mt_base.specs.declared.limits.TheConstants.{MAX_LINES, MAX_LINE_BYTES
 use Rattle.mt_base.specs.declared.refusal.Refusal.{Refusal}
 use Rattle.mt_base.specs.declared.refusal.Refusal.TheVariants.{NoMemory, BadLine}
 
--- lines, each with LF behind it; `text` says how one is spelled, without its end
+-- lines, each with LF after it; `text` says how one is spelled, without its end
 unfoldable pub lines_text : {L : Type 0} → (L → List ℕ) → List L → List ℕ
 lines_text text [] = []
 lines_text text (line ∷ lines) = text line ++ 10 ∷ lines_text text lines

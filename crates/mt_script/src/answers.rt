@@ -31,7 +31,7 @@ pub enum Answer {
 #[derive(Debug, Drop)]
 pub struct Unheard;
 
-/// Writes all of these bytes. Where the writer fails, it has written a beginning of them.
+/// Writes all of these bytes. If the writer fails, it has written a beginning of them.
 pub fn put<W: Write>(writer: &mut W, bytes: &[u8]) -> Result<(), Unheard>
     ensures all { OnOk result (Appends (W.contents writer.old) (W.contents writer.new) bytes.now) }
     ensures front { OnErr result (AppendsFront (W.contents writer.old) (W.contents writer.new) bytes.now) }
@@ -58,7 +58,7 @@ pub fn put<W: Write>(writer: &mut W, bytes: &[u8]) -> Result<(), Unheard>
     Err(Unheard)
 }
 
-/// Writes these pieces, one behind the other. Where the writer fails, it has written a beginning of
+/// Writes these pieces, one after the other. If the writer fails, it has written a beginning of
 /// them.
 pub fn put_all<W: Write>(writer: &mut W, pieces: &[&[u8]]) -> Result<(), Unheard>
     ensures all { OnOk result (Appends (W.contents writer.old) (W.contents writer.new)
@@ -72,7 +72,7 @@ pub fn put_all<W: Write>(writer: &mut W, pieces: &[&[u8]]) -> Result<(), Unheard
     Ok(())
 }
 
-/// Writes what an operation replied, as one line. Where the writer fails, it has written a beginning of the line.
+/// Writes what an operation replied, as one line. If the writer fails, it has written a beginning of the line.
 pub fn write_reply<W: Write>(writer: &mut W, reply: &Reply) -> Result<(), Unheard>
     ensures all { OnOk result (Appends (W.contents writer.old) (W.contents writer.new)
         (reply_text reply.now ++ 10 ∷ [])) }
@@ -116,7 +116,7 @@ fn write_refusal<W: Write>(writer: &mut W, refusal: Refusal) -> Result<(), Unhea
     }
 }
 
-/// Writes an answer as one line. Where the writer fails, it has written a beginning of the line.
+/// Writes an answer as one line. If the writer fails, it has written a beginning of the line.
 pub fn write_answer<W: Write>(writer: &mut W, answer: &Answer) -> Result<(), Unheard>
     ensures all { OnOk result (Appends (W.contents writer.old) (W.contents writer.new)
         (answer_text answer.now ++ 10 ∷ [])) }

@@ -27,7 +27,7 @@ pub trait Grammar {
     /// The words, in a list that people read.
     ghost all_words: { List ℕ };
 
-    /// The line that these bytes spell, without its end; `None` where they are not in the grammar. The only
+    /// The line that these bytes spell, without its end; `None` if they are not in the grammar. The only
     /// error is want of memory.
     fn line_of(alloc: Global, bytes: &[u8]) -> Result<Option<Self::Line>, AllocError>
         ensures { IfOk result (ReadsIn text IsIn bytes.now) };

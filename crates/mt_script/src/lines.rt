@@ -34,7 +34,7 @@ pub enum Line {
     Abort,
 }
 
-/// What stands before the first space, and what stands behind it; `None` where there is no space.
+/// What stands before the first space, and what stands after it; `None` if there is no space.
 pub fn split_at_space(bytes: &[u8]) -> Option<(&[u8], &[u8])>
     ensures found { IfSome result (λ p. (bytes.now ≡ p.0.now ++ 32 ∷ p.1.now) × IsUnspaced p.0.now) }
     ensures none { IfNone result (IsUnspaced bytes.now) }
@@ -231,7 +231,7 @@ fn read_of(alloc: Global, words: &[u8]) -> Result<Option<Op>, AllocError>
     }
 }
 
-/// The operation of its first word and the words behind it.
+/// The operation of its first word and the words after it.
 fn op_with(alloc: Global, word: &[u8], words: &[u8]) -> Result<Option<Op>, AllocError>
     requires { IsUnspaced word.now }
     ensures { IfOk result (ReadsOp (word.now ++ 32 ∷ words.now)) }
@@ -253,7 +253,7 @@ fn op_with(alloc: Global, word: &[u8], words: &[u8]) -> Result<Option<Op>, Alloc
     }
 }
 
-/// The operation that these bytes spell; `None` where they spell none. The only error is want of memory.
+/// The operation that these bytes spell; `None` if they spell none. The only error is want of memory.
 pub fn op_of(alloc: Global, bytes: &[u8]) -> Result<Option<Op>, AllocError>
     ensures { IfOk result (ReadsOp bytes.now) }
 {
@@ -279,7 +279,7 @@ fn bare_line_of(word: &[u8]) -> Option<Line>
     }
 }
 
-/// The line that these bytes spell, without its end; `None` where they are not in the grammar. The
+/// The line that these bytes spell, without its end; `None` if they are not in the grammar. The
 /// only error is want of memory.
 pub fn line_of(alloc: Global, bytes: &[u8]) -> Result<Option<Line>, AllocError>
     ensures { IfOk result (ReadsLine bytes.now) }

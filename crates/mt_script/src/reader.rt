@@ -154,7 +154,7 @@ impl<G: Grammar> Reading<G> {
     }
 }
 
-/// Reads lines of a grammar to the reader's end, in pieces. Each has LF behind it and at most 4,096 bytes before it,
+/// Reads lines of a grammar to the reader's end, in pieces. Each has LF after it and at most 4,096 bytes before it,
 /// and there are at most 100,000 of them. It holds no more than the lines, the one under way and one piece.
 ///
 /// `Input` where the reader fails; refused by `NoMemory`, and by `BadLine` of the first line that is not in

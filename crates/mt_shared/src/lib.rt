@@ -6,7 +6,7 @@
 //! commit or an abort spends it. A thread's [`Hold`] keeps the lock over a few of its calls.
 //!
 //! What a pass has seen is legal from the base that the kernel began on, and begins the one history that all see. It
-//! grows by exactly its own commits, each behind all that it had seen. What a token was answered is what the book has
+//! grows by exactly its own commits, each after all that it had seen. What a token was answered is what the book has
 //! at its place. A look is one load of the mark, and takes no lock.
 //!
 //! Who waits sleeps, and is woken by what may end its wait; a device that fails wakes all. No lock is poisoned: nothing

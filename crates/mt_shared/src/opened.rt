@@ -56,7 +56,7 @@ impl<D: Device> Opened<D> {
     /// A mark beside the kernel, with seats for this many passes. The history begins with the kernel's book. Of the
     /// base that the kernel began on nothing is kept but for contracts; of the book a copy is made, and let go.
     ///
-    /// Where memory is short, the kernel comes back as it was.
+    /// If memory is short, the kernel comes back as it was.
     pub fn new(
         alloc: Global,
         kernel: Kernel<D>,
@@ -81,8 +81,8 @@ impl<D: Device> Opened<D> {
         }
     }
 
-    /// The same under a name, shared, with as many passes as were asked for. Each has seen the book, in which nothing is its own. Where memory
-    /// is short, the kernel comes back.
+    /// The same under a name, shared, with as many passes as were asked for. Each has seen the book, in which nothing
+    /// is its own. If memory is short, the kernel comes back.
     pub fn named<G: Gate + Drop, J: Naming>(
         self,
         alloc: Global,
@@ -110,8 +110,8 @@ impl<D: Device + Drop> Opened<D> {
     /// tells.
     ///
     /// Refused as [`open`](mt_restart::open), and with 1 where the survey or the mark finds no memory. A refusal is 2 if
-    /// and only if the device failed in this call. The device is handed back, and stands for what it stood for, unless it
-    /// failed.
+    /// and only if the device failed in this call. The device is handed back, and represents what it stood for, unless
+    /// it failed.
     pub fn open(
         alloc: Global,
         device: D,
@@ -124,7 +124,7 @@ impl<D: Device + Drop> Opened<D> {
         ensures many { IfOk result (λ opened. opened.count ≡ count) }
         ensures refused { IfErr result (λ gone. IsUnshared (D.seen device) gone.0) }
         ensures failed { IfErr result (λ gone. gone.0 ≡ Refusal.DeviceFailed → D.faults device < D.faults gone.1) }
-        // Whatever a crash leaves of the device then, it stands for what it stood for.
+        // Whatever a crash leaves of the device then, it represents what it stood for.
         ensures settled { (relations counters : ℕ) (b : ModelBase) → CanRestart relations counters (D.seen device) b
             → IfErr result (λ gone. (gone.0 ≡ Refusal.DeviceFailed → ⊥) → (c : List ℕ) → D.may_leave gone.1 c
             → ∥ CanRestart relations counters c b ∥₁) }

@@ -25,7 +25,7 @@ use std::alloc::Global;
 use std::array;
 use std::sync::{Condvar, Mutex, MutexGuard, Wait};
 
-/// At how many places of the book threads that commit are woken one by one. Where more of them wait at once, some are
+/// At how many places of the book threads that commit are woken one by one. If more of them wait at once, some are
 /// woken that go back to sleep.
 const TURNS: usize = 64;
 
@@ -337,7 +337,7 @@ impl<D: Device, G: Gate + Drop, J: Naming> Shared<D, G, J> {
         }
     }
 
-    // Makes a step of a force. The lock is let go between two steps.
+    // Makes a step of a force. The lock is dropped between two steps.
     fn force_on<'a, R: Wait>(
         &'a self,
         rt: &R,
@@ -374,7 +374,8 @@ impl<D: Device, G: Gate + Drop, J: Naming> Shared<D, G, J> {
 
     /// The kernel, once all passes are back and none of them has a transaction. Its book begins with what each pass
     /// has seen, and has no further transaction of that pass. It has as many as stood when the mark was made and the
-    /// passes have committed together, so no other. Unless it has failed, nobody lives in it, and it holds no lock.
+    /// passes have committed together, so no other. Unless it has failed, no transaction is active in it, and it holds
+    /// no lock.
     ///
     /// Refused, in this order, with all that was handed in. It is 15 where a pass is missing, 16 where one of them
     /// has a transaction, 2 where a rotation left no kernel. Then 16 where a durable transaction is not in the
@@ -421,11 +422,11 @@ impl<D: Device, G: Gate + Drop, J: Naming> Shared<D, G, J> {
 }
 
 impl<D: Device + Drop, G: Gate + Drop, J: Naming> Shared<D, G, J> {
-    /// Turns the kernel's log over, while no transaction lives. It waits for the lock alone. The history goes on, and
-    /// so do the passes. The kernel then has so many pages in frames.
+    /// Turns the kernel's log over, while no transaction is active. It waits for the lock alone. The history goes on,
+    /// and so do the passes. The kernel then has so many pages in frames.
     ///
     /// Refused, in this order: 2 where the device has failed; 16 where a transaction lives, or one is durable and not
-    /// yet in the history. Nothing has changed then. Further as [`mt_restart::rotate`]: 1, 11, 2. Where that gives the
+    /// yet in the history. Nothing has changed then. Further as [`mt_restart::rotate`]: 1, 11, 2. If that gives the
     /// device alone, each later call is refused with 2, and the device is to be opened again.
     pub fn rotate<R: Wait>(&self, rt: &R, alloc: Global, frames: usize) -> Result<(), Refusal>
         ensures turned { OnOk result (HasTurned ⟦<D as Device>⟧ J.base) }
@@ -453,7 +454,8 @@ impl<D: Device + Drop, G: Gate + Drop, J: Naming> Shared<D, G, J> {
         told
     }
 
-    /// Holds new transactions back until none lives, turns the log over as [`Shared::rotate`], and lets them go on.
+    /// Holds new transactions back until no transaction is active, turns the log over as [`Shared::rotate`], and lets
+    /// them go on.
     ///
     /// Refused as that, but for 16.
     pub fn turn_over<R: Wait>(&self, rt: &R, alloc: Global, frames: usize) -> Result<(), Refusal>

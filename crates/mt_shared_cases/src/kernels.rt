@@ -1,4 +1,4 @@
-// Kernels over devices in memory, before and behind the time in which threads share them.
+// Kernels over devices in memory, before and after the time in which threads share them.
 ghost use Rattle.std.specs.Prelude.{◌≡◌, ◌<◌, ◌^◌};
 ghost use Rattle.mt_model.specs.Views.{base_of};
 ghost use Rattle.mt_restart.specs.Schemas.{schema_base};
@@ -95,7 +95,7 @@ pub struct Told {
     pub moved: usize,
 }
 
-// What a kernel in which nobody lives tells. The kernel is let go.
+// What a kernel in which no transaction is active tells. The kernel is dropped.
 fn told_of(kernel: Kernel<MemDevice>) -> Result<Told, Refusal> {
     let mut kernel = kernel;
     let commits = kernel.book().len();
@@ -110,7 +110,7 @@ fn told_of(kernel: Kernel<MemDevice>) -> Result<Told, Refusal> {
     })
 }
 
-/// What the kernel tells behind a close.
+/// What the kernel tells after a close.
 pub fn told_behind<J: Naming>(shared: Memory<J>, passes: Vec<Pass<J>>) -> Result<Told, Refusal> {
     match shared.close(passes) {
         Ok(kernel) => told_of(kernel),

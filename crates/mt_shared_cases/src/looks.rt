@@ -111,7 +111,7 @@ fn both<J: Naming + Send + Sync, R: Threads + Wait + Clock + Sync>(
     (one.load(Ordering::SeqCst), two.load(Ordering::SeqCst))
 }
 
-// The same under a name, and what the kernel tells behind it.
+// The same under a name, and what the kernel tells after it.
 fn named_looks<J: Naming + Send + Sync, R: Threads + Wait + Clock + Sync>(
     rt: &R,
     alloc: Global,

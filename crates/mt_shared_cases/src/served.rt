@@ -30,7 +30,7 @@ const LOOKS: u32 = 10_000;
 
 const PAUSES: u32 = 100;
 
-// Holds the first session behind its operation's first step, until another session has committed.
+// Holds the first session after its operation's first step, until another session has committed.
 #[derive(Drop)]
 struct HoldsFirst {
     committed: AtomicBool,

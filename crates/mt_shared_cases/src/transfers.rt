@@ -179,7 +179,7 @@ fn work_tended<J: Naming + Send + Sync, R: Threads + Wait + Sync>(
     }
 }
 
-// The same under a name, and what the kernel tells behind it.
+// The same under a name, and what the kernel tells after it.
 fn named_work<J: Naming + Send + Sync, R: Threads + Wait + Sync>(
     rt: &R,
     alloc: Global,

@@ -18,7 +18,7 @@ use std::marker::Model;
 /// What is answered where a lock is asked for and nothing is refused.
 #[derive(Clone, Copy, PartialEq, Eq, Debug)]
 pub enum Asked {
-    /// The transaction holds the lock now. Where it held it before, nothing has changed.
+    /// The transaction holds the lock now. If it held it before, nothing has changed.
     Granted { was_held: bool },
     /// This transaction, the oldest that is in the way, is younger than the asker, which is to wait for it.
     Wait(TxnNo),
@@ -26,7 +26,7 @@ pub enum Asked {
 
 /// The semantic locks that live transactions hold (Weikum 1991). Contracts see each object that is locked with
 /// its holders in order of grant, and read by `held_of` which locks are held. An object that nobody holds is
-/// not there. Where two transactions hold an object, their modes are granted together.
+/// not there. If two transactions hold an object, their modes are granted together.
 ///
 /// Beside the objects it notes of each transaction its locks in order of grant, by which a release finds them.
 /// A lock that is taken out after a later one was granted is noted on until the release.
@@ -82,8 +82,8 @@ impl LockTable {
     /// holds it until [`LockTable::release`]; asking for what it holds changes nothing and takes no memory. The
     /// answer tells the two apart, for a call that a later test refuses.
     ///
-    /// Else the transactions' ages decide (wait-die). Where the oldest holder in the way is younger than the asker,
-    /// the answer is to wait for it. Where it is older, the call is refused with 14, and the asker is to abort.
+    /// Else the transactions' ages decide (wait-die). If the oldest holder in the way is younger than the asker,
+    /// the answer is to wait for it. If it is older, the call is refused with 14, and the asker is to abort.
     /// Refused with 1 where the lock would be granted and a growth of memory was refused. Nothing is kept of a lock
     /// that is not granted.
     ///

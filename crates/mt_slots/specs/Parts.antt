@@ -77,7 +77,7 @@ pub record Surveyed (page : List ℕ) (n live empty low : ℕ) : Type 0 where
 abbrev pub Shifted : ℕ → ℕ → ℕ → List ℕ → List ℕ → Type 0
 Shifted p q n old new = (k : ℕ) → k < n → get_or new (q + k) 0 ≡ get_or old (p + k) 0
 
--- slot j's record has moved to the part behind `top`
+-- slot j's record has moved to the part after `top`
 pub record Moved (old new : List ℕ) (top j : ℕ) : Type 0 where
   pub low : top ≤ offset new j
   pub high : offset new j + size old j ≤ PAGE_BYTES

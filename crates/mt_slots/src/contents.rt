@@ -76,7 +76,7 @@ pub fn live(page: &[u8]) -> u16
     live
 }
 
-/// The record in a slot; `None` where the slot is empty or past the table.
+/// The record in a slot; `None` if the slot is empty or past the table.
 pub fn get(page: &[u8], slot: u16) -> Option<RecordView<'_>>
     requires shaped { IsShaped page.now }
     ensures found { IfSome result (λ v. held page.now slot ≡ Some

@@ -1,4 +1,4 @@
-//! A page of records, in place on its 4,096 bytes: a table of slots at its front, and the records behind it.
+//! A page of records, in place on its 4,096 bytes: a table of slots at its front, and the records after it.
 //! Contracts see a page as the list of its slots, each empty or a record. Each call is an operation of that list,
 //! which keeps the number and the record of every other slot.
 //!

@@ -11,7 +11,7 @@ use mt_base::limits::{PAGE_BYTES, key_fits};
 use mt_base::ranges::u16_at;
 
 /// Whether these 4,096 bytes are a page of records of a schema of so many relations, with no value longer than this.
-/// The page's six zero bytes are there, and empty slots are zeros. Each record lies behind the table and within the
+/// The page's six zero bytes are there, and empty slots are zeros. Each record lies after the table and within the
 /// page, and is of the length that its own head says. Its relation, key and value are within their limits. No two
 /// overlap, and table and records together are no longer than the page.
 pub fn check(page: &[u8], relations: u16, longest: usize) -> bool
@@ -61,7 +61,7 @@ fn has_zeros(page: &[u8]) -> bool
     true
 }
 
-// Whether slot i is empty, or holds a record of the schema behind the table, which ends at `low`.
+// Whether slot i is empty, or holds a record of the schema after the table, which ends at `low`.
 fn is_good(page: &[u8], relations: u16, longest: usize, low: usize, i: usize) -> bool
     requires whole { length page.now ≡ PAGE_BYTES }
     requires there { 12 + 4 * i ≤ PAGE_BYTES }
@@ -76,7 +76,7 @@ fn is_good(page: &[u8], relations: u16, longest: usize, low: usize, i: usize) ->
     fits(page, offset_of(page, i), relations, longest)
 }
 
-// Whether slot i is empty, or a record stands where its head says, behind `low`.
+// Whether slot i is empty, or a record stands where its head says, after `low`.
 fn is_slot(page: &[u8], low: usize, i: usize) -> bool
     requires whole { length page.now ≡ PAGE_BYTES }
     requires there { 12 + 4 * i ≤ PAGE_BYTES }

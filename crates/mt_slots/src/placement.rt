@@ -82,7 +82,7 @@ pub(crate) fn slots_after(page: &[u8], empty: usize) -> usize
     if empty == slots { slots + 1 } else { slots }
 }
 
-// The first free place behind `low` for so many bytes: there itself, or right behind some record.
+// The first free place after `low` for so many bytes: there itself, or right after some record.
 fn gap(page: &[u8], i: usize, low: usize, bytes: usize) -> Option<usize>
     requires shaped { IsShaped page.now }
     requires table { low ≤ PAGE_BYTES }

@@ -74,7 +74,7 @@ fn clear(page: &mut [u8], i: usize)
     set_head(page, i, 0, 0);
 }
 
-/// Gives the record in a slot another value, in that slot, and answers true. Where its new length is more
+/// Gives the record in a slot another value, in that slot, and answers true. If its new length is more
 /// than the page's room and its old length, it answers false, and the page is as before. The record's bytes
 /// stay in place where they can.
 pub fn replace(page: &mut [u8], slot: u16, value: &[u8]) -> bool

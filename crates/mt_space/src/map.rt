@@ -9,7 +9,7 @@ use mt_base::PageNo;
 // Bytes of the map, one for each page.
 const MAP_BYTES: u16 = 4096;
 
-/// The free page with the smallest number, of so many pages of a map; `None` where none is free.
+/// The free page with the smallest number, of so many pages of a map; `None` if none is free.
 pub fn first_free(map: &[u8], pages: u16) -> Option<PageNo>
     requires map { length map.now ≡ PAGE_BYTES }
     ensures first { IfSome result (λ p. IsFirstFree (mapped map.now pages) p) }

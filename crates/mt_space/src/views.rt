@@ -24,7 +24,7 @@ pub trait Pages {
         requires sound { is_sound self.now }
         ensures { result ≡ total self.now };
 
-    /// The bytes of the page, lent, or `None` where it is not at hand, as a page past the last one never
+    /// The bytes of the page, lent, or `None` if it is not at hand, as a page past the last one never
     /// is.
     fn page(&self, page: PageNo) -> Option<&[u8; 4096]>
         requires sound { is_sound self.now }

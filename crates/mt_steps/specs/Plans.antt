@@ -110,7 +110,7 @@ pub record TakesPages (room : Option ℕ) (op : Op) (pages pages2 : PageBytes) :
   pub given : (p : ℕ) → kind pages p ≢ 0 → IsGivenBack (kind pages p) (kind pages2 p)
 
 -- A page that is not at hand keeps its kind, at most so many free pages are taken, and where none may be, pages of
--- records are given back and no other changes its kind; the directory changes only where a bucket may split, and no page
+-- records are given back and no other changes its kind; the directory changes only if a bucket may split, and no page
 -- is left without a record that had one.
 pub record IsModest (at_hand : ℕ → Option (List ℕ)) (total needs : ℕ) (split : Bool) (pages pages2 : PageBytes) : Type 0 where
   pub kinds : (p : ℕ) → at_hand p ≡ None → kind pages2 p ≡ kind pages p

@@ -86,7 +86,7 @@ impl Copies {
         self.list.reserve(USUAL_PAGES)
     }
 
-    /// Puts a page's bytes behind the other copies, in the room that was made for them.
+    /// Puts a page's bytes after the other copies, in the room that was made for them.
     pub fn put(&mut self, page: PageNo, bytes: &[u8; 4096])
         requires room { vec_len self.old.list < vec_capacity self.old.list }
         ensures total { self.new.total ≡ self.old.total }

@@ -109,8 +109,8 @@ pub fn add(page: &mut [u8], number: CtrNo, step: i64) -> bool
 }
 
 /// Whether these 4,096 bytes are the counters page of a schema of so many relations and counters. It tells both
-/// numbers and has zeros behind them. Each counter's number lies in its bounds, which lie within 10^15 of zero. The
-/// bytes behind the last counter are open.
+/// numbers and has zeros after them. Each counter's number lies in its bounds, which lie within 10^15 of zero. The
+/// bytes after the last counter are open.
 pub fn check(page: &[u8], relations: u16, counters: u16) -> bool
     requires whole { length page.now ≡ PAGE_BYTES }
     ensures { MatchBool result (AreCounters relations counters page.now) (AreCounters relations counters page.now → ⊥) }
@@ -122,7 +122,7 @@ pub fn check(page: &[u8], relations: u16, counters: u16) -> bool
     has_zeros(page) && are_limited(page, counters)
 }
 
-// Whether the bytes behind the two numbers are zero.
+// Whether the bytes after the two numbers are zero.
 fn has_zeros(page: &[u8]) -> bool
     requires whole { length page.now ≡ PAGE_BYTES }
     ensures { MatchBool result ((i : ℕ) → 2 ≤ i → i < 8 → get_or page.now i 0 ≡ 0) (((i : ℕ) → 2 ≤ i → i < 8 →

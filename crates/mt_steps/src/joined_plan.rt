@@ -91,7 +91,7 @@ fn are_apart(first: &Changes, second: &Changes) -> bool
     true
 }
 
-// The changes of both, one list behind the other.
+// The changes of both, one list after the other.
 fn chained(first: Changes, mut second: Changes) -> Result<Changes, AllocError>
     ensures { IfOk result (λ all. all.list.items ≡ first.list.items ++ second.list.items) }
 {

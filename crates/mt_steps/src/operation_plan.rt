@@ -34,10 +34,10 @@ use std::alloc::{AllocError, Global};
 /// ([`Act::Broken`]).
 ///
 /// A row's operation asks for the directory and for the pages of its key's bucket, until it is known what the key
-/// has. Then a get asks to read the record's page. A delete asks to write it, and for the map only where the page is
-/// given back. An update asks to write it, and for another page, the map and the bucket only where it has no room for
+/// has. Then a get asks to read the record's page. A delete asks to write it, and for the map only if the page is
+/// given back. An update asks to write it, and for another page, the map and the bucket only if it has no room for
 /// the new value. An insert asks to write the page for its record, with the map where none is named. It asks for the
-/// map, the directory to write and further pages only where the bucket has no room for the entry.
+/// map, the directory to write and further pages only if the bucket has no room for the entry.
 ///
 /// A record goes into the page `room`, which holds records, or into a new page where none is named. An insert splits
 /// a bucket of the index at most where `split` is set. No operation takes more free pages than [`pages_for`] says of it.

@@ -25,7 +25,7 @@ use std::alloc::{AllocError, Global};
 
 /// Plans to replace the value under a key that has one. The record stays under its name where its page has room for
 /// it. Else it moves into the page `room`, which holds records, or into a new page where none is named; then its
-/// entry names it anew. Where the key has no value nothing changes, nor where it has this one. The directory and the
+/// entry names it anew. If the key has no value nothing changes, nor where it has this one. The directory and the
 /// key's bucket are needed for read, and for write where the record moves; pages of records for write.
 pub(crate) fn update<V: Pages>(
     alloc: Global,

@@ -105,7 +105,7 @@ fn transfer_all<J: Naming + Send + Sync, R: Threads + Wait + Sync>(
     );
 }
 
-/// Shares an opened kernel under a name, and gives it back behind all transfers.
+/// Shares an opened kernel under a name, and gives it back after all transfers.
 fn shared_transfers<J: Naming + Send + Sync, R: Threads + Wait + Sync>(
     rt: &R,
     alloc: Global,
@@ -150,7 +150,7 @@ fn opened(alloc: Global) -> Result<Opened<MemDevice>, Refusal> {
     }
 }
 
-/// Where the two counters stand behind all transfers.
+/// Where the two counters stand after all transfers.
 fn transferred<R: Threads + Wait + Sync>(rt: &R, alloc: Global) -> Result<[i64; 2], Refusal> {
     let mut kernel = shared_transfers::<Brand, R>(rt, alloc, opened(alloc)?)?;
     let survey = kernel.survey();

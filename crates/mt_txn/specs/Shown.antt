@@ -27,11 +27,11 @@ SameSchema k n = (n.relations ≡ k.relations) × (n.counters ≡ k.counters)
 abbrev pub is_failed : {D : Type 0} → {g : Ghosts D} → Kernel D g → Bool
 is_failed k = k.failed || has_failed k.core.operations.store.log
 
--- Where a call of kernel k is refused with 2, each later call of n is; and no other call marks n as failed.
+-- If a call of kernel k is refused with 2, each later call of n is; and no other call marks n as failed.
 abbrev pub FailsForGood : {D T : Type 0} → {g : Ghosts D} → Kernel D g → Result T Refusal → Kernel D g → Type 0
 FailsForGood k result n = (is_failed k ≡ true → (result ≡ Err DeviceFailed) × (n ≡ k)) × (result ≡ Err DeviceFailed → is_failed n ≡ true) × (n.failed ≡ true → result ≡ Err DeviceFailed)
 
--- The device failed in a call of kernel k only where the call is refused with 2.
+-- The device failed in a call of kernel k only if the call is refused with 2.
 abbrev pub TellsEachFault : {D T : Type 0} → {g : Ghosts D} → (D → ℕ) → Kernel D g → Result T Refusal → Kernel D g → Type 0
 TellsEachFault faults k result n = (result ≡ Err DeviceFailed → ⊥) → faults n.core.operations.store.device ≡ faults k.core.operations.store.device
 

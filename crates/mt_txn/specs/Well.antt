@@ -40,7 +40,7 @@ Opens seen may_leave o e relations counters first = ∥ ((origin : Origin) × Is
 
 -- ---- restarts
 
--- Where the pages hold a base when the log's area begins, they can be restarted from each beginning of its records.
+-- If the pages hold a base when the log's area begins, they can be restarted from each beginning of its records.
 pub record IsRestartableOn {D : Type 0} (seen : D → List ℕ) (may_leave : D → List ℕ → Type 0) (relations counters : ℕ) (first : Base) (origin : Origin) (base : Base) (k : Core D) : Type 0 where
   pub is : IsOrigin relations counters first origin
   pub bounds : IsBase origin.begun

@@ -28,7 +28,7 @@ use mt_op::TakenBack;
 
 impl<D: Device> Kernel<D> {
     /// Begins to undo an open transaction, whether an operation of it is unfinished or not; abort steps bring it to
-    /// its end. Where nobody is in the way, over n pages, they have a bound. They are at most 2 n + 10 for each
+    /// its end. If nobody is in the way, over n pages, they have a bound. They are at most 2 n + 10 for each
     /// operation of it that stands or is under way, and the end. It takes no memory, and makes no call of the device.
     ///
     /// Refused, in this order: 2 where the device has failed, 15 where the transaction is not open. Nothing has

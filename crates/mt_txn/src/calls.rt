@@ -26,7 +26,7 @@ impl<D: Device> Kernel<D> {
     /// 6 or 7 where the relation or the counter is not there. Then 5 or 8 where a key, a value or a step is past its
     /// limits. Then 14 where an older transaction holds a lock in the way, 9 where some choice of the pending adds
     /// would leave the counter's bounds. Then 10 where too few pages are free and not claimed, 11 where the log has
-    /// too few bytes left. Where a younger transaction is in the way, it answers [`Called::Wait`]. Refusal 1 is for
+    /// too few bytes left. If a younger transaction is in the way, it answers [`Called::Wait`]. Refusal 1 is for
     /// want of memory, at the point where it is wanted. In each of these cases nothing of the call is kept.
     pub fn call(&mut self, txn: TxnNo, op: Op) -> Result<Called, Refusal>
         ensures early { (why : Refusal)

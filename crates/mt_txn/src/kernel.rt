@@ -93,7 +93,7 @@ impl<D: Device> Kernel<D> {
     }
 
     /// The durable commits of this opening, in their order. They are those of the state that the kernel shows, and
-    /// legal from its first base on. Each transaction replied as it does alone behind those before it.
+    /// legal from its first base on. Each transaction replied as it does alone after those before it.
     pub fn book(&self) -> &[Committed]
         ensures book { result.now ≡ self.now.core.book.items }
         ensures legal { (first : Base) (s : State) → Shows D.seen D.may_leave first s self.now
@@ -111,7 +111,7 @@ impl<D: Device> Kernel<D> {
     {}
 
     /// Whatever a crash leaves now, a restart finds what some of the first commits lead to, each alone, in their
-    /// order. They are those of the book, and behind them those under way. Each commit of the book is one of them,
+    /// order. They are those of the book, and after them those under way. Each commit of the book is one of them,
     /// and each whose record is durable. Each call says so of a crash within it, of the commits that were there
     /// before.
     pub fn can_restart(&self)

@@ -16,7 +16,7 @@ use mt_core::Core;
 use mt_op::Operations;
 
 impl<D: Device> Kernel<D> {
-    /// Whether no transaction lives.
+    /// Whether no transaction is active.
     pub fn has_nobody(&self) -> bool
         ensures { IsTrue result ↔ HasNobody self.now }
     {
@@ -38,8 +38,8 @@ impl<D: Device> Kernel<D> {
         self.core.log().area_size()
     }
 
-    /// Where nobody lives and all that was appended is durable, a restart finds what the whole book leads to, whatever a
-    /// crash leaves.
+    /// If no transaction is active and all that was appended is durable, a restart finds what the whole book leads to,
+    /// whatever a crash leaves.
     pub fn rests_on_its_book(&self)
         ensures { (first : Base) (c : List ℕ) → Restarts D.seen D.may_leave first self.now → HasNobody self.now
             → IsForced self.now → D.may_leave self.now.core.operations.store.device c

@@ -23,12 +23,12 @@ use mt_core::{Going, Stepping};
 
 impl<D: Device> Kernel<D> {
     /// Makes a step of the operation of an open transaction: it locks a page and looks at it, or writes one, or ends.
-    /// Where it ends it has acted once on the base that the pages hold, whatever others have half done. It stands
-    /// behind all that ended before. It waits, or begins anew, only for another transaction that lives: one that is
+    /// If it ends it has acted once on the base that the pages hold, whatever others have half done. It stands
+    /// after all that ended before. It waits, or begins anew, only for another transaction that lives: one that is
     /// alone does neither.
     ///
     /// It locks no page but one that its operation's plan asks for next. It waits only for the transaction whose
-    /// operation is the smallest with a lock in the way, and larger than its own. Where that is smaller, it gives its
+    /// operation is the smallest with a lock in the way, and larger than its own. If that is smaller, it gives its
     /// own page locks back to begin anew. They are given back at its end, too; other operations' locks stay. It makes
     /// no record of the log durable.
     ///

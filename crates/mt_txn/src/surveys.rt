@@ -15,9 +15,9 @@ use mt_disk::Device;
 use mt_op::Survey;
 
 impl<D: Device> Kernel<D> {
-    /// Tells what the pages come to while no transaction lives. That is the depth of the index's directory, how many
-    /// pages are free, and the base, row by row, read from their bytes. So the base that [`Kernel::step`] acts on is
-    /// the one that the pages hold. It reads each page of records once, writes nothing, and needs no free frame.
+    /// Tells what the pages come to while no transaction is active. That is the depth of the index's directory, how
+    /// many pages are free, and the base, row by row, read from their bytes. So the base that [`Kernel::step`] acts on
+    /// is the one that the pages hold. It reads each page of records once, writes nothing, and needs no free frame.
     ///
     /// Refused, in this order: 2 where the device has failed, 16 where a transaction lives. Then 1 for want of memory
     /// and 2 where the device fails in this call, so no fault is passed over. The state is as before in any case.

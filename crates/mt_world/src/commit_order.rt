@@ -121,7 +121,7 @@ fn starts(event: &Event, answer: &Answer) -> Option<TxnNo>
     }
 }
 
-// Puts the commit that an event begins behind the others, if it begins one.
+// Puts the commit that an event begins after the others, if it begins one.
 fn add_started(
     alloc: Global,
     all: &mut Vec<Committed>,
@@ -160,7 +160,7 @@ pub(crate) fn commits_told(
     Ok(all)
 }
 
-// Puts the transactions whose commits an answer acknowledges behind the others.
+// Puts the transactions whose commits an answer acknowledges after the others.
 fn add_named(all: &mut Vec<TxnNo>, answer: &Answer) -> Result<(), AllocError>
     ensures { OnOk result (all.new.items ≡ all.old.items ++ named answer.now) }
 {

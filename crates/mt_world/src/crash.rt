@@ -52,7 +52,7 @@ fn calls_before(alloc: Global, schema: &Schema) -> Result<u64, Refusal>
     }
 }
 
-// So many calls behind those, or as many as 64 bits count.
+// So many calls after those, or as many as 64 bits count.
 fn limit_behind(before: u64, calls: u64) -> u64
     ensures { result ≡ min (before + calls) (2 ^ 64 - 1) }
 {

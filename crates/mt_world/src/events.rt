@@ -48,6 +48,7 @@ pub enum Answer {
     Flushed(Flushed),
     /// The log is turned over, and the state is as before.
     Rotated,
-    /// It was refused, and the state is as before. A rotation may have ended the kernel; then no kernel stands behind it.
+    /// It was refused, and the state is as before. A rotation may have ended the kernel; then no kernel stands after
+    /// it.
     Refused(Refusal),
 }

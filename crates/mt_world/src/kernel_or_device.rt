@@ -1,8 +1,8 @@
-// What stands behind events.
+// What stands after events.
 use mt_disk::Device;
 use mt_txn::Kernel;
 
-/// What stands behind events: a kernel, or what a rotation that was refused has left of it.
+/// What stands after events: a kernel, or what a rotation that was refused has left of it.
 pub enum Standing<D: Device> {
     /// The kernel that the events led to.
     Stands(Kernel<D>),
@@ -14,7 +14,7 @@ impl<D: Device + Drop> Standing<D> {
     ghost use Rattle.std.specs.Prelude.{◌≡◌};
     ghost use Rattle.mt_world.specs.Standings.{device_at};
 
-    /// The device, with which everything else is let go. It takes no memory.
+    /// The device, with which everything else is dropped. It takes no memory.
     pub fn into_device(self) -> D
         ensures { result ≡ device_at self }
     {

@@ -62,13 +62,13 @@ pub(crate) fn begin_on<D: Device + Drop>(
 }
 
 /// Formats a device by the schema, opens it in 64 frames, and makes the events in their order. Each is made by the
-/// kernel's call of its name and by nothing else. Gives what stands behind them, and an answer of each event.
+/// kernel's call of its name and by nothing else. Gives what stands after them, and an answer of each event.
 ///
 /// Whatever the events, what ended acted once on the model, in the order of the ends. The committed transactions
 /// replied as they do alone, in the order of the commits. What stands of the others is explained, whoever of them is
 /// struck out (Weikum 1991, O'Neil 1986). An event of a transaction that is not there is answered with 15; once an
 /// event was refused with 2, each later one is. A rotation while a transaction lives is refused with 16. One that is
-/// refused with the device ends the kernel. Each event behind it is refused with 2, and the device is to be opened
+/// refused with the device ends the kernel. Each event after it is refused with 2, and the device is to be opened
 /// again.
 ///
 /// A crash while the device is formatted leaves what [`format`] says. Whatever a crash leaves from then on can be

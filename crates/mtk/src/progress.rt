@@ -4,13 +4,13 @@ use mt_cli::{Gate, Point};
 use std::io::Write;
 use std::sync::atomic::{AtomicU64, Ordering};
 
-/// The line is drawn anew behind so many commits.
+/// The line is drawn anew after so many commits.
 const EACH: u64 = 64;
 
 /// Goes back to the line's begin and deletes what stands there.
 const CLEARED: &[u8] = b"\r\x1b[K";
 
-/// Tells on a terminal how many transactions have committed, in a line that is drawn anew and deleted at the end. Where it
+/// Tells on a terminal how many transactions have committed, in a line that is drawn anew and deleted at the end. If it
 /// is none, nothing is told. What cannot be written is left out.
 pub(crate) struct Progress<E: Write + Copy> {
     err: E,

@@ -7,8 +7,8 @@
 #![tactic(auto)]
 
 mod alone;
-mod operation_steps;
 mod forces;
+mod operation_steps;
 mod rotation;
 mod script_run;
 mod sessions;

@@ -5,8 +5,8 @@ ghost use Rattle.mt_alone.specs.Driven.{HasAborted};
 ghost use Rattle.mt_alone.specs.Runs.{Answers, AnswersWithin, refused_as};
 ghost use Rattle.mt_script.specs.declared.lines.Line.TheVariants as line;
 
-use crate::operation_steps::{step_to_reply, undo};
 use crate::forces::force_commit;
+use crate::operation_steps::{step_to_reply, undo};
 use mt_base::{Refusal, TxnNo};
 use mt_disk::Device;
 use mt_model::Op;

@@ -7,8 +7,8 @@ mod cli;
 #[cfg(test)]
 mod common;
 #[cfg(test)]
-mod whole_operations;
-#[cfg(test)]
 mod operations;
 #[cfg(test)]
 mod restart;
+#[cfg(test)]
+mod whole_operations;

@@ -7,8 +7,8 @@ ghost use Rattle.mt_script.specs.Answers.{AppendsFront};
 ghost use Rattle.mt_cli.specs.Checks.{HasChecked, IsRefusedFor, IsSurveyed, IsUnchecked, IsUntold, Tells, TellsOf, check_text, figure_line, pages_text, report_text};
 ghost use Rattle.mt_folder.specs.Folders.{AreKept, known_in};
 
-use crate::faults::Fault;
 use crate::answer_lines::write_number;
+use crate::faults::Fault;
 use mt_base::Refusal;
 use mt_disk::Device;
 use mt_folder::Folder;

@@ -11,6 +11,7 @@ ghost use Rattle.std.specs.Io.KnownBytes.{Appends, Keeps};
 ghost use Rattle.mt_cli.specs.declared.commands.TheConstants.{AREA_MIB, PAGES};
 ghost use Rattle.mt_base.specs.Limits.{device_bytes_of};
 
+use crate::answer_lines::write_all_told;
 use crate::at_once::Service;
 use crate::check_command::perform_check;
 use crate::dump_command::perform_dump;
@@ -18,9 +19,8 @@ use crate::explain_command::perform_explain;
 use crate::faults::{Fault, tell, tell_unread};
 use crate::format_command::perform_format;
 use crate::named_inputs::lines_of;
-use crate::schedules::ScheduleGrammar;
 use crate::run_command::perform_run;
-use crate::answer_lines::write_all_told;
+use crate::schedules::ScheduleGrammar;
 use mt_alone::{RunFault, run_alone};
 use mt_args::{CliFault, Command, command_of};
 use mt_base::Refusal;

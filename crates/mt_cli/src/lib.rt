@@ -2,22 +2,22 @@
 //! all of it runs in tests too; the program is one call of [`perform_words`].
 #![tactic(auto)]
 
+mod answer_lines;
 mod at_once;
 mod check_command;
+mod commands;
 mod dump_command;
 mod event_words;
 mod excess;
 mod explain_command;
 mod faults;
 mod format_command;
-mod commands;
-mod read_faults;
 mod named_inputs;
-mod schedules;
+mod read_faults;
 mod run_command;
+mod schedules;
 mod silence;
-mod answer_lines;
 
-pub use mt_shared::{Gate, Point};
 pub use commands::{perform, perform_words};
+pub use mt_shared::{Gate, Point};
 pub use silence::Silence;

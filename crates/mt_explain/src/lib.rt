@@ -2,10 +2,10 @@
 //! would do with what has not ended. Begin at [`history_of`].
 #![tactic(auto)]
 
+mod base_lines;
 mod entries;
 mod history;
-mod base_lines;
 mod unfinished;
 
-pub use history::{History, history_of, write_history};
 pub use base_lines::{write_counters, write_rows};
+pub use history::{History, history_of, write_history};

@@ -4,19 +4,19 @@
 #![tactic(auto)]
 
 mod area_rules;
+mod decoders;
+mod encoders;
 mod fields;
 mod laws;
-mod decoders;
 mod records;
 mod slots;
-mod encoders;
 
 pub use area_rules::AreaRules;
-pub use laws::{batches_are_read_back, lengths_are_of_texts, slots_are_read_back};
 pub use decoders::{decode_batch, decode_body};
+pub use encoders::{encode_batch, push_record};
+pub use laws::{batches_are_read_back, lengths_are_of_texts, slots_are_read_back};
 pub use records::{LoggedOp, Record};
 pub use slots::{MasterSlot, SlotRead, decode_slot, encode_slot};
-pub use encoders::{encode_batch, push_record};
 
 /// The gate of what is there to be read. A gate of any other value is closed.
 pub const OPEN_GATE: u8 = 0xA5;

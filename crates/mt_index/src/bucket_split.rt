@@ -11,9 +11,9 @@ ghost use Rattle.mt_index.specs.Pages.{state_of, TakesPage, Rewired, Parted};
 ghost use Rattle.mt_index.specs.Answers.{InMaps, IsPlanned};
 ghost use Rattle.mt_index.specs.Halves.{changed, AreHalves, Apart, PutsInHalf, Links, Notes};
 
-use crate::entry_insertion::{overflow_page, taken_from};
 use crate::answers::Add;
 use crate::directory::rewired;
+use crate::entry_insertion::{overflow_page, taken_from};
 use mt_base::limits::PAGE_BYTES;
 use mt_base::{Mode, PageNo, RecordName, RelNo};
 use mt_bucket::{depth, empty, has_bit, hash, partition, push, set_depth, set_next};

@@ -7,8 +7,8 @@ ghost use Rattle.mt_index.specs.Pages.{AreFormed};
 ghost use Rattle.mt_index.specs.Answers.{InMaps, IsInBucket, Asks, AmendNeeds, IfAmended, AmendMissing, AmendEndless, Amends, AreSeen};
 
 use crate::answers::{Amend, Held};
-use crate::page_change::change_of;
 use crate::chain::holder_of;
+use crate::page_change::change_of;
 use mt_base::{Mode, RecordName, RelNo};
 use mt_bucket::{remove, set};
 use mt_space::Pages;

@@ -6,11 +6,11 @@ ghost use Rattle.mt_index.specs.Maps.{alter};
 ghost use Rattle.mt_index.specs.Pages.{AreMap};
 ghost use Rattle.mt_index.specs.Answers.{InMaps, Asks, IsInAdd, IsDueInAdd, Adds, TakesSeen, AreSeen, Shortage, IsPlanned, AddNeeds, IfAdded, AddFull, AddEndless};
 
-use crate::entry_insertion::{plan_chain, plan_put};
 use crate::answers::{Add, Spot};
-use crate::directory::MAX_DEPTH;
 use crate::bucket_split::plan_split;
 use crate::chain::room_in;
+use crate::directory::MAX_DEPTH;
+use crate::entry_insertion::{plan_chain, plan_put};
 use mt_base::{Mode, RecordName, RelNo};
 use mt_bucket::depth;
 use mt_space::Pages;

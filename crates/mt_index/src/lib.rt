@@ -4,30 +4,30 @@
 //! its key alone; it writes nothing itself. For how a bucket page is read see `mt_bucket`.
 #![tactic(auto)]
 
-mod entry_insertion;
-mod entry_changes;
 mod answers;
-mod directory_rules;
-mod directory;
-mod lookup;
-mod laws;
 mod bucket_marks;
-mod page_change;
-mod insertion_plan;
-mod pointers;
-mod index_rules;
-mod entry_rules;
 mod bucket_split;
 mod chain;
+mod directory;
+mod directory_rules;
+mod entry_changes;
+mod entry_insertion;
+mod entry_rules;
+mod index_rules;
+mod insertion_plan;
+mod laws;
+mod lookup;
+mod page_change;
+mod pointers;
 
-pub use entry_changes::{plan_drop, plan_set};
 pub use answers::{Add, Amend, Find};
-pub use directory_rules::check_directory;
 pub use directory::{DIRECTORY_HEAD_BYTES, MAX_DEPTH, depth};
-pub use lookup::plan_find;
+pub use directory_rules::check_directory;
+pub use entry_changes::{plan_drop, plan_set};
+pub use index_rules::check;
+pub use insertion_plan::plan_add;
 pub use laws::{
     a_bucket_is_named_by_its_pattern, a_formatted_index_is_the_empty_map,
     other_changes_keep_the_map,
 };
-pub use insertion_plan::plan_add;
-pub use index_rules::check;
+pub use lookup::plan_find;

@@ -8,7 +8,6 @@
 #![tactic(auto)]
 
 mod based;
-mod returned_passes;
 mod kept;
 mod locked;
 mod log_use;
@@ -16,6 +15,7 @@ mod names;
 mod pass;
 mod passes;
 mod past;
+mod returned_passes;
 mod rotation;
 mod txn;
 

@@ -12,11 +12,11 @@ ghost use Rattle.mt_txn.specs.Shown.{is_failed};
 ghost use Rattle.mt_locked.specs.Whole.{HasAllOf, IsOfAll, IsWhole, all_own};
 
 use crate::based::Based;
-use crate::returned_passes::{are_all, meet_all};
 use crate::kept::Kept;
 use crate::log_use::LogUse;
 use crate::names::Naming;
 use crate::pass::Pass;
+use crate::returned_passes::{are_all, meet_all};
 use crate::txn::Txn;
 use mt_base::{Refusal, TxnNo};
 use mt_disk::Device;

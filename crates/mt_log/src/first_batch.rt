@@ -15,9 +15,9 @@ ghost use Rattle.mt_log.specs.Words.{durable_batches, durable, in_flight, waitin
 
 use crate::area::AreaPlace;
 use crate::forces::close_text;
-use crate::synced_write::write_durably;
 use crate::log::{Forced, Log, head_alone, push_text};
 use crate::stage::{Stage, Step};
+use crate::synced_write::write_durably;
 use mt_base::{History, Refusal};
 use mt_disk::Device;
 use mt_frame::{CLOSED_GATE, Record};

@@ -4,17 +4,17 @@
 
 mod area;
 mod batch;
-mod first_batch;
 mod fetch;
+mod first_batch;
 mod forces;
-mod synced_write;
 mod laws;
 mod log;
 mod masters;
 mod scan_state;
 mod scanner;
-mod stage;
 mod slot_change;
+mod stage;
+mod synced_write;
 
 pub use area::AreaPlace;
 pub use batch::Batch;

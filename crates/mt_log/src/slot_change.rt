@@ -8,8 +8,8 @@ ghost use Rattle.mt_log.specs.Masters.{AreSlots, IsClosedAt, IsRuling, Rules};
 ghost use Rattle.mt_log.specs.NextSlot.{ClosesBeside, TurnsBeside, TurnsTo, next_slot};
 
 use crate::fetch::gate_is_open;
-use crate::synced_write::write_durably;
 use crate::masters::{FIRST_SLOT, SECOND_SLOT};
+use crate::synced_write::write_durably;
 use mt_base::limits::MASTER_SLOT_BYTES;
 use mt_disk::{Device, DeviceFault};
 use mt_frame::{CLOSED_GATE, MasterSlot, OPEN_GATE, encode_slot, slots_are_read_back};

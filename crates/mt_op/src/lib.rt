@@ -10,18 +10,18 @@
 #![tactic(auto)]
 
 mod answers;
-mod page_locks;
-mod operations;
 mod next_area;
-mod steps;
+mod operations;
+mod page_locks;
+mod page_writes;
 mod scope;
 mod space_map;
-mod page_writes;
+mod steps;
 mod survey;
 mod take_back;
 
 pub use answers::{Stepped, TakenBack};
-pub use operations::{NotOpened, Operations};
 pub use next_area::Idle;
+pub use operations::{NotOpened, Operations};
 pub use scope::{OpScope, Stage};
 pub use survey::Survey;

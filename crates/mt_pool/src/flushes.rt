@@ -51,7 +51,11 @@ impl Pool {
                 }
             }
         }
-        if any { ToFlush::Waiting } else { ToFlush::Nothing }
+        if any {
+            ToFlush::Waiting
+        } else {
+            ToFlush::Nothing
+        }
     }
 
     /// Writes one page into its slot, all of whose records are durable: the area's first `durable` records

@@ -19,8 +19,8 @@ ghost use Rattle.mt_replay.specs.Stands.{AreHeld, CanRestart, HasArea, ShowsBase
 
 use crate::figures::{Figures, figures_of};
 use crate::laws::{each_inverse_finds, only_own_pages_matter, restart_finds_the_base};
-use crate::pages_held::held_pages;
 use crate::losers::{Loser, losers_of};
+use crate::pages_held::held_pages;
 use crate::undo_pass::Restored;
 use mt_base::Refusal;
 use mt_disk::Device;

@@ -6,18 +6,18 @@
 //! of it is done in memory: nothing here writes to a device.
 #![tactic(auto)]
 
-mod page_rules;
+mod device_replay;
 mod figures;
 mod images;
 mod laws;
-mod repeat;
-mod pages_held;
-mod device_replay;
 mod losers;
+mod page_rules;
+mod pages_held;
+mod repeat;
 mod undo_pass;
 
+pub use device_replay::{Replayed, read_area, read_log, replay};
 pub use figures::Figures;
 pub use laws::{each_inverse_finds, only_own_pages_matter, restart_finds_the_base};
-pub use device_replay::{Replayed, read_area, read_log, replay};
 pub use losers::{Loser, losers_of};
 pub use undo_pass::Restored;

@@ -14,8 +14,8 @@ ghost use Rattle.mt_replay.specs.Recoverable.{IsOf};
 ghost use Rattle.mt_replay.specs.Told.{undo_of, reply_back};
 ghost use Rattle.mt_replay.specs.Undoing.{IsRoom, IsUndoPlan, Misses, Undoes};
 
-use crate::page_rules::AllPages;
 use crate::losers::Loser;
+use crate::page_rules::AllPages;
 use mt_base::limits::MASTER_BYTES;
 use mt_base::{Edit, PageNo, Refusal};
 use mt_file::fits;

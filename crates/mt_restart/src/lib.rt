@@ -5,28 +5,28 @@
 //! [`format`] the device's pages hold a base without rows whose counters are at their starts.
 #![tactic(auto)]
 
-mod fresh_kernel;
+mod area_renewal;
 mod beside;
-mod restart_writes;
 mod first_pages;
 mod format_calls;
+mod fresh_kernel;
+mod fresh_layers;
 mod image_marks;
 mod inspection;
-mod fresh_layers;
-mod recovery;
-mod area_renewal;
 mod log_report;
 mod opened_kernel;
+mod recovery;
+mod report_figures;
+mod restart_writes;
 mod rotation;
 mod schema;
-mod report_figures;
 mod slot_writes;
 
-pub use fresh_kernel::fresh;
 pub use format_calls::format;
+pub use fresh_kernel::fresh;
 pub use inspection::inspect;
 pub use log_report::report;
 pub use opened_kernel::open;
+pub use report_figures::Report;
 pub use rotation::{NotRotated, rotate};
 pub use schema::Schema;
-pub use report_figures::Report;

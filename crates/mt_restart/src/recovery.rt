@@ -1,9 +1,9 @@
 // A device made one again that a kernel may begin over.
 ghost use Rattle.mt_restart.specs.Recovered.{FindsAll, Recovers};
 
+use crate::area_renewal::{prepare_next, turn};
 use crate::beside::{Beside, beside_of};
 use crate::restart_writes::{Marks, can_turn, marks_of};
-use crate::area_renewal::{prepare_next, turn};
 use mt_base::Refusal;
 use mt_disk::Device;
 use mt_frame::{MasterSlot, Record, slots_are_read_back};

@@ -10,8 +10,8 @@ ghost use Rattle.mt_txn.specs.Shown.{Restarts, SameSchema, Shows, TellsEachFault
 ghost use Rattle.mt_txn.specs.Turned.{HasNobody, IsForced};
 ghost use Rattle.mt_restart.specs.Rotated.{HasTurnedOnce, IsForceCause, IsForcedOut, IsLeft, Keeps, TellsFaultsOfTurn, TurnsOver, device_in, early_cause};
 
-use crate::recovery::recover;
 use crate::opened_kernel::parts_over;
+use crate::recovery::recover;
 use mt_base::Refusal;
 use mt_disk::Device;
 use mt_log::FORCE_STEPS;

@@ -6,12 +6,12 @@
 #![tactic(auto)]
 
 mod attempts;
-mod crew;
 mod board;
+mod crew;
+mod line_answers;
 mod service;
 mod session;
 mod transcript;
-mod line_answers;
 
 pub use mt_alone::{NotServed, RunFault, run_alone, run_sessions};
 pub use service::{Served, serve};

@@ -13,8 +13,8 @@ ghost use Rattle.mt_locked.specs.Seen.{PassSeen};
 ghost use Rattle.mt_locked.specs.Whole.{all_own};
 ghost use Rattle.mt_txn.specs.Shown.{is_failed};
 
-use crate::crew::{crew, gather};
 use crate::board::{Board, blank};
+use crate::crew::{crew, gather};
 use crate::transcript::Transcript;
 use mt_base::Refusal;
 use mt_base::limits::MAX_SESSIONS;

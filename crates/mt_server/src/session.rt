@@ -7,8 +7,8 @@ ghost use Rattle.mt_alone.specs.Sessions.{lines_in};
 ghost use Rattle.mt_server.specs.declared.line_answers.Stop.TheVariants as stop;
 
 use crate::attempts::{Ran, run_surely};
-use crate::transcript::Transcript;
 use crate::line_answers::{Stop, refuse};
+use crate::transcript::Transcript;
 use mt_base::Refusal;
 use mt_disk::Device;
 use mt_script::{Line, Script};

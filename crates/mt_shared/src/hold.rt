@@ -8,7 +8,9 @@ use crate::gate::{Gate, Point};
 use crate::shared::{Shared, lost};
 use mt_base::{Refusal, TxnNo};
 use mt_disk::Device;
-use mt_locked::{Locked, Naming, Pass, Refused, Txn, give_token, put_calls, spend_token, take_calls};
+use mt_locked::{
+    Locked, Naming, Pass, Refused, Txn, give_token, put_calls, spend_token, take_calls,
+};
 use mt_model::{Op, Reply};
 use mt_txn::{AbortStepped, Called, Stepped};
 use std::alloc::Global;

@@ -7,14 +7,14 @@
 //! count, one slot's head, and the record's own bytes.
 #![tactic(auto)]
 
-mod record_changes;
-mod page_rules;
-mod heads;
 mod compaction;
-mod placement;
 mod contents;
+mod heads;
+mod page_rules;
+mod placement;
+mod record_changes;
 
-pub use record_changes::{empty, insert, remove, replace};
+pub use contents::{RecordView, get, live, room};
 pub use page_rules::check;
 pub use placement::ROW_HEAD_BYTES;
-pub use contents::{RecordView, get, live, room};
+pub use record_changes::{empty, insert, remove, replace};

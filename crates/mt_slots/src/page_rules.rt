@@ -4,9 +4,9 @@ ghost use Rattle.mt_base.specs.declared.limits.TheConstants.{PAGE_BYTES};
 ghost use Rattle.mt_slots.specs.Page.{IsPage, IsRow, IsSlot, IsFree, Fits, count, row_size, row_at};
 ghost use Rattle.mt_slots.specs.Parts.{IsGood};
 
+use crate::contents::view_at;
 use crate::heads::{PAGE_HEAD_BYTES, SLOT_BYTES, offset_of, size_of, slot_count};
 use crate::placement::ROW_HEAD_BYTES;
-use crate::contents::view_at;
 use mt_base::limits::{PAGE_BYTES, key_fits};
 use mt_base::ranges::u16_at;
 

@@ -5,12 +5,12 @@ ghost use Rattle.mt_base.specs.Ranges.{Wrote};
 ghost use Rattle.mt_slots.specs.Page.{IsShaped, IsFree, Opens, count, offset, size, live_bytes};
 ghost use Rattle.mt_slots.specs.Parts.{IsPlace, HasPlace, StaysPut, Begins, row_text, PutsRow};
 
-use crate::page_rules::is_free;
+use crate::compaction::compact;
+use crate::contents::Survey;
 use crate::heads::{
     PAGE_HEAD_BYTES, SLOT_BYTES, offset_of, set_count, set_head, size_of, slot_count,
 };
-use crate::compaction::compact;
-use crate::contents::Survey;
+use crate::page_rules::is_free;
 use mt_base::RelNo;
 use mt_base::limits::PAGE_BYTES;
 use mt_base::ranges::put;

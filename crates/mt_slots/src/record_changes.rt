@@ -5,10 +5,10 @@ ghost use Rattle.mt_base.specs.declared.limits.TheConstants.{PAGE_BYTES};
 ghost use Rattle.mt_slots.specs.Page.{Row, IsShaped, Sets, Inserted, IsFull, count, offset, size, slot as held, slots, row_at, row_length, live_bytes, room_of, put_at, Opens};
 ghost use Rattle.mt_slots.specs.Parts.{HasPlace, KeepsKey, StaysPut};
 
-use crate::page_rules::is_free;
-use crate::heads::{PAGE_HEAD_BYTES, SLOT_BYTES, offset_of, set_head, size_of, slot_count};
-use crate::placement::{place_row, row_bytes, settle, slots_after};
 use crate::contents::{view_at, walk};
+use crate::heads::{PAGE_HEAD_BYTES, SLOT_BYTES, offset_of, set_head, size_of, slot_count};
+use crate::page_rules::is_free;
+use crate::placement::{place_row, row_bytes, settle, slots_after};
 use mt_base::RelNo;
 use mt_base::limits::PAGE_BYTES;
 use mt_base::ranges::{part_of, put};

@@ -11,7 +11,7 @@ ghost use Rattle.mt_steps.specs.Tells.{Tells, IsWanted, IsDone, IsAny, TakesNone
 ghost use Rattle.mt_steps.specs.Planners.{PlansDelete};
 
 use crate::act::Act;
-use crate::joined_plan::{overlay_of, join, to_write};
+use crate::joined_plan::{join, overlay_of, to_write};
 use mt_base::{Bytes, Mode, RecordName, RelNo};
 use mt_file::{Lookup, Step, plan_read, plan_remove};
 use mt_index::{Amend, Find, plan_drop, plan_find};

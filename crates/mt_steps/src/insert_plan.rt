@@ -16,7 +16,7 @@ ghost use Rattle.mt_steps.specs.Held.{AreRows};
 ghost use Rattle.mt_steps.specs.Planners.{PlansInsert};
 
 use crate::act::Act;
-use crate::joined_plan::{overlay_of, join, to_write};
+use crate::joined_plan::{join, overlay_of, to_write};
 use mt_base::{PageNo, RelNo};
 use mt_file::{Plan, Step, plan_put};
 use mt_index::{Add, Find, plan_add, plan_find};

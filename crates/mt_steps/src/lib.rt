@@ -5,10 +5,9 @@
 
 mod act;
 mod copies;
-mod counters;
 mod counter_plan;
+mod counters;
 mod delete_plan;
-mod overlay;
 mod get_plan;
 mod insert_plan;
 mod joined_plan;
@@ -16,6 +15,7 @@ mod laws;
 mod listed_base;
 mod logged_operation;
 mod operation_plan;
+mod overlay;
 mod update_plan;
 
 pub use act::Act;

@@ -15,7 +15,7 @@ ghost use Rattle.mt_steps.specs.Tells.{Tells, IsWanted, IsDone, HasRoom, TakesRo
 ghost use Rattle.mt_steps.specs.Planners.{PlansUpdate};
 
 use crate::act::Act;
-use crate::joined_plan::{overlay_of, join};
+use crate::joined_plan::{join, overlay_of};
 use mt_base::{Bytes, Mode, PageNo, RecordName, RelNo};
 use mt_file::{Lookup, Plan, Step, plan_read, plan_replace};
 use mt_index::{Amend, Find, plan_find, plan_set};

@@ -22,8 +22,8 @@ ghost use Rattle.mt_txn.specs.PageLocks.{AbortsLocks, OfRunning};
 use crate::answers::AbortStepped;
 use crate::kernel::{Kernel, is_failure};
 use mt_base::{Refusal, TxnNo};
-use mt_disk::Device;
 use mt_core::{Going, Stepping};
+use mt_disk::Device;
 use mt_op::TakenBack;
 
 impl<D: Device> Kernel<D> {

@@ -45,9 +45,7 @@ impl<D: Device> Kernel<D> {
         if MAX_LIVE <= lives {
             return Err(Refusal::TooManyTransactions);
         }
-        if MAX_COMMITS <= self.core.book().len() + lives
-            || MAX_BEGUN <= self.core.live().begun()
-        {
+        if MAX_COMMITS <= self.core.book().len() + lives || MAX_BEGUN <= self.core.live().begun() {
             return Err(Refusal::BookFull);
         }
         self.core.begin(session)

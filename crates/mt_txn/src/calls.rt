@@ -13,8 +13,8 @@ ghost use Rattle.mt_txn.specs.Shown.{LeavesFound};
 
 use crate::kernel::Kernel;
 use mt_base::{Refusal, TxnNo};
-use mt_disk::Device;
 use mt_core::Called;
+use mt_disk::Device;
 use mt_model::Op;
 
 impl<D: Device> Kernel<D> {

@@ -16,9 +16,9 @@ ghost use Rattle.mt_txn.specs.Restarted.{FindsCommits};
 ghost use Rattle.mt_txn.specs.Well.{IsWell, Opens, RestartsFrom};
 
 use mt_base::Refusal;
+use mt_core::Core;
 use mt_disk::Device;
 use mt_escrow::Escrow;
-use mt_core::Core;
 use mt_model::Committed;
 use mt_op::Operations;
 use std::alloc::Global;

@@ -14,12 +14,12 @@ mod causes;
 mod commits;
 mod kernel;
 mod kernel_rest;
+mod next_area;
 mod steps;
 mod surveys;
-mod next_area;
 
 pub use answers::{AbortStepped, KernelForced, Stepped};
 pub use kernel::Kernel;
+pub use kernel_rest::KernelRest;
 pub use mt_core::Called;
 pub use mt_op::Survey;
-pub use kernel_rest::KernelRest;

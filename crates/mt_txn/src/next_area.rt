@@ -10,9 +10,9 @@ ghost use Rattle.mt_txn.specs.Turned.{CanGoOn, HasNobody, IsForced, IsRestOf, Re
 
 use crate::kernel::Kernel;
 use crate::kernel_rest::KernelRest;
+use mt_core::Core;
 use mt_disk::Device;
 use mt_escrow::Escrow;
-use mt_core::Core;
 use mt_op::Operations;
 
 impl<D: Device> Kernel<D> {

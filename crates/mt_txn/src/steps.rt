@@ -18,8 +18,8 @@ ghost use Rattle.mt_txn.specs.Shown.{LeavesFound};
 use crate::answers::Stepped;
 use crate::kernel::{Kernel, is_failure};
 use mt_base::{Refusal, TxnNo};
-use mt_disk::Device;
 use mt_core::{Going, Stepping};
+use mt_disk::Device;
 
 impl<D: Device> Kernel<D> {
     /// Makes a step of the operation of an open transaction: it locks a page and looks at it, or writes one, or ends.

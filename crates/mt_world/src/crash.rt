@@ -5,8 +5,8 @@ ghost use Rattle.mt_disk.specs.Memory.{content};
 ghost use Rattle.mt_restart.specs.Schemas.{device_bytes};
 ghost use Rattle.mt_world.specs.Stopped.{BeginsWithin, IsCrashRun, IsStoppedRun};
 
-use crate::events::Event;
 use crate::commit_order::{acknowledged_in, commits_told};
+use crate::events::Event;
 use crate::schedules::{begin_on, run_schedule};
 use crate::stopping_device::StoppingDevice;
 use mt_base::Refusal;

@@ -7,15 +7,15 @@
 //! a crash leaves then.
 #![tactic(auto)]
 
-mod crash;
-mod events;
-mod event_calls;
 mod commit_order;
-mod schedules;
+mod crash;
+mod event_calls;
+mod events;
 mod kernel_or_device;
+mod schedules;
 mod stopping_device;
 
 pub use crash::{CrashRun, crash_run};
 pub use events::{Answer, Event};
-pub use schedules::run_schedule;
 pub use kernel_or_device::Standing;
+pub use schedules::run_schedule;

@@ -10,8 +10,8 @@ ghost use Rattle.mt_model.specs.Model.{Base};
 ghost use Rattle.mt_world.specs.Crashes.{BeginsOn, BeginsOrStands, FindsSince, FoundFromFormat, FoundTo};
 ghost use Rattle.mt_world.specs.Schedules.{HasRunTo, IsOfSchema};
 
-use crate::events::{Answer, Event};
 use crate::event_calls::{FRAMES, make};
+use crate::events::{Answer, Event};
 use crate::kernel_or_device::Standing;
 use mt_base::Refusal;
 use mt_disk::Device;

@@ -8,8 +8,8 @@ ghost use Rattle.mt_bucket.specs.Entries.{look, renamed, without};
 ghost use Rattle.mt_bucket.specs.Page.{entry_of, entries, count_of, KeepsHead, goes_over, IsCell, IsBucket, KeepsBucket, TakesCell};
 ghost use Rattle.mt_bucket.specs.Steps.{Pushed, Closed, Sorted};
 
-use crate::hashes::{has_bit, hash};
 use crate::heads::{CELL_BYTES, HEAD_BYTES, MAX_ENTRIES, count, set_count};
+use crate::key_hash::{has_bit, hash};
 use crate::lookup::place_of;
 use mt_base::limits::PAGE_BYTES;
 use mt_base::ranges::{part_of, put, put_u16};

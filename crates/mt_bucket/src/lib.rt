@@ -7,15 +7,15 @@
 #![tactic(auto)]
 
 mod entry_changes;
-mod hashes;
 mod heads;
+mod key_hash;
 mod lookup;
 mod page_rules;
 
 pub use entry_changes::{partition, push, remove, set};
-pub use hashes::{has_bit, hash};
 pub use heads::{
     CELL_BYTES, HEAD_BYTES, MAX_ENTRIES, count, depth, empty, next, set_depth, set_next,
 };
+pub use key_hash::{has_bit, hash};
 pub use lookup::{EntryView, entry, find, place_of};
 pub use page_rules::check;

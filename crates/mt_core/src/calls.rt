@@ -20,7 +20,7 @@ ghost use Rattle.mt_core.specs.Advancing.{AdmitsCall, AsksLeave, LocksObject, St
 
 use crate::ends::let_go;
 use crate::parts::{Core, Running};
-use crate::reserves::{bytes_to_undo, left_in};
+use crate::reservations::{bytes_to_undo, left_in};
 use mt_base::{OpNo, Refusal, TxnNo};
 use mt_disk::Device;
 use mt_escrow::Escrow;

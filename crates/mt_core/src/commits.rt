@@ -27,7 +27,7 @@ ghost use Rattle.mt_core.specs.declared.parts.Running.{Running};
 ghost use Rattle.mt_core.specs.Advancing.{LeavesFirst};
 
 use crate::parts::{Commit, Core};
-use crate::reserves::{all_bytes_kept, all_pages_kept};
+use crate::reservations::{all_bytes_kept, all_pages_kept};
 use mt_base::limits::TRANSACTION_LOG_BYTES;
 use mt_base::{LogPos, Refusal, TxnNo};
 use mt_disk::{Device, DeviceFault};

@@ -15,7 +15,7 @@ ghost use Rattle.mt_core.specs.PageLocks.{GivesLocksBack};
 
 use crate::ends::let_go;
 use crate::parts::{Core, Running};
-use crate::reserves::bytes_to_undo;
+use crate::reservations::bytes_to_undo;
 use mt_base::Refusal;
 use mt_disk::Device;
 use mt_op::TakenBack;

@@ -9,7 +9,7 @@ ghost use Rattle.mt_core.specs.declared.parts.Running.{Running};
 ghost use Rattle.mt_core.specs.Advancing.{EndsInverse, EndsReady};
 
 use crate::parts::{Core, Running};
-use crate::reserves::{bytes_kept, bytes_to_undo, pages_kept};
+use crate::reservations::{bytes_kept, bytes_to_undo, pages_kept};
 use mt_base::TxnNo;
 use mt_disk::Device;
 use mt_escrow::Escrow;

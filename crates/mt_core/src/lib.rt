@@ -13,7 +13,7 @@ mod drops;
 mod ends;
 mod next_area;
 mod parts;
-mod reserves;
+mod reservations;
 mod steps;
 mod undo;
 mod views;

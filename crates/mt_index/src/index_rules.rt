@@ -10,7 +10,7 @@ ghost use Rattle.mt_index.specs.Broken.{IsBroken};
 use crate::bucket_marks::mark_buckets;
 use crate::directory_rules::{are_zero, check_directory};
 use crate::entry_rules::find_unsettled;
-use crate::pointers::are_pointers;
+use crate::pointer_rules::are_pointers;
 use mt_base::PageNo;
 use mt_base::limits::PAGE_BYTES;
 use mt_space::pages::{BUCKET, DIRECTORY, FIXED, MAP};

@@ -18,7 +18,7 @@ mod insertion_plan;
 mod laws;
 mod lookup;
 mod page_change;
-mod pointers;
+mod pointer_rules;
 
 pub use answers::{Add, Amend, Find};
 pub use directory::{DIRECTORY_HEAD_BYTES, MAX_DEPTH, depth};

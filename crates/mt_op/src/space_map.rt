@@ -47,7 +47,7 @@ impl SpaceMap {
     {
         self.space.give_back(claim);
         if self.follow(changes) {
-            self.space.follow(&self.kinds);
+            self.space.follow(&*self.kinds);
         }
     }
 
@@ -64,7 +64,7 @@ impl SpaceMap {
         let mut followed = false;
         for change in &changes.list {
             if change.page.get() == MAP {
-                patch(&mut self.kinds, change.edits.as_slice());
+                patch(&mut *self.kinds, change.edits.as_slice());
                 followed = true;
             }
         }

@@ -1,6 +1,6 @@
 use Rattle.std.proofs.Common.{◌<◌, ℕ}
 use Rattle.mt_index.specs.Checks.{bytes_of, IsPointer}
-use Rattle.mt_index.proofs.pointers.are_pointers.Given as goal
+use Rattle.mt_index.proofs.pointer_rules.are_pointers.Given as goal
 
 abbrev pub invariant-loop-i : goal.invariant-loop-i
 invariant-loop-i l = (k : ℕ) → k < l.i → IsPointer (bytes_of l.pages) k

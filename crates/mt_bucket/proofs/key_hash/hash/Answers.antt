@@ -3,7 +3,7 @@ use Rattle.std.proofs.Common.{◌+◌, ◌*◌, ◌%◌, ◌^◌, ℕ, drop, ap,
 use Rattle.std.specs.Int.RustNames.{bit_xor}
 use Rattle.mt_bucket.specs.Hash.{fnv, hash as hash_of}
 use Rattle.mt_bucket.proofs.Hashes.{fnv_more, drop_past}
-use Rattle.mt_bucket.proofs.hashes.hash.Goals as goal
+use Rattle.mt_bucket.proofs.key_hash.hash.Goals as goal
 
 pub returns : goal.returns
 unfolding hash_of

@@ -1,6 +1,6 @@
 use Rattle.std.proofs.Common.{arith}
 use Rattle.std.proofs.lemmas.Grind.{common_steps}
-use Rattle.mt_bucket.proofs.hashes.has_bit.Goals as goal
+use Rattle.mt_bucket.proofs.key_hash.has_bit.Goals as goal
 
 pub returns : goal.returns
 returns c = grind (arith, common_steps)

@@ -148,8 +148,9 @@ class Trial:
         return is_refused
 
 
-def try_all(rt, crate, edits, kept, jobs):
-    """Tries a crate's turned bodies over a folder of kept work, and returns each with whether it was refused."""
+def try_all(rt, crate, edits, kept, jobs, alone=None):
+    """Tries a crate's turned bodies over a folder of kept work, and returns each with whether it was refused. Those of `alone`, or else
+    all, are tried alone if they are not refused together."""
     trial = Trial(rt, crate, kept, jobs)
     bodies = [it for it in edits if read(it)[0].startswith("src/")]
     before, left, rounds = [], bodies, 0
@@ -158,4 +159,5 @@ def try_all(rt, crate, edits, kept, jobs):
     trial.refused |= {it for it in edits if it not in bodies and trial.law(it)}
     by_itself = [it for it in edits if it not in trial.refused]
     print(f"{crate.name}: {len(edits) - len(by_itself)} turned bodies refused in {rounds} checks together, {len(by_itself)} to be tried alone: {' '.join(map(os.path.basename, by_itself))}", flush=True)
-    return [(it, it in trial.refused or trial.alone(it)) for it in edits]
+    may_alone = edits if alone is None else alone
+    return [(it, it in trial.refused or it in may_alone and trial.alone(it)) for it in edits]

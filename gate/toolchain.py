@@ -18,6 +18,8 @@ import time
 # In the later one, a crate's named wrong designs begin with a task of their own, its seed, over which turned bodies are tried too.
 MADE_FOR = ["rattle-kit-13b logic dac8208d650f15bf", "rattle-kit-13f logic dac8208d650f15bf"]
 CLOSING = re.compile(r"(\d+) passed, (\d+) failed")
+# A line of tests takes about as long as five of a library; a program, to be compiled twice, about as long as this many lines.
+TESTS_LINES, PROGRAM_LINES = 5, 3000
 
 
 def version():
@@ -150,20 +152,31 @@ class Run:
         return timed(call, name_of) if self.is_timed else call
 
     def with_lines(self, tasks):
-        """Returns the tasks, of which those that try edits count the lines of their crate if it has turned bodies, so that they start early."""
-        has = lambda key: key[1] == "edits" and self.edits_of(self.crates[key[0]])
-        return {key: (task[0], self.crates[key[0]].count(rb"\n"), *task[2:]) if has(key) else task for key, task in tasks.items()}
+        """Returns the tasks with the lines of source that their time is like, so that long ones start early. Edits have those of their crate, if
+        it has turned bodies. Tests and programs are compiled too, and have more."""
+
+        def lines(key):
+            name, kind = key
+            if kind == "edits" and self.edits_of(self.crates[name]):
+                return self.crates[name].count(rb"\n")
+            return tasks[key][1] * (TESTS_LINES if kind == "tests" else 1) + PROGRAM_LINES * (kind == "proof" and self.crates[name].is_program)
+
+        return {key: (task[0], lines(key), *task[2:]) for key, task in tasks.items()}
 
     def must_fail_all(self, crate, named, flags):
-        """Tries a crate's turned bodies together, and then its named wrong designs in turn, over one folder of kept work. As `rt` does, it
-        tries a design again from nothing if the crate itself is not proved over that folder."""
+        """Tries a crate's turned bodies and its named wrong designs together, over one folder of kept work. A design that is not refused
+        there is tried alone. Returns of each design what `must_fail` does."""
         with tempfile.TemporaryDirectory(prefix="rt-edits-") as kept:
             bodies = self.edits_of(crate)
-            if bodies:
-                self.results[crate.name] = self.clocked(self.try_all, lambda *_: f"{crate.name} turned jobs=1")(self.rt, crate, bodies, kept, 1)
-            if not named:
+            if not bodies and not named:
                 return []
-            return self.clocked(self.named, lambda *_: f"{crate.name} named jobs=1")(crate, named, flags, kept)
+            name_of = lambda *_: f"{crate.name} turned jobs=1"
+            tried = self.clocked(self.try_all, name_of)(self.rt, crate, [*bodies, *named], kept, 1, alone=bodies)
+            self.results[crate.name] = [it for it in tried if it[0] in bodies]
+            refused = {edit for edit, is_refused in tried if is_refused}
+            left = [it for it in named if it not in refused]
+            alone = dict(zip(left, self.clocked(self.named, lambda *_: f"{crate.name} named jobs=1")(crate, left, flags, kept))) if left else {}
+            return [alone.get(it) or (True, f"must-fail {crate.name}/{os.path.basename(it)}: refused at a goal of its own function") for it in named]
 
     def named(self, crate, edits, flags, kept):
         """Tries named wrong designs, and returns of each what `must_fail` does."""

@@ -40,7 +40,7 @@ returns-in-Ok-note_rooms-clause-right g c = λ opening relations counters kept g
     let none = subst (λ (log : Log). AreImages (appended log)) (sym all.log) c.requires.images in
     let kinds : c.in-Ok.parts.1.kinds.value ≡ opening 0 = begins.kinds ∙ unlogged_map seen opening relations counters c.args.store good shows in
     let map : n.map ≡ c.in-Ok.parts.1 = noted.map in
-    let space : n.map.space.0 ≡ mapped n.map.kinds.value (pages n.store.pool) = ap (λ (x : SpaceMap). x.space.0) map ∙ begins.space ∙ (λ i. mapped (sym map i).kinds (sym all.page_count i)) in
+    let space : n.map.space.0 ≡ mapped n.map.kinds.value (pages n.store.pool) = ap (λ (x : SpaceMap). x.space.0) map ∙ begins.space ∙ (λ i. mapped (sym map i).kinds.value (sym all.page_count i)) in
     let zero : reserved_of n.map.space ≡ 0 = ap (λ (x : SpaceMap). reserved_of x.space) map ∙ begins.unclaimed in
     let claims : reserved_of n.map.space ≤ free_of n.map.space = omega (arith, zero) in
     unlogged_right seen may_leave opening relations counters n (all.kept opening kept) none (all.shows opening shows) (noted.locks ∙ c.new-locks.ensures)

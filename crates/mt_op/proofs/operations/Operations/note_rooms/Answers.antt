@@ -16,13 +16,13 @@ use Rattle.mt_op.proofs.Stored.{unlogged_shaped}
 use Rattle.mt_op.proofs.Faulting.{unfailed}
 use Rattle.mt_file.proofs.Shaped.{shaped_of}
 use Rattle.mt_op.proofs.operations.Operations.note_rooms.Goals as goal
-use Rattle.mt_op.proofs.operations.Operations.note_rooms.Goals.{then-self-from-eq-RECORDS+in_ok-bring+then-branch, else-self-from-eq-RECORDS, else-self-from-eq-RECORDS-via-then-self-from-eq-RECORDS+in_ok-bring+else-branch, else-self-from-eq-RECORDS-via-else-self-from-eq-RECORDS}
+use Rattle.mt_op.proofs.operations.Operations.note_rooms.Goals.{then-deref-from-eq-RECORDS+in_ok-bring+then-branch, else-deref-from-eq-RECORDS, else-deref-from-eq-RECORDS-via-then-deref-from-eq-RECORDS+in_ok-bring+else-branch, else-deref-from-eq-RECORDS-via-else-deref-from-eq-RECORDS}
 
 pub count-count-requires : goal.count-count-requires
 count-count-requires g c = record { sound = (steady g.D.Device.seen g.D.Device.may_leave c.args.self.now.store (∥∥₁_map c.requires.good (λ r. (r.0, r.3)))).frames }
 
-pub bounds-self-from : goal.bounds-self-from
-bounds-self-from g c =
+pub bounds-deref-from : goal.bounds-deref-from
+bounds-deref-from g c =
     let k = steady g.D.Device.seen g.D.Device.may_leave c.args.self.now.store (∥∥₁_map c.requires.good (λ r. (r.0, r.3))) in
     let few = k.few in let all = c.count-count.ensures in let below = c.loop-number-test.true in let is = c.from.ensures in omega arith
 
@@ -49,7 +49,7 @@ fits-room-requires g c = shaped_of c.view.result.now (∥∥₁_map c.requires.g
     let below = c.loop-number-test.true in let is = c.new-page.ensures in
     let page : c.new-page.result ≡ c.from.result = c.new-page.ensures ∙ sym c.from.ensures in
     let kinds : l.map.kinds.value ≡ opening 0 = ap (λ (x : SpaceMap). x.kinds.value) before.map ∙ first in
-    let records : get_or (opening 0) c.new-page.result 0 ≡ 3 = ap (λ (bytes : List ℕ). get_or bytes c.new-page.result 0) (sym kinds) ∙ ap (λ (p : ℕ). get_or l.map.kinds.value p 0) page ∙ c.if-self-from-eq-RECORDS.true in
+    let records : get_or (opening 0) c.new-page.result 0 ≡ 3 = ap (λ (bytes : List ℕ). get_or bytes c.new-page.result 0) (sym kinds) ∙ ap (λ (p : ℕ). get_or l.map.kinds.value p 0) page ∙ ap (λ (bytes : List ℕ). get_or bytes c.from.result 0) (sym c.deref.ensures) ∙ c.if-deref-from-eq-RECORDS.true in
     let within : c.new-page.result < pages m.store.pool = omega (arith, same, all, below, is) in
     subst IsShaped (sym (c.view.ensures (seen m.store.device)))
     (unlogged_shaped seen opening relations counters m.store (subst (λ (n : ℕ). IsGood relations counters n opening) (sym same) good) (read.shows opening shows) c.new-page.result within records)))
@@ -87,23 +87,23 @@ loop-number-preserved g c =
     let from : c.from.result ≡ n = c.from.ensures in
     let page : c.new-page.result ≡ n = c.new-page.ensures in
     let Noted : Operations g.row.D.Denot → Type 0 = λ x. IsNotedTo d.seen d.may_leave d.moment d.left_since d.faults o x (n + 1) in
-    elim c.if-self-from-eq-RECORDS.branch [
-      | then-self-from-eq-RECORDS+in_ok-bring+then-branch w ↦
+    elim c.if-deref-from-eq-RECORDS.branch [
+      | then-deref-from-eq-RECORDS+in_ok-bring+then-branch w ↦
           let b = w.bring.ensures in let m = w.bring.new.self in
           subst Noted (sym w.self-is)
           (noted_page d.seen d.may_leave d.moment d.left_since d.faults o l n before inside m w.noted.new.self w.fits-room.result (read_brought d.seen d.may_leave d.moment d.left_since l m b.kept b.rests b.moments b.log b.place b.flush) b.locks b.map b.rooms (unfailed _ _ w.bring.result _ b.cause w.in_ok-bring.was)
-          within (ap (λ (p : ℕ). get_or l.map.kinds.value p 0) (sym from) ∙ w.if-self-from-eq-RECORDS.true)
+          within (ap (λ (p : ℕ). get_or l.map.kinds.value p 0) (sym from) ∙ ap (λ (bytes : List ℕ). get_or bytes c.from.result 0) (sym c.deref.ensures) ∙ w.if-deref-from-eq-RECORDS.true)
           (w.noted.ensures.fits ∙ ap (λ (p : ℕ). set m.rooms p w.fits-room.result) page)
           (w.fits-room.ensures ∙ ap (λ (bytes : List ℕ). fits_of bytes) (w.view.ensures (d.seen m.store.device)) ∙ ap (λ (p : ℕ). fits_of (view m.store.pool (d.seen m.store.device) p)) page))
-      | else-self-from-eq-RECORDS w ↦
-          elim w.else-self-from-eq-RECORDS.branch [
-            | else-self-from-eq-RECORDS-via-then-self-from-eq-RECORDS+in_ok-bring+else-branch x ↦
+      | else-deref-from-eq-RECORDS w ↦
+          elim w.else-deref-from-eq-RECORDS.branch [
+            | else-deref-from-eq-RECORDS-via-then-deref-from-eq-RECORDS+in_ok-bring+else-branch x ↦
                 let old = steady d.seen d.may_leave o.store (∥∥₁_map c.requires.good (λ r. (r.0, r.3))) in
                 let now = steady d.seen d.may_leave l.store (∥∥₁_map c.requires.good (λ r. (r.0, before.read.kept r.0 r.3))) in
                 absurd (still_spare o.store.pool l.store.pool old.frames now.frames before.read.dirty c.requires.spare (x.bring.ensures.full (x.in_ok-bring.was ∙ ap Ok x.if-branch.false)).0)
-            | else-self-from-eq-RECORDS-via-else-self-from-eq-RECORDS x ↦
+            | else-deref-from-eq-RECORDS-via-else-deref-from-eq-RECORDS x ↦
                 subst Noted (sym (w.self-is ∙ x.self-is))
-                (passed d.seen d.may_leave d.moment d.left_since d.faults o l n before inside (λ is. x.if-self-from-eq-RECORDS.false (ap (λ (p : ℕ). get_or l.map.kinds.value p 0) from ∙ is)))
+                (passed d.seen d.may_leave d.moment d.left_since d.faults o l n before inside (λ is. x.if-deref-from-eq-RECORDS.false (ap (λ (bytes : List ℕ). get_or bytes c.from.result 0) c.deref.ensures ∙ ap (λ (p : ℕ). get_or l.map.kinds.value p 0) from ∙ is)))
           ]
     ]
 

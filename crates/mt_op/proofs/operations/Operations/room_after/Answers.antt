@@ -52,5 +52,5 @@ pub fits-requires : goal.fits-requires
 fits-requires g c = shaped_of c.loop-change.bytes (∥∥₁_map c.requires.pages (λ (pages, page, short, shaped).
     let list = c.args.changes.now.list.items in let value = c.deref-change-items.ensures.value in let long = ap length value in
     let all : take c.loop-change.change-index list ≡ list = take_all c.loop-change.change-index list (let past = c.loop-change-test.false in omega (arith, long, past)) in
-    let kind = ap (λ (p : ℕ). get_or c.args.self.now.map.kinds.value p 0) (sym (c.from.ensures ∙ c.get.ensures)) ∙ c.if-self-from-ne-RECORDS.false in
+    let kind = ap (λ (p : ℕ). get_or c.args.self.now.map.kinds.value p 0) (sym (c.from.ensures ∙ c.get.ensures)) ∙ ap (λ (bytes : List ℕ). get_or bytes c.from.result 0) (sym c.deref.ensures) ∙ c.if-deref-from-ne-RECORDS.false in
     subst IsShaped (sym (c.loop-change.invariant.bytes pages page short ∙ ap (λ (cs : List PageChange). after cs pages c.args.page) all)) (shaped kind)))

@@ -1,6 +1,6 @@
 use Rattle.std.proofs.Props.{props}
 use mathlib.Core.Logic.{∥∥₁_elim}
-use Rattle.std.proofs.Common.{◌≡◌, ◌<◌, ◌≤◌, ◌+◌, ℕ, List, All, length, get_or, sym, ap, ◌∙◌, subst}
+use Rattle.std.proofs.Common.{◌≡◌, ◌<◌, ◌≤◌, ◌+◌, ℕ, List, All, length, get_or, refl, sym, ap, ◌∙◌, subst}
 use Rattle.mt_base.specs.Edits.{patched}
 use Rattle.mt_base.specs.declared.edits.Edit.{Edit}
 use Rattle.mt_space.specs.declared.changes.PageChange.{PageChange}
@@ -20,6 +20,14 @@ patch-requires c = ∥∥₁_elim c.requires.short (hlevel props) (λ (pages, ma
     subst (λ (es : List Edit). All (λ (e : Edit). e.start + length e.bytes ≤ 4096) es) (sym c.as_slice.ensures.value)
     (edits_within cs c.loop-change.change-index d pages lt is short (ap (λ (p : ℕ). length (pages p)) here ∙ ap (λ (bytes : List ℕ). length bytes) map ∙ whole)))
 
+pub loop-change-init : goal.loop-change-init
+loop-change-init c = record {
+  whole = ∥∥₁_elim c.requires.short (hlevel props) (λ (pages, map, short, whole). whole);
+  kinds = λ pages opened short. sym opened;
+  none = λ no_. refl;
+  space = refl;
+}
+
 pub loop-change-preserved : goal.loop-change-preserved
 loop-change-preserved c =
     let same = c.deref-change-items.ensures.value in
@@ -35,7 +43,7 @@ loop-change-preserved c =
           let kinds = ap (λ (m : SpaceMap). m.kinds.value) w.self-is in
           record {
             whole = ap (λ (bytes : List ℕ). length bytes) kinds ∙ w.patch.ensures.size;
-            kinds = λ pages opened short. kinds ∙ w.patch.ensures.made ∙ (λ j. patched (w.as_slice.ensures.value j) (before.kinds pages opened short j)) ∙ sym (after_here cs i d pages lt is 0 here);
+            kinds = λ pages opened short. kinds ∙ w.patch.ensures.made ∙ (λ j. patched (w.as_slice.ensures.value j) ((w.deref_mut.ensures.value ∙ before.kinds pages opened short) j)) ∙ sym (after_here cs i d pages lt is 0 here);
             none = λ no_. let yes = w.followed-is in cc;
             space = ap (λ (m : SpaceMap). m.space) w.self-is ∙ before.space;
           }

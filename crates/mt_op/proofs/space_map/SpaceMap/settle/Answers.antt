@@ -13,7 +13,8 @@ follow-requires-then-follow-clause-room c =
     let left = room_left c.args.changes.now.list.items old.kinds.value new.kinds.value (length old.space.0) (reserved_of old.space) c.args.claim c.requires.short c.follow.ensures.kinds in
     let reserved : reserved_of new.space ≡ reserved_of old.space - c.args.claim = (λ i. reserved_of (c.follow.ensures.space i)) ∙ c.give_back.ensures.given in
     let pages : length new.space.0 ≡ length old.space.0 = (λ i. length (c.follow.ensures.space i).0) ∙ ap length c.give_back.ensures.free in
-    subst (λ (n : ℕ). reserved_of new.space ≤ free_in (mapped new.kinds.value n)) (sym pages) (omega (arith, left, reserved))
+    subst (λ (bytes : List ℕ). reserved_of new.space ≤ free_in (mapped bytes (length new.space.0))) (sym c.deref.ensures)
+    (subst (λ (n : ℕ). reserved_of new.space ≤ free_in (mapped new.kinds.value n)) (sym pages) (omega (arith, left, reserved)))
 
 pub returns-then-follow-clause-room : goal.returns-then-follow-clause-room
 returns-then-follow-clause-room c =
@@ -21,7 +22,8 @@ returns-then-follow-clause-room c =
     let left = room_left c.args.changes.now.list.items old.kinds.value new.kinds.value (length old.space.0) (reserved_of old.space) c.args.claim c.requires.short c.follow.ensures.kinds in
     let reserved : reserved_of c.follow-then-follow.new.self ≡ reserved_of old.space - c.args.claim = c.follow-then-follow.ensures.reserved ∙ (λ i. reserved_of (c.follow.ensures.space i)) ∙ c.give_back.ensures.given in
     let pages : length new.space.0 ≡ length old.space.0 = (λ i. length (c.follow.ensures.space i).0) ∙ ap length c.give_back.ensures.free in
-    let free : free_of c.follow-then-follow.new.self ≡ free_in (mapped new.kinds.value (length old.space.0)) = ap free_in c.follow-then-follow.ensures.free ∙ ap (λ (n : ℕ). free_in (mapped new.kinds.value n)) pages in
+    let free : free_of c.follow-then-follow.new.self ≡ free_in (mapped new.kinds.value (length old.space.0)) = ap free_in c.follow-then-follow.ensures.free
+    ∙ ap (λ (bytes : List ℕ). free_in (mapped bytes (length new.space.0))) c.deref.ensures ∙ ap (λ (n : ℕ). free_in (mapped new.kinds.value n)) pages in
     omega (arith, left, reserved, free)
 
 pub returns-else-follow-clause-room : goal.returns-else-follow-clause-room

@@ -1,12 +1,13 @@
 // The command line, read by `clap`.
 ghost use Rattle.std.specs.Prelude.{◌≡◌, ◌≢◌, List, [], Any, IfOk, IfErr, Some, codes, map, option_map, string_bytes, ⊤};
-ghost use Rattle.clap.specs.Words.{Text, found_of, rows_of, subcommand_rows_of};
-ghost use Rattle.mt_args.specs.CommandLines.{counters_at, text_at, AreNumbersAt, IsCommandOf, IsEntered, IsFaultAt, IsFaultOf, IsMisread, IsMisspelled, IsMisspelledAt, IsRun};
+ghost use Rattle.clap.specs.Words.{Text, found_of, one_of, rows_of, subcommand_rows_of};
+ghost use Rattle.mt_args.specs.CommandLines.{counters_at, text_at, AreNumbersAt, IsCommandOf, IsEntered, IsFaultAt, IsFaultOf, IsFlag, IsMisread, IsMisspelled, IsMisspelledAt, IsRun};
 ghost use Rattle.mt_args.specs.Spelling.{AreCounters, IsNoCount, IsNoCounter, SpellsCount};
 
 use crate::numbers::{Numbers, count_of, counters_of};
 use crate::parsers::parser;
 use crate::run_words::serving_of;
+use crate::waits::wait_in;
 use clap::ArgMatches;
 use clap::error::ErrorKind;
 use mt_base::Refusal;
@@ -14,11 +15,15 @@ use std::alloc::{AllocError, Global};
 use thiserror::Error;
 
 /// What the program is asked to do.
+///
+/// A command with `wait` asks so many seconds long for a file that is open in another program. A script with `stop`
+/// ends at its first line that is refused with anything but 9 and 14.
 #[derive(Debug, Drop)]
 pub enum Command {
     /// Runs one script over a device in memory, from this file, or from standard input.
     Try {
         script: Option<String>,
+        stop: bool,
     },
     /// Runs a schedule of events over a device in memory, from this file, or from standard input.
     Schedule {
@@ -28,19 +33,23 @@ pub enum Command {
     Check {
         file: String,
         pages: bool,
+        wait: usize,
     },
     /// Makes a device of a schema of these numbers in this file, or in its place.
     Format {
         file: String,
         numbers: Numbers,
+        wait: usize,
     },
     /// Opens the device in this file, and prints its base.
     Dump {
         file: String,
+        wait: usize,
     },
     /// Tells the log of the device in this file as a history, and what a restart would do.
     Explain {
         file: String,
+        wait: usize,
     },
     /// Opens the device in this file with so many frames, and serves the scripts of these names to it; `-` is standard
     /// input. So many workers serve at once; one serves them one after the other.
@@ -49,6 +58,8 @@ pub enum Command {
         file: String,
         workers: usize,
         scripts: Vec<String>,
+        wait: usize,
+        stop: bool,
     },
     /// Prints this text: the help or the version.
     Show {
@@ -127,29 +138,42 @@ pub(crate) fn required_file(alloc: Global, found: &ArgMatches) -> Result<String,
     String::from_str(alloc, text_in(found, "file"))
 }
 
-/// `check`, with what was found behind its name.
-fn check_of(alloc: Global, found: &ArgMatches) -> Result<Command, AllocError>
-    ensures { IfOk result (IsEntered (Some (codes "check", rows_of (found_of found.now)))) }
+/// Whether a flag was found.
+pub(crate) fn flag_in(found: &ArgMatches, id: &str) -> bool
+    ensures { IsFlag (one_of id.now (rows_of (found_of found.now))) result }
 {
+    found.get_flag(id)
+}
+
+/// `check`, with what was found behind its name.
+fn check_of(alloc: Global, found: &ArgMatches) -> Result<Command, CliFault>
+    ensures command { IfOk result (IsEntered (Some (codes "check", rows_of (found_of found.now)))) }
+    ensures fault { IfErr result (IsMisread (IsMisspelled (Some (codes "check", rows_of (found_of found.now))))) }
+{
+    let wait = wait_in(alloc, found)?;
     let file = required_file(alloc, found)?;
-    let pages = found.get_flag("pages");
-    Ok(Command::Check { file, pages })
+    let pages = flag_in(found, "pages");
+    Ok(Command::Check { file, pages, wait })
 }
 
 /// `dump`, with what was found behind its name.
-fn dump_of(alloc: Global, found: &ArgMatches) -> Result<Command, AllocError>
-    ensures { IfOk result (IsEntered (Some (codes "dump", rows_of (found_of found.now)))) }
+fn dump_of(alloc: Global, found: &ArgMatches) -> Result<Command, CliFault>
+    ensures command { IfOk result (IsEntered (Some (codes "dump", rows_of (found_of found.now)))) }
+    ensures fault { IfErr result (IsMisread (IsMisspelled (Some (codes "dump", rows_of (found_of found.now))))) }
 {
+    let wait = wait_in(alloc, found)?;
     let file = required_file(alloc, found)?;
-    Ok(Command::Dump { file })
+    Ok(Command::Dump { file, wait })
 }
 
 /// `explain`, with what was found behind its name.
-fn explain_of(alloc: Global, found: &ArgMatches) -> Result<Command, AllocError>
-    ensures { IfOk result (IsEntered (Some (codes "explain", rows_of (found_of found.now)))) }
+fn explain_of(alloc: Global, found: &ArgMatches) -> Result<Command, CliFault>
+    ensures command { IfOk result (IsEntered (Some (codes "explain", rows_of (found_of found.now)))) }
+    ensures fault { IfErr result (IsMisread (IsMisspelled (Some (codes "explain", rows_of (found_of found.now))))) }
 {
+    let wait = wait_in(alloc, found)?;
     let file = required_file(alloc, found)?;
-    Ok(Command::Explain { file })
+    Ok(Command::Explain { file, wait })
 }
 
 /// The number that was found for an argument. `Usage` where its word spells none.
@@ -201,8 +225,13 @@ fn format_of(alloc: Global, found: &ArgMatches) -> Result<Command, CliFault>
     ensures fault { IfErr result (IsMisread (IsMisspelled (Some (codes "format", rows_of (found_of found.now))))) }
 {
     let numbers = numbers_in(alloc, found)?;
+    let wait = wait_in(alloc, found)?;
     let file = required_file(alloc, found)?;
-    Ok(Command::Format { file, numbers })
+    Ok(Command::Format {
+        file,
+        numbers,
+        wait,
+    })
 }
 
 /// A fault that says how an argument is spelled, or `NoMemory`.
@@ -225,15 +254,17 @@ fn run_of(alloc: Global, name: &str, found: &ArgMatches) -> Result<Command, Allo
         Ok(Command::Schedule { file })
     } else {
         let script = copied(alloc, found.get_str("script"))?;
-        Ok(Command::Try { script })
+        let stop = flag_in(found, "stop");
+        Ok(Command::Try { script, stop })
     }
 }
 
-/// The command of this name, which has no numbers, with what was found behind it.
-fn numberless(alloc: Global, name: &str, found: &ArgMatches) -> Result<Command, AllocError>
+/// The command of this name, which is neither `format` nor `run`, with what was found behind it.
+fn other_of(alloc: Global, name: &str, found: &ArgMatches) -> Result<Command, CliFault>
     requires format { name.now ≢ codes "format" }
     requires run { name.now ≢ codes "run" }
-    ensures { IfOk result (IsEntered (Some (name.now, rows_of (found_of found.now)))) }
+    ensures command { IfOk result (IsEntered (Some (name.now, rows_of (found_of found.now)))) }
+    ensures fault { IfErr result (IsMisread (IsMisspelled (Some (name.now, rows_of (found_of found.now))))) }
 {
     if name == "check" {
         check_of(alloc, found)
@@ -242,7 +273,7 @@ fn numberless(alloc: Global, name: &str, found: &ArgMatches) -> Result<Command, 
     } else if name == "explain" {
         explain_of(alloc, found)
     } else {
-        run_of(alloc, name, found)
+        Ok(run_of(alloc, name, found)?)
     }
 }
 
@@ -256,7 +287,7 @@ fn named(alloc: Global, name: &str, found: &ArgMatches) -> Result<Command, CliFa
     } else if name == "run" {
         serving_of(alloc, found)
     } else {
-        Ok(numberless(alloc, name, found)?)
+        other_of(alloc, name, found)
     }
 }
 
@@ -267,7 +298,10 @@ fn entered(alloc: Global, matches: &ArgMatches) -> Result<Command, CliFault>
 {
     match matches.subcommand() {
         Some((name, found)) => named(alloc, name, found),
-        None => Ok(Command::Try { script: None }),
+        None => Ok(Command::Try {
+            script: None,
+            stop: false,
+        }),
     }
 }
 

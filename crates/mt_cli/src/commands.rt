@@ -271,27 +271,28 @@ fn do_command<F: Folder, I: Read, O: Write, G: Gate + Drop + Send + Sync, R: Thr
         (O.contents out.old) (O.contents out.new)) }
 {
     match command {
-        Command::Try { script: Some(name) } => {
+        Command::Try { script: Some(name), .. } => {
             perform_try(alloc, folder, Some(name.as_str()), input, out)
         }
-        Command::Try { script: None } => perform_try(alloc, folder, None, input, out),
+        Command::Try { script: None, .. } => perform_try(alloc, folder, None, input, out),
         Command::Schedule { file: Some(name) } => {
             perform_schedule(alloc, folder, Some(name.as_str()), input, out)
         }
         Command::Schedule { file: None } => perform_schedule(alloc, folder, None, input, out),
-        Command::Check { file, pages } => {
+        Command::Check { file, pages, .. } => {
             perform_check(alloc, folder, file.as_str(), *pages, out)
         }
-        Command::Format { file, numbers } => {
+        Command::Format { file, numbers, .. } => {
             perform_format(alloc, folder, file.as_str(), numbers)
         }
-        Command::Dump { file } => perform_dump(alloc, folder, file.as_str(), out),
-        Command::Explain { file } => perform_explain(alloc, folder, file.as_str(), out),
+        Command::Dump { file, .. } => perform_dump(alloc, folder, file.as_str(), out),
+        Command::Explain { file, .. } => perform_explain(alloc, folder, file.as_str(), out),
         Command::Run {
             frames,
             file,
             workers,
             scripts,
+            ..
         } => {
             let service = Service {
                 name: file.as_str(),

@@ -47,7 +47,8 @@ abbrev pub required_rule : Text → Rule
 required_rule id = record (new_rule id) { value_names = 1; required = true }
 
 abbrev pub checking : App
-checking = with_rule (with_rule (with_rule (new_app (codes "check")) pages_rule) wait_rule) (required_rule (codes "file"))
+checking =
+    with_rule (with_rule (with_rule (new_app (codes "check")) pages_rule) wait_rule) (required_rule (codes "file"))
 
 -- `format [--wait SECONDS] FILE PAGES AREA RELATIONS [COUNTER..]`
 abbrev pub sizing : App
@@ -200,7 +201,8 @@ IsUnlimitedAt rows = AreNoFrames (first_of (codes "frames") rows) ⊎ IsNoneWith
 -- a number is misspelled, or one that `run` names or the seconds of a wait are outside their limits
 abbrev pub IsMisspelled : Option (Text × List Row) → Type 0
 IsMisspelled None = ⊥
-IsMisspelled (Some found) = ((found.0 ≡ codes "format") × IsMisspelledAt found.1) ⊎ ((found.0 ≡ codes "run") × IsUnlimitedAt found.1) ⊎ AreNoSeconds (first_of (codes "wait") found.1)
+IsMisspelled (Some found) = ((found.0 ≡ codes "format") × IsMisspelledAt found.1)
+    ⊎ ((found.0 ≡ codes "run") × IsUnlimitedAt found.1) ⊎ AreNoSeconds (first_of (codes "wait") found.1)
 
 -- no command on a device in a file
 abbrev pub IsRun : Text → Type 0
@@ -211,10 +213,14 @@ abbrev pub IsEntered : Option (Text × List Row) → Command → Type 0
 IsEntered entered (Try script stop) = (option_map string_bytes script ≡ script_in entered) × IsFlag (stop_in entered) stop × (name_in entered ≢ Some (codes "schedule")) × (name_in entered ≢ Some (codes "check"))
     × (name_in entered ≢ Some (codes "format")) × (name_in entered ≢ Some (codes "dump")) × (name_in entered ≢ Some (codes "explain")) × (name_in entered ≢ Some (codes "run"))
 IsEntered entered (Schedule file) = (option_map string_bytes file ≡ file_in entered) × (name_in entered ≡ Some (codes "schedule"))
-IsEntered entered (Check file pages wait) = (string_bytes file ≡ device_in entered) × IsFlag (pages_in entered) pages × AreSeconds (wait_in entered) wait × (name_in entered ≡ Some (codes "check"))
-IsEntered entered (Format file numbers wait) = (string_bytes file ≡ device_in entered) × AreNumbersIn entered numbers × AreSeconds (wait_in entered) wait × (name_in entered ≡ Some (codes "format"))
-IsEntered entered (Dump file wait) = (string_bytes file ≡ device_in entered) × AreSeconds (wait_in entered) wait × (name_in entered ≡ Some (codes "dump"))
-IsEntered entered (Explain file wait) = (string_bytes file ≡ device_in entered) × AreSeconds (wait_in entered) wait × (name_in entered ≡ Some (codes "explain"))
+IsEntered entered (Check file pages wait) = (string_bytes file ≡ device_in entered) × IsFlag (pages_in entered) pages
+    × AreSeconds (wait_in entered) wait × (name_in entered ≡ Some (codes "check"))
+IsEntered entered (Format file numbers wait) = (string_bytes file ≡ device_in entered) × AreNumbersIn entered numbers
+    × AreSeconds (wait_in entered) wait × (name_in entered ≡ Some (codes "format"))
+IsEntered entered (Dump file wait) = (string_bytes file ≡ device_in entered) × AreSeconds (wait_in entered) wait
+    × (name_in entered ≡ Some (codes "dump"))
+IsEntered entered (Explain file wait) = (string_bytes file ≡ device_in entered) × AreSeconds (wait_in entered) wait
+    × (name_in entered ≡ Some (codes "explain"))
 IsEntered entered (Run frames file workers scripts wait stop) = (string_bytes file ≡ device_in entered) × IsServingIn entered frames workers (map string_bytes scripts.items) × AreSeconds (wait_in entered) wait × IsFlag (stop_in entered) stop × (name_in entered ≡ Some (codes "run"))
 IsEntered entered (Show text) = ⊥
 
@@ -245,10 +251,12 @@ abbrev pub IsCommandOf : List Text → Command → Type 0
 IsCommandOf words (Try script stop) = IsEntered (subcommand_of program words) (Try script stop)
 IsCommandOf words (Schedule file) = IsEntered (subcommand_of program words) (Schedule file)
 IsCommandOf words (Check file pages wait) = IsEntered (subcommand_of program words) (Check file pages wait)
-IsCommandOf words (Format file numbers wait) = IsEntered (subcommand_of program words) (Format file numbers wait)
+IsCommandOf words (Format file numbers wait) =
+    IsEntered (subcommand_of program words) (Format file numbers wait)
 IsCommandOf words (Dump file wait) = IsEntered (subcommand_of program words) (Dump file wait)
 IsCommandOf words (Explain file wait) = IsEntered (subcommand_of program words) (Explain file wait)
-IsCommandOf words (Run frames file workers scripts wait stop) = IsEntered (subcommand_of program words) (Run frames file workers scripts wait stop)
+IsCommandOf words (Run frames file workers scripts wait stop) =
+    IsEntered (subcommand_of program words) (Run frames file workers scripts wait stop)
 IsCommandOf words (Show text) = IsAsking words
 
 -- words that are a command are refused for want of memory alone, but for a number that they misspell

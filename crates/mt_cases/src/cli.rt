@@ -11,6 +11,7 @@ use std::process::Abort;
 use std::sync::Wait;
 use std::test::Fail;
 use std::thread::Threads;
+use std::time::Clock;
 
 /// What a run of the program left: its status, its output and its error output.
 #[derive(Drop)]
@@ -99,7 +100,7 @@ impl Write for Narrow {
 
 /// A script that is run over a writer with this room, and what it left.
 fn run_narrow(
-    rt: &(impl Abort + AllocGlobal + Threads + Wait + Sync),
+    rt: &(impl Abort + AllocGlobal + Threads + Wait + Clock + Sync),
     room: usize,
     mut script: &[u8],
 ) -> Ran {

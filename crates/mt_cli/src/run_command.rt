@@ -10,6 +10,7 @@ ghost use Rattle.mt_cli.specs.Serves.{AreShortOn, AreUnserved, HasNotRun, HasRun
 use crate::at_once::{Service, serve_file_at_once};
 use crate::faults::Fault;
 use crate::named_inputs::scripts_of;
+use crate::waits::Patience;
 use mt_alone::{RunFault, run_sessions};
 use mt_base::Refusal;
 use mt_base::limits::MAX_SESSIONS;
@@ -23,6 +24,7 @@ use std::alloc::Global;
 use std::io::{Read, Write};
 use std::sync::Wait;
 use std::thread::Threads;
+use std::time::Clock;
 
 /// Serves scripts to a kernel that was just opened, and gives its device back.
 fn serve_opened<D: Device + Drop, O: Write>(
@@ -91,8 +93,9 @@ fn serve_over<D: Device + Drop, O: Write>(
 }
 
 /// Serves scripts to the device in the file of this name.
-fn serve_file<F: Folder, O: Write>(
+fn serve_file<F: Folder, O: Write, R: Clock>(
     alloc: Global,
+    patience: &Patience<'_, R>,
     folder: &mut F,
     frames: usize,
     name: &str,
@@ -104,7 +107,7 @@ fn serve_file<F: Folder, O: Write>(
     ensures unserved { IfErr result (IsUnservedIn (F.files folder.old) (F.files folder.new) name.now
         (map lines_in scripts.now) (O.contents out.old) (O.contents out.new)) }
 {
-    let device = match folder.device(name) {
+    let device = match patience.device(folder, name) {
         Ok(device) => device,
         Err(refusal) => return Err(Fault::Refused(refusal)),
     };
@@ -130,10 +133,11 @@ pub(crate) fn perform_run<
     I: Read,
     O: Write,
     G: Gate + Drop + Send + Sync,
-    R: Threads + Wait + Sync,
+    R: Threads + Wait + Clock + Sync,
 >(
     rt: &R,
     alloc: Global,
+    patience: &Patience<'_, R>,
     folder: &mut F,
     service: Service,
     scripts: &[String],
@@ -153,10 +157,11 @@ pub(crate) fn perform_run<
         Err(fault) => return Err(fault),
     };
     if service.workers > 1 {
-        return serve_file_at_once(rt, alloc, folder, service, scripts, out, gate);
+        return serve_file_at_once(rt, alloc, patience, folder, service, scripts, out, gate);
     }
     serve_file(
         alloc,
+        patience,
         folder,
         service.frames,
         service.name,

@@ -18,19 +18,16 @@ use Rattle.mt_args.specs.declared.command.CliFault.{CliFault}
 use Rattle.mt_args.specs.declared.command.CliFault.TheVariants.{Usage, Refused}
 use Rattle.mt_args.specs.declared.waits.TheConstants.{MAX_WAIT}
 
--- `--wait SECONDS`, of the commands on a device in a file, and `--stop`, of those that run scripts
+-- `--wait SECONDS`, of the commands on a device in a file
 abbrev pub wait_rule : Rule
 wait_rule = record (new_rule (codes "wait")) { long = Some (codes "wait"); value_names = 1 }
 
-abbrev pub stop_rule : Rule
-stop_rule = record (new_rule (codes "stop")) { long = Some (codes "stop"); action = Some SetTrue }
-
--- `try [--stop] [SCRIPT]`
+-- `try [SCRIPT]`
 abbrev pub script_rule : Rule
 script_rule = record (new_rule (codes "script")) { value_names = 1 }
 
 abbrev pub trial : App
-trial = with_rule (with_rule (new_app (codes "try")) stop_rule) script_rule
+trial = with_rule (new_app (codes "try")) script_rule
 
 -- `schedule [FILE]`
 abbrev pub file_rule : Rule
@@ -64,7 +61,7 @@ formatting = with_rule sizing counter_rule
 abbrev pub on_file : Text → App
 on_file name = with_rule (with_rule (new_app name) wait_rule) (required_rule (codes "file"))
 
--- `run [--frames N] [--wait SECONDS] [--stop] FILE WORKERS SCRIPT..`
+-- `run [--frames N] [--wait SECONDS] FILE WORKERS SCRIPT..`
 abbrev pub frames_rule : Rule
 frames_rule = record (new_rule (codes "frames")) { long = Some (codes "frames"); value_names = 1 }
 
@@ -72,7 +69,7 @@ abbrev pub scripts_rule : Rule
 scripts_rule = record (new_rule (codes "script")) { value_names = 1; required = true; action = Some Append }
 
 abbrev pub serving : App
-serving = with_rule (with_rule (with_rule (with_rule (with_rule (with_rule (new_app (codes "run")) frames_rule) wait_rule) stop_rule) (required_rule (codes "file"))) (required_rule (codes "workers"))) scripts_rule
+serving = with_rule (with_rule (with_rule (with_rule (with_rule (new_app (codes "run")) frames_rule) wait_rule) (required_rule (codes "file"))) (required_rule (codes "workers"))) scripts_rule
 
 -- `mtk`, whose words are those behind its name, one of them the command's name
 abbrev pub bare : App
@@ -125,11 +122,6 @@ pub record IsFlag (text : Option Text) (set : Bool) : Type 0 where
 abbrev pub pages_in : Option (Text × List Row) → Option Text
 pages_in None = None
 pages_in (Some found) = one_of (codes "pages") found.1
-
--- whether a refused line is to end a script
-abbrev pub stop_in : Option (Text × List Row) → Option Text
-stop_in None = None
-stop_in (Some found) = one_of (codes "stop") found.1
 
 -- how long a file is to be waited for
 abbrev pub wait_in : Option (Text × List Row) → Option Text
@@ -210,7 +202,7 @@ IsRun name = (name ≢ codes "check") × (name ≢ codes "format") × (name ≢ 
 
 -- what the words enter is the command of its name, or else `try` of a script, and no text to be shown
 abbrev pub IsEntered : Option (Text × List Row) → Command → Type 0
-IsEntered entered (Try script stop) = (option_map string_bytes script ≡ script_in entered) × IsFlag (stop_in entered) stop × (name_in entered ≢ Some (codes "schedule")) × (name_in entered ≢ Some (codes "check"))
+IsEntered entered (Try script) = (option_map string_bytes script ≡ script_in entered) × (name_in entered ≢ Some (codes "schedule")) × (name_in entered ≢ Some (codes "check"))
     × (name_in entered ≢ Some (codes "format")) × (name_in entered ≢ Some (codes "dump")) × (name_in entered ≢ Some (codes "explain")) × (name_in entered ≢ Some (codes "run"))
 IsEntered entered (Schedule file) = (option_map string_bytes file ≡ file_in entered) × (name_in entered ≡ Some (codes "schedule"))
 IsEntered entered (Check file pages wait) = (string_bytes file ≡ device_in entered) × IsFlag (pages_in entered) pages
@@ -221,7 +213,7 @@ IsEntered entered (Dump file wait) = (string_bytes file ≡ device_in entered) �
     × (name_in entered ≡ Some (codes "dump"))
 IsEntered entered (Explain file wait) = (string_bytes file ≡ device_in entered) × AreSeconds (wait_in entered) wait
     × (name_in entered ≡ Some (codes "explain"))
-IsEntered entered (Run frames file workers scripts wait stop) = (string_bytes file ≡ device_in entered) × IsServingIn entered frames workers (map string_bytes scripts.items) × AreSeconds (wait_in entered) wait × IsFlag (stop_in entered) stop × (name_in entered ≡ Some (codes "run"))
+IsEntered entered (Run frames file workers scripts wait) = (string_bytes file ≡ device_in entered) × IsServingIn entered frames workers (map string_bytes scripts.items) × AreSeconds (wait_in entered) wait × (name_in entered ≡ Some (codes "run"))
 IsEntered entered (Show text) = ⊥
 
 -- why words that the parser takes are not read: they are misspelled so, or memory was wanting
@@ -248,15 +240,15 @@ IsMistaken words = ((fits words ≡ false) × (kind : ErrorKind) × IsAmong kind
 -- The words name this command: the one that they enter, with the file that they name, if they name one. A
 -- text is shown only where they wish for it.
 abbrev pub IsCommandOf : List Text → Command → Type 0
-IsCommandOf words (Try script stop) = IsEntered (subcommand_of program words) (Try script stop)
+IsCommandOf words (Try script) = IsEntered (subcommand_of program words) (Try script)
 IsCommandOf words (Schedule file) = IsEntered (subcommand_of program words) (Schedule file)
 IsCommandOf words (Check file pages wait) = IsEntered (subcommand_of program words) (Check file pages wait)
 IsCommandOf words (Format file numbers wait) =
     IsEntered (subcommand_of program words) (Format file numbers wait)
 IsCommandOf words (Dump file wait) = IsEntered (subcommand_of program words) (Dump file wait)
 IsCommandOf words (Explain file wait) = IsEntered (subcommand_of program words) (Explain file wait)
-IsCommandOf words (Run frames file workers scripts wait stop) =
-    IsEntered (subcommand_of program words) (Run frames file workers scripts wait stop)
+IsCommandOf words (Run frames file workers scripts wait) =
+    IsEntered (subcommand_of program words) (Run frames file workers scripts wait)
 IsCommandOf words (Show text) = IsAsking words
 
 -- words that are a command are refused for want of memory alone, but for a number that they misspell

@@ -16,14 +16,12 @@ use thiserror::Error;
 
 /// What the program is asked to do.
 ///
-/// A command with `wait` asks so many seconds long for a file that is open in another program. A script with `stop`
-/// ends at its first line that is refused with anything but 9 and 14.
+/// A command with `wait` asks so many seconds long for a file that is open in another program.
 #[derive(Debug, Drop)]
 pub enum Command {
     /// Runs one script over a device in memory, from this file, or from standard input.
     Try {
         script: Option<String>,
-        stop: bool,
     },
     /// Runs a schedule of events over a device in memory, from this file, or from standard input.
     Schedule {
@@ -59,7 +57,6 @@ pub enum Command {
         workers: usize,
         scripts: Vec<String>,
         wait: usize,
-        stop: bool,
     },
     /// Prints this text: the help or the version.
     Show {
@@ -254,8 +251,7 @@ fn run_of(alloc: Global, name: &str, found: &ArgMatches) -> Result<Command, Allo
         Ok(Command::Schedule { file })
     } else {
         let script = copied(alloc, found.get_str("script"))?;
-        let stop = flag_in(found, "stop");
-        Ok(Command::Try { script, stop })
+        Ok(Command::Try { script })
     }
 }
 
@@ -298,10 +294,7 @@ fn entered(alloc: Global, matches: &ArgMatches) -> Result<Command, CliFault>
 {
     match matches.subcommand() {
         Some((name, found)) => named(alloc, name, found),
-        None => Ok(Command::Try {
-            script: None,
-            stop: false,
-        }),
+        None => Ok(Command::Try { script: None }),
     }
 }
 

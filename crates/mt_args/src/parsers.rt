@@ -55,26 +55,16 @@ const WAIT: Argument = Argument {
     help: "How long to wait for a file that is open in another program, 0 to 3600; 0 if it is not given",
 };
 
-/// What ends a script, of each command that runs one.
-const STOP: Argument = Argument {
-    id: "stop",
-    form: Form::Flag,
-    help: "A script ends at the first line that is refused with anything but 9 and 14",
-};
-
-/// `try [--stop] [SCRIPT]`
+/// `try [SCRIPT]`
 const TRY: Entry = Entry {
     name: "try",
     about: "Run one script over a device in memory and print its transcript",
     examples: None,
-    arguments: &[
-        STOP,
-        Argument {
-            id: "script",
-            form: Form::Optional("SCRIPT"),
-            help: "The script's file; without it, standard input",
-        },
-    ],
+    arguments: &[Argument {
+        id: "script",
+        form: Form::Optional("SCRIPT"),
+        help: "The script's file; without it, standard input",
+    }],
 };
 
 /// `schedule [FILE]`
@@ -156,7 +146,7 @@ const EXPLAIN: Entry = Entry {
     arguments: &[WAIT, DEVICE],
 };
 
-/// `run [--frames N] [--wait SECONDS] [--stop] FILE WORKERS SCRIPT..`
+/// `run [--frames N] [--wait SECONDS] FILE WORKERS SCRIPT..`
 const RUN: Entry = Entry {
     name: "run",
     about: "Open a device, serve scripts to it and print their transcripts",
@@ -168,7 +158,6 @@ const RUN: Entry = Entry {
             help: "Pages that the kernel keeps in frames, 32 to 4096; 256 where it is not given",
         },
         WAIT,
-        STOP,
         DEVICE,
         Argument {
             id: "workers",

@@ -99,13 +99,11 @@ pub(crate) fn serving_of(alloc: Global, found: &ArgMatches) -> Result<Command, C
     let wait = wait_in(alloc, found)?;
     let file = required_file(alloc, found)?;
     let scripts = scripts_in(alloc, found)?;
-    let stop = flag_in(found, "stop");
     Ok(Command::Run {
         frames,
         file,
         workers,
         scripts,
         wait,
-        stop,
     })
 }

@@ -280,11 +280,10 @@ fn do_command<
 {
     let patience = Patience::of(rt, command);
     match command {
-        Command::Try {
-            script: Some(name),
-            ..
-        } => { perform_try(alloc, folder, Some(name.as_str()), input, out) }
-        Command::Try { script: None, .. } => perform_try(alloc, folder, None, input, out),
+        Command::Try { script: Some(name) } => {
+            perform_try(alloc, folder, Some(name.as_str()), input, out)
+        }
+        Command::Try { script: None } => perform_try(alloc, folder, None, input, out),
         Command::Schedule { file: Some(name) } => {
             perform_schedule(alloc, folder, Some(name.as_str()), input, out)
         }

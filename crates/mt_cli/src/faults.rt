@@ -72,11 +72,8 @@ fn named_in(command: &Command) -> &str
     ensures { result.now ≡ named_in command.now }
 {
     match command {
-        Command::Try {
-            script: Some(name),
-            ..
-        } => shown_script(name.as_str()),
-        Command::Try { script: None, .. } => INPUT,
+        Command::Try { script: Some(name) } => shown_script(name.as_str()),
+        Command::Try { script: None } => INPUT,
         Command::Schedule { file: Some(name) } => shown_script(name.as_str()),
         Command::Schedule { file: None } => INPUT,
         Command::Check { file, .. } => shown(file.as_str()),

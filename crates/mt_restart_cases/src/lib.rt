@@ -1,8 +1,13 @@
-//! The tests of what a crash leaves of a device and of what is made of it, through public calls. Lists of events are
-//! stopped at a call of the device, and openings of what is left then are stopped too. A device is cut short, and one
-//! fails at each of its calls. What a base holds is compared as text.
+//! The tests of operations, of the kernel, and of what a crash leaves of a device, through public calls. A split is taken
+//! back, and devices and writers fail. Lists of events are stopped at a call of the device, and openings of what is left
+//! then are stopped too. What a base holds is compared as text. Worked rows are files of `tests/rows`, which the program
+//! runs.
 #![tactic(auto)]
 
+#[cfg(test)]
+mod alone;
+#[cfg(test)]
+mod common;
 #[cfg(test)]
 mod cut;
 #[cfg(test)]
@@ -10,8 +15,14 @@ mod devices;
 #[cfg(test)]
 mod events;
 #[cfg(test)]
+mod formats;
+#[cfg(test)]
 mod large;
+#[cfg(test)]
+mod operations;
 #[cfg(test)]
 mod recovered;
 #[cfg(test)]
 mod scheduled;
+#[cfg(test)]
+mod whole_operations;

@@ -1,77 +1,12 @@
-// Commands over a reader or a writer that fails in the middle, and with little memory.
+// Scripts that run alone on a kernel, over a writer or a device that fails in the middle.
 use crate::common::{device_of, kernel_over, put_away};
 use mt_alone::{RunFault, run_alone};
 use mt_base::Refusal;
-use mt_cli::{Silence, perform_words};
 use mt_disk::FaultDevice;
-use mt_folder::MemFolder;
 use mt_script::{Script, read_script};
-use std::io::{self, ErrorKind, Read, Write};
+use std::io::{self, ErrorKind, Write};
 use std::process::Abort;
-use std::sync::Wait;
 use std::test::Fail;
-use std::thread::Threads;
-use std::time::Clock;
-
-/// What a run of the program left: its status, its output and its error output.
-#[derive(Drop)]
-struct Ran {
-    status: u8,
-    out: Vec<u8>,
-    err: Vec<u8>,
-}
-
-/// That a run left this; of what is told of a refusal these are the first bytes. It borrows what it looks at, and so
-/// do the others of its kind. A test that ends at an assertion would have to drop all that it owns there.
-fn expect_ran(rt: &(impl Abort + AllocGlobal), ran: &Ran, status: u8, out: &[u8], err: &[u8]) {
-    let told = ran.err.as_slice();
-    let is_told = if status == 1 {
-        told.starts_with(err)
-    } else {
-        told == err
-    };
-    assert_eq!(rt; ran.out.as_slice(), out);
-    assert!(rt; is_told);
-    assert_eq!(rt; ran.status, status);
-}
-
-/// A reader that gives these bytes and then fails.
-#[derive(Drop)]
-struct Broken<'a> {
-    rest: &'a [u8],
-}
-
-impl Read for Broken<'_> {
-    fn read(&mut self, buf: &mut [u8]) -> io::Result<usize> {
-        if self.rest.is_empty() {
-            return Err(io::Error::from(ErrorKind::Other));
-        }
-        self.rest.read(buf)
-    }
-}
-
-#[test]
-fn a_failing_reader_is_refusal_2(rt: HostRuntime) -> Result<(), Fail> {
-    let alloc = rt.alloc();
-    let mut folder = MemFolder::new(alloc);
-    let mut out = Vec::new(alloc);
-    let mut err = Vec::new(alloc);
-    let mut input = Broken { rest: b"begin\n" };
-    let words = ["try"];
-    let status = perform_words(
-        &rt,
-        alloc,
-        &words,
-        &mut folder,
-        &mut input,
-        &mut out,
-        &mut err,
-        Silence,
-    );
-    let ran = Ran { status, out, err };
-    expect_ran(&rt, &ran, 1, b"", b"refused 2 DeviceFailed\n");
-    Ok(())
-}
 
 /// A writer that has room for so many bytes and then fails; nor is it flushed once it is full.
 #[derive(Drop)]
@@ -95,48 +30,6 @@ impl Write for Narrow {
             return Err(io::Error::from(ErrorKind::Other));
         }
         Ok(())
-    }
-}
-
-/// A script that is run over a writer with this room, and what it left.
-fn run_narrow(
-    rt: &(impl Abort + AllocGlobal + Threads + Wait + Clock + Sync),
-    room: usize,
-    mut script: &[u8],
-) -> Ran {
-    let alloc = rt.alloc();
-    let mut folder = MemFolder::new(alloc);
-    let taken = Vec::new(alloc);
-    let mut out = Narrow { room, taken };
-    let mut err = Vec::new(alloc);
-    let words = ["try"];
-    let status = perform_words(
-        rt,
-        alloc,
-        &words,
-        &mut folder,
-        &mut script,
-        &mut out,
-        &mut err,
-        Silence,
-    );
-    let Narrow { room: _, taken } = out;
-    Ran {
-        status,
-        out: taken,
-        err,
-    }
-}
-
-#[test]
-fn a_failing_writer_has_a_beginning_of_the_transcript(rt: HostRuntime) {
-    let transcript = b"begun\ndone\ncommitted 1\nbegun\ndone\naborted\n".as_slice();
-    let script = b"begin\ninsert 0 a x\ncommit\nbegin\ninsert 0 b y\n".as_slice();
-    for room in [0, 8, transcript.len() - 1, transcript.len()] {
-        let ran = run_narrow(&rt, room, script);
-        let told =
-            b"the output cannot be written\nstandard output: see that its disk has room and that its reader goes on; what was committed stands\n";
-        expect_ran(&rt, &ran, 1, &transcript[..room], told);
     }
 }
 

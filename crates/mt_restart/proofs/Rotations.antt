@@ -193,7 +193,7 @@ module _ {D : Type 0} {g : Ghosts D} (seen : D → List ℕ) (may_leave : D → 
       let rels : x.relations ≡ rest.relations = beside.relations ∙ alike.0.counts.relations_told ∙ sym is.relations in
       let counts : x.counters ≡ rest.counters = beside.counters ∙ alike.0.counts.counters_told ∙ sym is.counters in
       record {
-        is = is.core;
+        is = is.parts;
         nobody = nobody;
         restarts = subst (λ (X : Type 0). X) (λ i. RestartsFrom seen may_leave (sym is.relations i) (sym is.counters i) first k.core) starts;
         opens = subst (λ (X : Type 0). X) (λ i. Opens seen may_leave o e (rels i) (counts i) (after first k.core.book.items)) (opens (after first k.core.book.items) (alike.1 (after first k.core.book.items) shows.holds) bounds);

@@ -16,11 +16,6 @@ use Rattle.mt_args.specs.declared.command.Command.TheVariants.{Try, Schedule, Ch
 use Rattle.mt_args.specs.declared.numbers.Numbers.{Numbers}
 use Rattle.mt_args.specs.declared.command.CliFault.{CliFault}
 use Rattle.mt_args.specs.declared.command.CliFault.TheVariants.{Usage, Refused}
-use Rattle.mt_args.specs.declared.waits.TheConstants.{MAX_WAIT}
-
--- `--wait SECONDS`, of the commands on a device in a file
-abbrev pub wait_rule : Rule
-wait_rule = record (new_rule (codes "wait")) { long = Some (codes "wait"); value_names = 1 }
 
 -- `try [SCRIPT]`
 abbrev pub script_rule : Rule
@@ -36,7 +31,7 @@ file_rule = record (new_rule (codes "file")) { value_names = 1 }
 abbrev pub scheduling : App
 scheduling = with_rule (new_app (codes "schedule")) file_rule
 
--- `check [--pages] [--wait SECONDS] FILE`
+-- `check [--pages] FILE`
 abbrev pub pages_rule : Rule
 pages_rule = record (new_rule (codes "pages")) { long = Some (codes "pages"); action = Some SetTrue }
 
@@ -44,12 +39,11 @@ abbrev pub required_rule : Text → Rule
 required_rule id = record (new_rule id) { value_names = 1; required = true }
 
 abbrev pub checking : App
-checking =
-    with_rule (with_rule (with_rule (new_app (codes "check")) pages_rule) wait_rule) (required_rule (codes "file"))
+checking = with_rule (with_rule (new_app (codes "check")) pages_rule) (required_rule (codes "file"))
 
--- `format [--wait SECONDS] FILE PAGES AREA RELATIONS [COUNTER..]`
+-- `format FILE PAGES AREA RELATIONS [COUNTER..]`
 abbrev pub sizing : App
-sizing = with_rule (with_rule (with_rule (with_rule (with_rule (new_app (codes "format")) wait_rule) (required_rule (codes "file"))) (required_rule (codes "pages"))) (required_rule (codes "area"))) (required_rule (codes "relations"))
+sizing = with_rule (with_rule (with_rule (with_rule (new_app (codes "format")) (required_rule (codes "file"))) (required_rule (codes "pages"))) (required_rule (codes "area"))) (required_rule (codes "relations"))
 
 abbrev pub counter_rule : Rule
 counter_rule = record (new_rule (codes "counter")) { value_names = 1; action = Some Append }
@@ -57,11 +51,11 @@ counter_rule = record (new_rule (codes "counter")) { value_names = 1; action = S
 abbrev pub formatting : App
 formatting = with_rule sizing counter_rule
 
--- `dump [--wait SECONDS] FILE`, `explain [--wait SECONDS] FILE`
+-- `dump FILE`, `explain FILE`
 abbrev pub on_file : Text → App
-on_file name = with_rule (with_rule (new_app name) wait_rule) (required_rule (codes "file"))
+on_file name = with_rule (new_app name) (required_rule (codes "file"))
 
--- `run [--frames N] [--wait SECONDS] FILE WORKERS SCRIPT..`
+-- `run [--frames N] FILE WORKERS SCRIPT..`
 abbrev pub frames_rule : Rule
 frames_rule = record (new_rule (codes "frames")) { long = Some (codes "frames"); value_names = 1 }
 
@@ -69,7 +63,7 @@ abbrev pub scripts_rule : Rule
 scripts_rule = record (new_rule (codes "script")) { value_names = 1; required = true; action = Some Append }
 
 abbrev pub serving : App
-serving = with_rule (with_rule (with_rule (with_rule (with_rule (new_app (codes "run")) frames_rule) wait_rule) (required_rule (codes "file"))) (required_rule (codes "workers"))) scripts_rule
+serving = with_rule (with_rule (with_rule (with_rule (new_app (codes "run")) frames_rule) (required_rule (codes "file"))) (required_rule (codes "workers"))) scripts_rule
 
 -- `mtk`, whose words are those behind its name, one of them the command's name
 abbrev pub bare : App
@@ -122,20 +116,6 @@ pub record IsFlag (text : Option Text) (set : Bool) : Type 0 where
 abbrev pub pages_in : Option (Text × List Row) → Option Text
 pages_in None = None
 pages_in (Some found) = one_of (codes "pages") found.1
-
--- how long a file is to be waited for
-abbrev pub wait_in : Option (Text × List Row) → Option Text
-wait_in None = None
-wait_in (Some found) = first_of (codes "wait") found.1
-
--- so many seconds are asked for: 0 where none are
-abbrev pub AreSeconds : Option Text → ℕ → Type 0
-AreSeconds None n = n ≡ 0
-AreSeconds (Some word) n = SpellsWithin 0 MAX_WAIT word n
-
-abbrev pub AreNoSeconds : Option Text → Type 0
-AreNoSeconds None = ⊥
-AreNoSeconds (Some word) = IsNoneWithin 0 MAX_WAIT word
 
 -- the word of an argument that must be given, and those of the counters
 abbrev pub text_at : Text → List Row → Text
@@ -190,11 +170,10 @@ IsUnlimitedAt rows = AreNoFrames (first_of (codes "frames") rows) ⊎ IsNoneWith
 
 -- ----
 
--- a number is misspelled, or one that `run` names or the seconds of a wait are outside their limits
+-- a number is misspelled, or one that `run` names is outside its limits
 abbrev pub IsMisspelled : Option (Text × List Row) → Type 0
 IsMisspelled None = ⊥
-IsMisspelled (Some found) = ((found.0 ≡ codes "format") × IsMisspelledAt found.1)
-    ⊎ ((found.0 ≡ codes "run") × IsUnlimitedAt found.1) ⊎ AreNoSeconds (first_of (codes "wait") found.1)
+IsMisspelled (Some found) = ((found.0 ≡ codes "format") × IsMisspelledAt found.1) ⊎ ((found.0 ≡ codes "run") × IsUnlimitedAt found.1)
 
 -- no command on a device in a file
 abbrev pub IsRun : Text → Type 0
@@ -205,15 +184,11 @@ abbrev pub IsEntered : Option (Text × List Row) → Command → Type 0
 IsEntered entered (Try script) = (option_map string_bytes script ≡ script_in entered) × (name_in entered ≢ Some (codes "schedule")) × (name_in entered ≢ Some (codes "check"))
     × (name_in entered ≢ Some (codes "format")) × (name_in entered ≢ Some (codes "dump")) × (name_in entered ≢ Some (codes "explain")) × (name_in entered ≢ Some (codes "run"))
 IsEntered entered (Schedule file) = (option_map string_bytes file ≡ file_in entered) × (name_in entered ≡ Some (codes "schedule"))
-IsEntered entered (Check file pages wait) = (string_bytes file ≡ device_in entered) × IsFlag (pages_in entered) pages
-    × AreSeconds (wait_in entered) wait × (name_in entered ≡ Some (codes "check"))
-IsEntered entered (Format file numbers wait) = (string_bytes file ≡ device_in entered) × AreNumbersIn entered numbers
-    × AreSeconds (wait_in entered) wait × (name_in entered ≡ Some (codes "format"))
-IsEntered entered (Dump file wait) = (string_bytes file ≡ device_in entered) × AreSeconds (wait_in entered) wait
-    × (name_in entered ≡ Some (codes "dump"))
-IsEntered entered (Explain file wait) = (string_bytes file ≡ device_in entered) × AreSeconds (wait_in entered) wait
-    × (name_in entered ≡ Some (codes "explain"))
-IsEntered entered (Run frames file workers scripts wait) = (string_bytes file ≡ device_in entered) × IsServingIn entered frames workers (map string_bytes scripts.items) × AreSeconds (wait_in entered) wait × (name_in entered ≡ Some (codes "run"))
+IsEntered entered (Check file pages) = (string_bytes file ≡ device_in entered) × IsFlag (pages_in entered) pages × (name_in entered ≡ Some (codes "check"))
+IsEntered entered (Format file numbers) = (string_bytes file ≡ device_in entered) × AreNumbersIn entered numbers × (name_in entered ≡ Some (codes "format"))
+IsEntered entered (Dump file) = (string_bytes file ≡ device_in entered) × (name_in entered ≡ Some (codes "dump"))
+IsEntered entered (Explain file) = (string_bytes file ≡ device_in entered) × (name_in entered ≡ Some (codes "explain"))
+IsEntered entered (Run frames file workers scripts) = (string_bytes file ≡ device_in entered) × IsServingIn entered frames workers (map string_bytes scripts.items) × (name_in entered ≡ Some (codes "run"))
 IsEntered entered (Show text) = ⊥
 
 -- why words that the parser takes are not read: they are misspelled so, or memory was wanting
@@ -242,13 +217,11 @@ IsMistaken words = ((fits words ≡ false) × (kind : ErrorKind) × IsAmong kind
 abbrev pub IsCommandOf : List Text → Command → Type 0
 IsCommandOf words (Try script) = IsEntered (subcommand_of program words) (Try script)
 IsCommandOf words (Schedule file) = IsEntered (subcommand_of program words) (Schedule file)
-IsCommandOf words (Check file pages wait) = IsEntered (subcommand_of program words) (Check file pages wait)
-IsCommandOf words (Format file numbers wait) =
-    IsEntered (subcommand_of program words) (Format file numbers wait)
-IsCommandOf words (Dump file wait) = IsEntered (subcommand_of program words) (Dump file wait)
-IsCommandOf words (Explain file wait) = IsEntered (subcommand_of program words) (Explain file wait)
-IsCommandOf words (Run frames file workers scripts wait) =
-    IsEntered (subcommand_of program words) (Run frames file workers scripts wait)
+IsCommandOf words (Check file pages) = IsEntered (subcommand_of program words) (Check file pages)
+IsCommandOf words (Format file numbers) = IsEntered (subcommand_of program words) (Format file numbers)
+IsCommandOf words (Dump file) = IsEntered (subcommand_of program words) (Dump file)
+IsCommandOf words (Explain file) = IsEntered (subcommand_of program words) (Explain file)
+IsCommandOf words (Run frames file workers scripts) = IsEntered (subcommand_of program words) (Run frames file workers scripts)
 IsCommandOf words (Show text) = IsAsking words
 
 -- words that are a command are refused for want of memory alone, but for a number that they misspell

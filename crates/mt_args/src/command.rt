@@ -1,13 +1,12 @@
 // The command line, read by `clap`.
 ghost use Rattle.std.specs.Prelude.{◌≡◌, ◌≢◌, List, [], Any, IfOk, IfErr, Some, codes, map, option_map, string_bytes, ⊤};
-ghost use Rattle.clap.specs.Words.{Text, found_of, one_of, rows_of, subcommand_rows_of};
-ghost use Rattle.mt_args.specs.CommandLines.{counters_at, text_at, AreNumbersAt, IsCommandOf, IsEntered, IsFaultAt, IsFaultOf, IsFlag, IsMisread, IsMisspelled, IsMisspelledAt, IsRun};
+ghost use Rattle.clap.specs.Words.{Text, found_of, rows_of, subcommand_rows_of};
+ghost use Rattle.mt_args.specs.CommandLines.{counters_at, text_at, AreNumbersAt, IsCommandOf, IsEntered, IsFaultAt, IsFaultOf, IsMisread, IsMisspelled, IsMisspelledAt, IsRun};
 ghost use Rattle.mt_args.specs.Spelling.{AreCounters, IsNoCount, IsNoCounter, SpellsCount};
 
 use crate::numbers::{Numbers, count_of, counters_of};
 use crate::parsers::parser;
 use crate::run_words::serving_of;
-use crate::waits::wait_in;
 use clap::ArgMatches;
 use clap::error::ErrorKind;
 use mt_base::Refusal;
@@ -15,8 +14,6 @@ use std::alloc::{AllocError, Global};
 use thiserror::Error;
 
 /// What the program is asked to do.
-///
-/// A command with `wait` asks so many seconds long for a file that is open in another program.
 #[derive(Debug, Drop)]
 pub enum Command {
     /// Runs one script over a device in memory, from this file, or from standard input.
@@ -31,23 +28,19 @@ pub enum Command {
     Check {
         file: String,
         pages: bool,
-        wait: usize,
     },
     /// Makes a device of a schema of these numbers in this file, or in its place.
     Format {
         file: String,
         numbers: Numbers,
-        wait: usize,
     },
     /// Opens the device in this file, and prints its base.
     Dump {
         file: String,
-        wait: usize,
     },
     /// Tells the log of the device in this file as a history, and what a restart would do.
     Explain {
         file: String,
-        wait: usize,
     },
     /// Opens the device in this file with so many frames, and serves the scripts of these names to it; `-` is standard
     /// input. So many workers serve at once; one serves them one after the other.
@@ -56,7 +49,6 @@ pub enum Command {
         file: String,
         workers: usize,
         scripts: Vec<String>,
-        wait: usize,
     },
     /// Prints this text: the help or the version.
     Show {
@@ -135,42 +127,29 @@ pub(crate) fn required_file(alloc: Global, found: &ArgMatches) -> Result<String,
     String::from_str(alloc, text_in(found, "file"))
 }
 
-/// Whether a flag was found.
-pub(crate) fn flag_in(found: &ArgMatches, id: &str) -> bool
-    ensures { IsFlag (one_of id.now (rows_of (found_of found.now))) result }
-{
-    found.get_flag(id)
-}
-
 /// `check`, with what was found behind its name.
-fn check_of(alloc: Global, found: &ArgMatches) -> Result<Command, CliFault>
-    ensures command { IfOk result (IsEntered (Some (codes "check", rows_of (found_of found.now)))) }
-    ensures fault { IfErr result (IsMisread (IsMisspelled (Some (codes "check", rows_of (found_of found.now))))) }
+fn check_of(alloc: Global, found: &ArgMatches) -> Result<Command, AllocError>
+    ensures { IfOk result (IsEntered (Some (codes "check", rows_of (found_of found.now)))) }
 {
-    let wait = wait_in(alloc, found)?;
     let file = required_file(alloc, found)?;
-    let pages = flag_in(found, "pages");
-    Ok(Command::Check { file, pages, wait })
+    let pages = found.get_flag("pages");
+    Ok(Command::Check { file, pages })
 }
 
 /// `dump`, with what was found behind its name.
-fn dump_of(alloc: Global, found: &ArgMatches) -> Result<Command, CliFault>
-    ensures command { IfOk result (IsEntered (Some (codes "dump", rows_of (found_of found.now)))) }
-    ensures fault { IfErr result (IsMisread (IsMisspelled (Some (codes "dump", rows_of (found_of found.now))))) }
+fn dump_of(alloc: Global, found: &ArgMatches) -> Result<Command, AllocError>
+    ensures { IfOk result (IsEntered (Some (codes "dump", rows_of (found_of found.now)))) }
 {
-    let wait = wait_in(alloc, found)?;
     let file = required_file(alloc, found)?;
-    Ok(Command::Dump { file, wait })
+    Ok(Command::Dump { file })
 }
 
 /// `explain`, with what was found behind its name.
-fn explain_of(alloc: Global, found: &ArgMatches) -> Result<Command, CliFault>
-    ensures command { IfOk result (IsEntered (Some (codes "explain", rows_of (found_of found.now)))) }
-    ensures fault { IfErr result (IsMisread (IsMisspelled (Some (codes "explain", rows_of (found_of found.now))))) }
+fn explain_of(alloc: Global, found: &ArgMatches) -> Result<Command, AllocError>
+    ensures { IfOk result (IsEntered (Some (codes "explain", rows_of (found_of found.now)))) }
 {
-    let wait = wait_in(alloc, found)?;
     let file = required_file(alloc, found)?;
-    Ok(Command::Explain { file, wait })
+    Ok(Command::Explain { file })
 }
 
 /// The number that was found for an argument. `Usage` where its word spells none.
@@ -222,13 +201,8 @@ fn format_of(alloc: Global, found: &ArgMatches) -> Result<Command, CliFault>
     ensures fault { IfErr result (IsMisread (IsMisspelled (Some (codes "format", rows_of (found_of found.now))))) }
 {
     let numbers = numbers_in(alloc, found)?;
-    let wait = wait_in(alloc, found)?;
     let file = required_file(alloc, found)?;
-    Ok(Command::Format {
-        file,
-        numbers,
-        wait,
-    })
+    Ok(Command::Format { file, numbers })
 }
 
 /// A fault that says how an argument is spelled, or `NoMemory`.
@@ -255,12 +229,11 @@ fn run_of(alloc: Global, name: &str, found: &ArgMatches) -> Result<Command, Allo
     }
 }
 
-/// The command of this name, which is neither `format` nor `run`, with what was found behind it.
-fn other_of(alloc: Global, name: &str, found: &ArgMatches) -> Result<Command, CliFault>
+/// The command of this name, which has no numbers, with what was found behind it.
+fn numberless(alloc: Global, name: &str, found: &ArgMatches) -> Result<Command, AllocError>
     requires format { name.now ≢ codes "format" }
     requires run { name.now ≢ codes "run" }
-    ensures command { IfOk result (IsEntered (Some (name.now, rows_of (found_of found.now)))) }
-    ensures fault { IfErr result (IsMisread (IsMisspelled (Some (name.now, rows_of (found_of found.now))))) }
+    ensures { IfOk result (IsEntered (Some (name.now, rows_of (found_of found.now)))) }
 {
     if name == "check" {
         check_of(alloc, found)
@@ -269,7 +242,7 @@ fn other_of(alloc: Global, name: &str, found: &ArgMatches) -> Result<Command, Cl
     } else if name == "explain" {
         explain_of(alloc, found)
     } else {
-        Ok(run_of(alloc, name, found)?)
+        run_of(alloc, name, found)
     }
 }
 
@@ -283,7 +256,7 @@ fn named(alloc: Global, name: &str, found: &ArgMatches) -> Result<Command, CliFa
     } else if name == "run" {
         serving_of(alloc, found)
     } else {
-        other_of(alloc, name, found)
+        Ok(numberless(alloc, name, found)?)
     }
 }
 

@@ -5,7 +5,6 @@ mod command;
 mod numbers;
 mod parsers;
 mod run_words;
-mod waits;
 
 pub use command::{CliFault, Command, command_of};
 pub use numbers::Numbers;

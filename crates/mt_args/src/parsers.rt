@@ -48,13 +48,6 @@ const DEVICE: Argument = Argument {
     help: "The device's file",
 };
 
-/// How long a file is waited for, of each command on a device in a file.
-const WAIT: Argument = Argument {
-    id: "wait",
-    form: Form::Value("SECONDS"),
-    help: "How long to wait for a file that is open in another program, 0 to 3600; 0 if it is not given",
-};
-
 /// `try [SCRIPT]`
 const TRY: Entry = Entry {
     name: "try",
@@ -79,7 +72,7 @@ const SCHEDULE: Entry = Entry {
     }],
 };
 
-/// `check [--pages] [--wait SECONDS] FILE`
+/// `check [--pages] FILE`
 const CHECK: Entry = Entry {
     name: "check",
     about: "Tell what the log of a device holds, without a write",
@@ -90,18 +83,16 @@ const CHECK: Entry = Entry {
             form: Form::Flag,
             help: "Look at each page too, as a restart would find it",
         },
-        WAIT,
         DEVICE,
     ],
 };
 
-/// `format [--wait SECONDS] FILE PAGES AREA RELATIONS [COUNTER..]`
+/// `format FILE PAGES AREA RELATIONS [COUNTER..]`
 const FORMAT: Entry = Entry {
     name: "format",
     about: "Make a device with an empty base",
     examples: Some(FORMAT_EXAMPLES),
     arguments: &[
-        WAIT,
         Argument {
             id: "file",
             form: Form::Required("FILE"),
@@ -130,23 +121,23 @@ const FORMAT: Entry = Entry {
     ],
 };
 
-/// `dump [--wait SECONDS] FILE`
+/// `dump FILE`
 const DUMP: Entry = Entry {
     name: "dump",
     about: "Open a device, as after a crash, and print its rows and counters",
     examples: Some(DUMP_EXAMPLES),
-    arguments: &[WAIT, DEVICE],
+    arguments: &[DEVICE],
 };
 
-/// `explain [--wait SECONDS] FILE`
+/// `explain FILE`
 const EXPLAIN: Entry = Entry {
     name: "explain",
     about: "Tell the log of a device as a history, without a write",
     examples: Some(EXPLAIN_EXAMPLES),
-    arguments: &[WAIT, DEVICE],
+    arguments: &[DEVICE],
 };
 
-/// `run [--frames N] [--wait SECONDS] FILE WORKERS SCRIPT..`
+/// `run [--frames N] FILE WORKERS SCRIPT..`
 const RUN: Entry = Entry {
     name: "run",
     about: "Open a device, serve scripts to it and print their transcripts",
@@ -157,7 +148,6 @@ const RUN: Entry = Entry {
             form: Form::Value("N"),
             help: "Pages that the kernel keeps in frames, 32 to 4096; 256 where it is not given",
         },
-        WAIT,
         DEVICE,
         Argument {
             id: "workers",

@@ -4,9 +4,8 @@ ghost use Rattle.clap.specs.Words.{first_of, found_of, rows_of};
 ghost use Rattle.mt_args.specs.CommandLines.{scripts_at, AreFrames, AreNoFrames, IsEntered, IsMisread, IsMisspelled};
 ghost use Rattle.mt_args.specs.Spelling.{IsNoneWithin, SpellsWithin};
 
-use crate::command::{CliFault, Command, flag_in, misspelled, required_file, text_in};
+use crate::command::{CliFault, Command, misspelled, required_file, text_in};
 use crate::numbers::count_within;
-use crate::waits::wait_in;
 use clap::ArgMatches;
 use mt_base::limits::{MAX_FRAMES, MAX_WORKERS, MIN_FRAMES};
 use std::alloc::{AllocError, Global};
@@ -27,7 +26,7 @@ For more information, try '--help'.
 ";
 
 /// The number within limits that a word spells. `Usage` where it spells none, with the text of that rule.
-pub(crate) fn number_within(
+fn number_within(
     alloc: Global,
     word: &str,
     low: u64,
@@ -96,7 +95,6 @@ pub(crate) fn serving_of(alloc: Global, found: &ArgMatches) -> Result<Command, C
         MAX_WORKERS as u64,
         WORKERS_RULE,
     )?;
-    let wait = wait_in(alloc, found)?;
     let file = required_file(alloc, found)?;
     let scripts = scripts_in(alloc, found)?;
     Ok(Command::Run {
@@ -104,6 +102,5 @@ pub(crate) fn serving_of(alloc: Global, found: &ArgMatches) -> Result<Command, C
         file,
         workers,
         scripts,
-        wait,
     })
 }

@@ -88,11 +88,11 @@ module _ {D : Type 0} (g : Ghosts D) where
   pub done_kept : (command : Command) (a : Around) (was mid now : Option (List ℕ)) → IsDone g command a was mid → Keeps mid now → IsDone g command a was now
   done_kept (Try script) a was mid now done kept = (tried_kept g _ was mid now done.0 kept, done.1)
   done_kept (Schedule file) a was mid now done kept = (scheduled_kept _ was mid now done.0 kept, done.1)
-  done_kept (Check file pages wait) a was mid now done kept = (checked_kept pages _ was mid now done.0 kept, done.1)
-  done_kept (Format file numbers wait) a was mid now done kept = (done.0, keeps_kept was mid now done.1 kept)
-  done_kept (Dump file wait) a was mid now done kept = (dumped_kept _ was mid now done.0 kept, done.1)
-  done_kept (Explain file wait) a was mid now done kept = (explained_kept _ was mid now done.0 kept, done.1)
-  done_kept (Run frames file workers scripts wait) a was mid now done kept = run_kept workers _ _ _ _ _ was mid now done kept
+  done_kept (Check file pages) a was mid now done kept = (checked_kept pages _ was mid now done.0 kept, done.1)
+  done_kept (Format file numbers) a was mid now done kept = (done.0, keeps_kept was mid now done.1 kept)
+  done_kept (Dump file) a was mid now done kept = (dumped_kept _ was mid now done.0 kept, done.1)
+  done_kept (Explain file) a was mid now done kept = (explained_kept _ was mid now done.0 kept, done.1)
+  done_kept (Run frames file workers scripts) a was mid now done kept = run_kept workers _ _ _ _ _ was mid now done kept
   done_kept (Show text) a was mid now done kept = (appends_kept was mid now _ done.0 kept, done.1)
 
   -- the output failed within the answers of a run

@@ -36,7 +36,7 @@ advice_at place = cond (nat_lt place MASTER_BYTES) (codes "the file is shorter t
 
 -- what to do where memory was wanting: frames are what `run` takes
 abbrev pub memory_advice : Command → List ℕ
-memory_advice (Run frames file workers scripts wait) = codes "there is not enough memory; `run` takes less with fewer frames"
+memory_advice (Run frames file workers scripts) = codes "there is not enough memory; `run` takes less with fewer frames"
 memory_advice _ = codes "there is not enough memory"
 
 -- why a file is not had: the reason, if the folder knows it
@@ -63,7 +63,7 @@ advice_on command reason _ = codes "see docs/MANUAL.md"
 
 -- what is said of one that is a device; `run` takes it before its scripts
 abbrev pub device_advice : Command → List ℕ
-device_advice (Run frames file workers scripts wait) = codes "that is a device, and no script; FILE comes first"
+device_advice (Run frames file workers scripts) = codes "that is a device, and no script; FILE comes first"
 device_advice (Schedule file) = codes "that is a device, and no schedule"
 device_advice _ = codes "that is a device, and no script"
 
@@ -114,16 +114,16 @@ named_in (Try None) = codes "standard input"
 named_in (Try (Some name)) = shown_name (string_bytes name)
 named_in (Schedule None) = codes "standard input"
 named_in (Schedule (Some name)) = shown_name (string_bytes name)
-named_in (Check file pages wait) = shown_file (string_bytes file)
-named_in (Format file numbers wait) = shown_file (string_bytes file)
-named_in (Dump file wait) = shown_file (string_bytes file)
-named_in (Explain file wait) = shown_file (string_bytes file)
-named_in (Run frames file workers scripts wait) = shown_file (string_bytes file)
+named_in (Check file pages) = shown_file (string_bytes file)
+named_in (Format file numbers) = shown_file (string_bytes file)
+named_in (Dump file) = shown_file (string_bytes file)
+named_in (Explain file) = shown_file (string_bytes file)
+named_in (Run frames file workers scripts) = shown_file (string_bytes file)
 named_in (Show text) = codes "mtk"
 
 -- the script at this place of those that it names, of which all but `run` name one
 abbrev pub script_in : Command → ℕ → List ℕ
-script_in (Run frames file workers scripts wait) at = shown_name (get_or (map string_bytes scripts.items) at [])
+script_in (Run frames file workers scripts) at = shown_name (get_or (map string_bytes scripts.items) at [])
 script_in command at = named_in command
 
 -- the file or the stream that a fault of a command is about

@@ -32,8 +32,8 @@ excess_of n =
 
 -- of a command: of `run` it is the number of its scripts
 abbrev pub excess_in : Command → Excess
-excess_in (Format file numbers wait) = excess_of numbers
-excess_in (Run frames file workers scripts wait) = cond (lies_within 1 MAX_SESSIONS (length scripts.items)) Nothing (Scripts (length scripts.items))
+excess_in (Format file numbers) = excess_of numbers
+excess_in (Run frames file workers scripts) = cond (lies_within 1 MAX_SESSIONS (length scripts.items)) Nothing (Scripts (length scripts.items))
 excess_in _ = Nothing
 
 -- ---- what is printed

@@ -105,11 +105,11 @@ pub record Around : Type 0 where
 abbrev pub IsDone : {D : Type 0} → Ghosts D → Command → Around → Option (List ℕ) → Option (List ℕ) → Type 0
 IsDone g (Try script) a was now = IsTried g (source_of a.before (option_map string_bytes script) a.input) was now × AreKept a.before a.after
 IsDone g (Schedule file) a was now = IsScheduled g (source_of a.before (option_map string_bytes file) a.input) was now × AreKept a.before a.after
-IsDone g (Check file pages wait) a was now = HasChecked pages (known_in a.before (string_bytes file)) was now × AreKept a.before a.after
-IsDone g (Format file numbers wait) a was now = Formats numbers a.before a.after (string_bytes file) × Keeps was now
-IsDone g (Dump file wait) a was now = HasDumped (known_in a.before (string_bytes file)) was now × StandsOn a.before a.after (string_bytes file)
-IsDone g (Explain file wait) a was now = HasExplained (known_in a.before (string_bytes file)) was now × AreKept a.before a.after
-IsDone g (Run frames file workers scripts wait) a was now = HasRunScripts workers a.before a.after (string_bytes file) (map string_bytes scripts.items) a.input was now
+IsDone g (Check file pages) a was now = HasChecked pages (known_in a.before (string_bytes file)) was now × AreKept a.before a.after
+IsDone g (Format file numbers) a was now = Formats numbers a.before a.after (string_bytes file) × Keeps was now
+IsDone g (Dump file) a was now = HasDumped (known_in a.before (string_bytes file)) was now × StandsOn a.before a.after (string_bytes file)
+IsDone g (Explain file) a was now = HasExplained (known_in a.before (string_bytes file)) was now × AreKept a.before a.after
+IsDone g (Run frames file workers scripts) a was now = HasRunScripts workers a.before a.after (string_bytes file) (map string_bytes scripts.items) a.input was now
 IsDone g (Show text) a was now = Appends was now (string_bytes text) × AreKept a.before a.after
 
 -- and what the command that words name leaves there
@@ -174,11 +174,11 @@ IsFormatFault numbers (Unscheduled why) = ⊥
 abbrev pub IsUndone : {D : Type 0} → Ghosts D → Command → Around → Option (List ℕ) → Option (List ℕ) → Fault → Type 0
 IsUndone g (Try script) a was now fault = IsUntried g (source_of a.before (option_map string_bytes script) a.input) was now fault × AreKept a.before a.after
 IsUndone g (Schedule file) a was now fault = IsUnscheduled g (source_of a.before (option_map string_bytes file) a.input) was now fault × AreKept a.before a.after
-IsUndone g (Check file pages wait) a was now fault = IsUnchecked pages (known_in a.before (string_bytes file)) was now fault × AreKept a.before a.after
-IsUndone g (Format file numbers wait) a was now fault = IsFormatFault numbers fault × AreKept a.before a.after × Keeps was now
-IsUndone g (Dump file wait) a was now fault = IsUndumped (known_in a.before (string_bytes file)) was now fault × AreLeftBy a.before a.after (string_bytes file) fault
-IsUndone g (Explain file wait) a was now fault = IsUnexplained (known_in a.before (string_bytes file)) was now fault × AreKept a.before a.after
-IsUndone g (Run frames file workers scripts wait) a was now fault = HasNotRun workers a.before a.after (string_bytes file) (map string_bytes scripts.items) a.input was now fault
+IsUndone g (Check file pages) a was now fault = IsUnchecked pages (known_in a.before (string_bytes file)) was now fault × AreKept a.before a.after
+IsUndone g (Format file numbers) a was now fault = IsFormatFault numbers fault × AreKept a.before a.after × Keeps was now
+IsUndone g (Dump file) a was now fault = IsUndumped (known_in a.before (string_bytes file)) was now fault × AreLeftBy a.before a.after (string_bytes file) fault
+IsUndone g (Explain file) a was now fault = IsUnexplained (known_in a.before (string_bytes file)) was now fault × AreKept a.before a.after
+IsUndone g (Run frames file workers scripts) a was now fault = HasNotRun workers a.before a.after (string_bytes file) (map string_bytes scripts.items) a.input was now fault
 IsUndone g (Show text) a was now fault = (fault ≡ Output) × AppendsFront was now (string_bytes text) × AreKept a.before a.after
 
 -- A command ended with a fault, or it was done and the output could not be flushed. The error output reports it, and what to do, or has a

@@ -11,7 +11,6 @@ ghost use Rattle.mt_txn.specs.Turned.{HasNobody};
 ghost use Rattle.mt_cli.specs.Serves.{AreServedAtOnce, IsEndOf, IsServedAtOnce, IsUnservedAtOnce, session_text, texts_in_order};
 
 use crate::faults::Fault;
-use crate::waits::Patience;
 use itoa::Buffer;
 use mt_base::Refusal;
 use mt_base::limits::MAX_SESSIONS;
@@ -25,7 +24,6 @@ use std::alloc::Global;
 use std::io::Write;
 use std::sync::Wait;
 use std::thread::Threads;
-use std::time::Clock;
 
 /// Which device is served: the name of its file, the pages in frames, and how many workers serve it.
 #[derive(Clone, Copy)]
@@ -150,11 +148,10 @@ pub(crate) fn serve_file_at_once<
     F: Folder,
     O: Write,
     G: Gate + Drop + Send + Sync,
-    R: Threads + Wait + Clock + Sync,
+    R: Threads + Wait + Sync,
 >(
     rt: &R,
     alloc: Global,
-    patience: &Patience<'_, R>,
     folder: &mut F,
     service: Service,
     scripts: Vec<Script>,
@@ -166,7 +163,7 @@ pub(crate) fn serve_file_at_once<
     ensures unserved { IfErr result (IsUnservedAtOnce (F.files folder.old) (F.files folder.new) service.entry.name.now
         (map lines_in scripts.items) (O.contents out.old) (O.contents out.new)) }
 {
-    let device = match patience.device(folder, service.name) {
+    let device = match folder.device(service.name) {
         Ok(device) => device,
         Err(refusal) => return Err(Fault::Refused(refusal)),
     };

@@ -1,4 +1,4 @@
-// `check`: what is reported of the device in a file, by a copy of it.
+// `check`: what is told of the device in a file, without a write.
 ghost use Rattle.std.specs.Prelude.{◌≡◌, IfErr, IfOk, OnErr, OnOk, map};
 ghost use Rattle.std.specs.List.{concat};
 ghost use Rattle.std.specs.Io.KnownBytes.{Appends};
@@ -9,7 +9,6 @@ ghost use Rattle.mt_folder.specs.Folders.{AreKept, known_in};
 
 use crate::answer_lines::write_number;
 use crate::faults::Fault;
-use crate::waits::Patience;
 use mt_base::Refusal;
 use mt_disk::Device;
 use mt_folder::Folder;
@@ -17,7 +16,6 @@ use mt_restart::{Report, inspect, report};
 use mt_script::{Unheard, put};
 use std::alloc::Global;
 use std::io::Write;
-use std::time::Clock;
 
 /// Has the pages of a device inspected.
 fn look_at_pages<D: Device>(alloc: Global, device: &mut D) -> Result<(), Refusal>
@@ -42,10 +40,9 @@ fn told_of<D: Device>(alloc: Global, device: &mut D, pages: bool) -> Result<Repo
     Ok(told)
 }
 
-/// What is reported of the device in the file of this name.
-fn told_of_file<F: Folder, R: Clock>(
+/// What is told of the device in the file of this name.
+fn told_of_file<F: Folder>(
     alloc: Global,
-    patience: &Patience<'_, R>,
     folder: &mut F,
     name: &str,
     pages: bool,
@@ -54,8 +51,10 @@ fn told_of_file<F: Folder, R: Clock>(
     ensures cause { IfErr result (IsUntold pages (known_in (F.files folder.old) name.now)) }
     ensures kept { AreKept (F.files folder.old) (F.files folder.new) }
 {
-    let mut device = patience.copy(folder, name)?;
-    told_of(alloc, &mut device, pages)
+    let mut device = folder.device(name)?;
+    let told = told_of(alloc, &mut device, pages);
+    folder.back(name, device);
+    told
 }
 
 /// Writes a line for each of these figures: its word, and its number behind it.
@@ -108,11 +107,10 @@ fn write_check<W: Write>(writer: &mut W, report: &Report, pages: bool) -> Result
     put(writer, last_line(pages).as_bytes())
 }
 
-/// Does `check`: reports what the log of the device in a file holds, and that its pages break no rule if that is asked
-/// for. The file is only read. If the check is refused, nothing is written.
-pub(crate) fn perform_check<F: Folder, O: Write, R: Clock>(
+/// Does `check`: tells what the log of the device in a file holds, and that its pages break no rule where that is asked
+/// for. The device is only read. Where it is refused, nothing is written.
+pub(crate) fn perform_check<F: Folder, O: Write>(
     alloc: Global,
-    patience: &Patience<'_, R>,
     folder: &mut F,
     name: &str,
     pages: bool,
@@ -124,7 +122,7 @@ pub(crate) fn perform_check<F: Folder, O: Write, R: Clock>(
         (O.contents out.old) (O.contents out.new)) }
     ensures kept { AreKept (F.files folder.old) (F.files folder.new) }
 {
-    match told_of_file(alloc, patience, folder, name, pages) {
+    match told_of_file(alloc, folder, name, pages) {
         Ok(report) => match write_check(out, &report, pages) {
             Ok(()) => Ok(()),
             Err(_) => Err(Fault::Output),

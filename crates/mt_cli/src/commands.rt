@@ -21,7 +21,6 @@ use crate::format_command::perform_format;
 use crate::named_inputs::lines_of;
 use crate::run_command::perform_run;
 use crate::schedules::ScheduleGrammar;
-use crate::waits::Patience;
 use mt_alone::{RunFault, run_alone};
 use mt_args::{CliFault, Command, command_of};
 use mt_base::Refusal;
@@ -37,7 +36,6 @@ use std::alloc::Global;
 use std::io::{Read, Write};
 use std::sync::Wait;
 use std::thread::Threads;
-use std::time::Clock;
 
 /// The status of a command that was done; refusals within a transcript count as done.
 const DONE: u8 = 0;
@@ -256,13 +254,7 @@ fn show<O: Write>(text: &str, out: &mut O) -> Result<(), Fault>
 }
 
 /// Does a command.
-fn do_command<
-    F: Folder,
-    I: Read,
-    O: Write,
-    G: Gate + Drop + Send + Sync,
-    R: Threads + Wait + Clock + Sync,
->(
+fn do_command<F: Folder, I: Read, O: Write, G: Gate + Drop + Send + Sync, R: Threads + Wait + Sync>(
     rt: &R,
     alloc: Global,
     command: &Command,
@@ -278,7 +270,6 @@ fn do_command<
         (record { before = F.files folder.old; after = F.files folder.new; input = I.remaining input.old })
         (O.contents out.old) (O.contents out.new)) }
 {
-    let patience = Patience::of(rt, command);
     match command {
         Command::Try { script: Some(name) } => {
             perform_try(alloc, folder, Some(name.as_str()), input, out)
@@ -288,22 +279,19 @@ fn do_command<
             perform_schedule(alloc, folder, Some(name.as_str()), input, out)
         }
         Command::Schedule { file: None } => perform_schedule(alloc, folder, None, input, out),
-        Command::Check { file, pages, .. } => {
-            perform_check(alloc, &patience, folder, file.as_str(), *pages, out)
+        Command::Check { file, pages } => {
+            perform_check(alloc, folder, file.as_str(), *pages, out)
         }
-        Command::Format { file, numbers, .. } => {
-            perform_format(alloc, &patience, folder, file.as_str(), numbers)
+        Command::Format { file, numbers } => {
+            perform_format(alloc, folder, file.as_str(), numbers)
         }
-        Command::Dump { file, .. } => perform_dump(alloc, &patience, folder, file.as_str(), out),
-        Command::Explain { file, .. } => {
-            perform_explain(alloc, &patience, folder, file.as_str(), out)
-        }
+        Command::Dump { file } => perform_dump(alloc, folder, file.as_str(), out),
+        Command::Explain { file } => perform_explain(alloc, folder, file.as_str(), out),
         Command::Run {
             frames,
             file,
             workers,
             scripts,
-            ..
         } => {
             let service = Service {
                 name: file.as_str(),
@@ -313,7 +301,6 @@ fn do_command<
             perform_run(
                 rt,
                 alloc,
-                &patience,
                 folder,
                 service,
                 scripts.as_slice(),
@@ -346,7 +333,7 @@ pub fn perform<
     O: Write,
     E: Write,
     G: Gate + Drop + Send + Sync,
-    R: Threads + Wait + Clock + Sync,
+    R: Threads + Wait + Sync,
 >(
     rt: &R,
     alloc: Global,
@@ -377,7 +364,7 @@ pub fn perform_words<
     O: Write,
     E: Write,
     G: Gate + Drop + Send + Sync,
-    R: Threads + Wait + Clock + Sync,
+    R: Threads + Wait + Sync,
 >(
     rt: &R,
     alloc: Global,

@@ -76,11 +76,16 @@ fn named_in(command: &Command) -> &str
         Command::Try { script: None } => INPUT,
         Command::Schedule { file: Some(name) } => shown_script(name.as_str()),
         Command::Schedule { file: None } => INPUT,
-        Command::Check { file, .. } => shown(file.as_str()),
-        Command::Format { file, .. } => shown(file.as_str()),
-        Command::Dump { file, .. } => shown(file.as_str()),
-        Command::Explain { file, .. } => shown(file.as_str()),
-        Command::Run { file, .. } => shown(file.as_str()),
+        Command::Check { file, pages: _ } => shown(file.as_str()),
+        Command::Format { file, numbers: _ } => shown(file.as_str()),
+        Command::Dump { file } => shown(file.as_str()),
+        Command::Explain { file } => shown(file.as_str()),
+        Command::Run {
+            frames: _,
+            file,
+            workers: _,
+            scripts: _,
+        } => shown(file.as_str()),
         Command::Show { text: _ } => PROGRAM,
     }
 }
@@ -90,7 +95,12 @@ fn script_in(command: &Command, at: usize) -> &str
     ensures { result.now ≡ script_in command.now at }
 {
     match command {
-        Command::Run { scripts, .. } => script_name(scripts.as_slice(), at),
+        Command::Run {
+            frames: _,
+            file: _,
+            workers: _,
+            scripts,
+        } => script_name(scripts.as_slice(), at),
         _ => named_in(command),
     }
 }
@@ -137,7 +147,12 @@ fn memory_advice(command: &Command) -> &'static str
     ensures { result.now ≡ memory_advice command.now }
 {
     match command {
-        Command::Run { .. } => "there is not enough memory; `run` takes less with fewer frames",
+        Command::Run {
+            frames: _,
+            file: _,
+            workers: _,
+            scripts: _,
+        } => "there is not enough memory; `run` takes less with fewer frames",
         _ => "there is not enough memory",
     }
 }
@@ -198,7 +213,12 @@ fn device_advice(command: &Command) -> &'static str
     ensures { result.now ≡ device_advice command.now }
 {
     match command {
-        Command::Run { .. } => "that is a device, and no script; FILE comes first",
+        Command::Run {
+            frames: _,
+            file: _,
+            workers: _,
+            scripts: _,
+        } => "that is a device, and no script; FILE comes first",
         Command::Schedule { file: _ } => "that is a device, and no schedule",
         _ => "that is a device, and no script",
     }

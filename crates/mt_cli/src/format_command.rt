@@ -5,13 +5,11 @@ ghost use Rattle.mt_cli.specs.Formattings.{AreNarrow, AreWithin, Formats, IsSche
 ghost use Rattle.mt_cli.specs.Performs.{IsFormatFault};
 
 use crate::faults::Fault;
-use crate::waits::Patience;
 use mt_args::Numbers;
 use mt_base::Refusal;
 use mt_folder::Folder;
 use mt_restart::{Schema, format};
 use std::alloc::Global;
-use std::time::Clock;
 
 /// Pages, MiB of a log area and relations, where each fits its type.
 fn narrowed(numbers: &Numbers) -> Option<(u16, u8, u16)>
@@ -46,19 +44,14 @@ fn schema_of(alloc: Global, numbers: &Numbers) -> Result<Schema, Refusal>
     }
 }
 
-/// Makes a device of a schema, and puts it in the place of this name once it is formatted. If that fails, the device is
-/// dropped.
-fn put_formatted<F: Folder, R: Clock>(
-    patience: &Patience<'_, R>,
-    folder: &mut F,
-    name: &str,
-    schema: &Schema,
-) -> Result<(), Refusal>
+/// Makes a device of a schema, and puts it in the place of this name once it is formatted. Where that fails, it is let
+/// go.
+fn put_formatted<F: Folder>(folder: &mut F, name: &str, schema: &Schema) -> Result<(), Refusal>
     ensures put { OnOk result (PutsFormatted schema.now (F.files folder.old) (F.files folder.new) name.now) }
     ensures why { IfErr result IsUnmade }
     ensures err { OnErr result (AreKept (F.files folder.old) (F.files folder.new)) }
 {
-    let mut device = patience.make(folder, name, schema.device_len())?;
+    let mut device = folder.make(name, schema.device_len())?;
     match format(&mut device, schema) {
         Ok(()) => folder.install(name, device),
         Err(refusal) => {
@@ -71,9 +64,8 @@ fn put_formatted<F: Folder, R: Clock>(
 /// Makes a device of the schema of these numbers in the file of this name, or in its place. Refused by `BadLength` if
 /// and only if a number is outside its limits, before any file is made. Refused by `NoMemory`, and by `DeviceFailed`
 /// where the file cannot be made or written. The folder is then as before.
-fn put_device<F: Folder, R: Clock>(
+fn put_device<F: Folder>(
     alloc: Global,
-    patience: &Patience<'_, R>,
     folder: &mut F,
     name: &str,
     numbers: &Numbers,
@@ -83,13 +75,12 @@ fn put_device<F: Folder, R: Clock>(
     ensures err { OnErr result (AreKept (F.files folder.old) (F.files folder.new)) }
 {
     let schema = schema_of(alloc, numbers)?;
-    put_formatted(patience, folder, name, &schema)
+    put_formatted(folder, name, &schema)
 }
 
 /// Does `format`. Where it is refused, each file is as it was.
-pub(crate) fn perform_format<F: Folder, R: Clock>(
+pub(crate) fn perform_format<F: Folder>(
     alloc: Global,
-    patience: &Patience<'_, R>,
     folder: &mut F,
     name: &str,
     numbers: &Numbers,
@@ -98,7 +89,7 @@ pub(crate) fn perform_format<F: Folder, R: Clock>(
     ensures cause { IfErr result (IsFormatFault numbers.now) }
     ensures err { OnErr result (AreKept (F.files folder.old) (F.files folder.new)) }
 {
-    match put_device(alloc, patience, folder, name, numbers) {
+    match put_device(alloc, folder, name, numbers) {
         Ok(()) => Ok(()),
         Err(refusal) => Err(Fault::Refused(refusal)),
     }

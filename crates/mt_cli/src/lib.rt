@@ -17,7 +17,6 @@ mod read_faults;
 mod run_command;
 mod schedules;
 mod silence;
-mod waits;
 
 pub use commands::{perform, perform_words};
 pub use mt_shared::{Gate, Point};

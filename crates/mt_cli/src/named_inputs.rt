@@ -1,4 +1,4 @@
-// Scripts and schedules, read by name. No text is read further than the longest one could go.
+// Scripts and schedules, read by name.
 ghost use Rattle.std.specs.Prelude.{◌≡◌, ◌++◌, ◌<◌, length, OnOk, false, IfErr, IfOk, IfSome, is_some, map, option_map, string_bytes, true};
 ghost use Rattle.mt_script.specs.Grammars.{AreLines};
 ghost use Rattle.mt_alone.specs.Sessions.{lines_in};
@@ -88,7 +88,7 @@ fn overlong_lines<G: Grammar, I: Read>(
     }
 }
 
-/// The lines that an input has.
+/// The lines on standard input.
 fn input_lines<G: Grammar, I: Read>(
     alloc: Global,
     input: &mut I,
@@ -120,10 +120,7 @@ fn file_lines<G: Grammar, F: Folder>(
     ensures kept { AreKept (F.files folder.old) (F.files folder.new) }
 {
     match folder.script(name) {
-        Ok(script) => {
-            let mut script = script;
-            input_lines::<G, F::Script>(alloc, &mut script)
-        }
+        Ok(bytes) => lines_within::<G>(alloc, bytes.as_slice()),
         Err(refusal) => Err(ReadFault::Refused(refusal)),
     }
 }

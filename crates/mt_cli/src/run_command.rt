@@ -10,7 +10,6 @@ ghost use Rattle.mt_cli.specs.Serves.{AreShortOn, AreUnserved, HasNotRun, HasRun
 use crate::at_once::{Service, serve_file_at_once};
 use crate::faults::Fault;
 use crate::named_inputs::scripts_of;
-use crate::waits::Patience;
 use mt_alone::{RunFault, run_sessions};
 use mt_base::Refusal;
 use mt_base::limits::MAX_SESSIONS;
@@ -24,7 +23,6 @@ use std::alloc::Global;
 use std::io::{Read, Write};
 use std::sync::Wait;
 use std::thread::Threads;
-use std::time::Clock;
 
 /// Serves scripts to a kernel that was just opened, and gives its device back.
 fn serve_opened<D: Device + Drop, O: Write>(
@@ -93,9 +91,8 @@ fn serve_over<D: Device + Drop, O: Write>(
 }
 
 /// Serves scripts to the device in the file of this name.
-fn serve_file<F: Folder, O: Write, R: Clock>(
+fn serve_file<F: Folder, O: Write>(
     alloc: Global,
-    patience: &Patience<'_, R>,
     folder: &mut F,
     frames: usize,
     name: &str,
@@ -107,7 +104,7 @@ fn serve_file<F: Folder, O: Write, R: Clock>(
     ensures unserved { IfErr result (IsUnservedIn (F.files folder.old) (F.files folder.new) name.now
         (map lines_in scripts.now) (O.contents out.old) (O.contents out.new)) }
 {
-    let device = match patience.device(folder, name) {
+    let device = match folder.device(name) {
         Ok(device) => device,
         Err(refusal) => return Err(Fault::Refused(refusal)),
     };
@@ -133,11 +130,10 @@ pub(crate) fn perform_run<
     I: Read,
     O: Write,
     G: Gate + Drop + Send + Sync,
-    R: Threads + Wait + Clock + Sync,
+    R: Threads + Wait + Sync,
 >(
     rt: &R,
     alloc: Global,
-    patience: &Patience<'_, R>,
     folder: &mut F,
     service: Service,
     scripts: &[String],
@@ -157,11 +153,10 @@ pub(crate) fn perform_run<
         Err(fault) => return Err(fault),
     };
     if service.workers > 1 {
-        return serve_file_at_once(rt, alloc, patience, folder, service, scripts, out, gate);
+        return serve_file_at_once(rt, alloc, folder, service, scripts, out, gate);
     }
     serve_file(
         alloc,
-        patience,
         folder,
         service.frames,
         service.name,

@@ -1,5 +1,5 @@
 -- Files, by name.
-use Rattle.std.specs.Prelude.{ℕ, ◌≡◌, ◌≢◌, ◌⊎◌, true, List, Option, Some, None, IfSome, IsSome, bytes_eq, find, is_some, option_map, slice_set}
+use Rattle.std.specs.Prelude.{ℕ, ◌≡◌, ◌≢◌, ◌⊎◌, true, List, Option, Some, None, IsSome, bytes_eq, find, is_some, option_map, slice_set}
 use Rattle.std.specs.List.{slice_index_or}
 use Rattle.mt_base.specs.declared.refusal.Refusal.{Refusal}
 use Rattle.mt_folder.specs.declared.reason.Reason.{Reason}
@@ -35,10 +35,6 @@ IsUnmade why = (why ≡ refusal.NoMemory) ⊎ (why ≡ refusal.DeviceFailed)
 -- why a call was refused is known of the files of the system, of which nothing else is
 abbrev pub KnowsWhy : Files → Option Reason → Type 0
 KnowsWhy files why = files ≡ None → IsSome why
-
--- a reader has all bytes of a file before it, where those are known
-abbrev pub ReadsAll : Option (List ℕ) → Option (List ℕ) → Type 0
-ReadsAll held remaining = IfSome held (λ bytes. remaining ≡ Some bytes)
 
 -- the file of this name has these bytes, where files are known
 abbrev pub IsHeld : Files → List ℕ → List ℕ → Type 0

@@ -10,7 +10,6 @@ use mt_base::limits::PAGE_BYTES;
 use mt_base::{Bytes, Refusal};
 use mt_disk::MemDevice;
 use std::alloc::{AllocError, Global};
-use std::io::Cursor;
 
 /// A folder in memory, for tests: files by name, each of them a script or a device.
 #[derive(Drop)]
@@ -104,20 +103,12 @@ impl Folder for MemFolder {
 
     type Device = MemDevice;
 
-    type Script = Cursor<Vec<u8>>;
-
     ghost files = { λ folder. Some (λ name. file_of name folder.files.items) };
 
     ghost why = { λ _. None };
 
-    fn script(&mut self, name: &str) -> Result<Cursor<Vec<u8>>, Refusal> {
-        let text = self.copy_of(name)?;
-        Ok(Cursor::new(text))
-    }
-
-    fn copy(&mut self, name: &str) -> Result<MemDevice, Refusal> {
-        let held = self.copy_of(name)?;
-        Ok(device_over(self.alloc, held)?)
+    fn script(&mut self, name: &str) -> Result<Vec<u8>, Refusal> {
+        self.copy_of(name)
     }
 
     fn device(&mut self, name: &str) -> Result<MemDevice, Refusal> {

@@ -170,7 +170,7 @@ class Run:
             bodies = self.edits_of(crate)
             if not bodies and not named:
                 return []
-            name_of = lambda *_: f"{crate.name} turned jobs=1"
+            name_of = lambda *_, **__: f"{crate.name} turned jobs=1"
             tried = self.clocked(self.try_all, name_of)(self.rt, crate, [*bodies, *named], kept, 1, alone=bodies)
             self.results[crate.name] = [it for it in tried if it[0] in bodies]
             refused = {edit for edit, is_refused in tried if is_refused}

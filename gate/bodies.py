@@ -119,10 +119,15 @@ class Trial:
         return rest + self.judged(chosen, texts, said)
 
     def judged(self, chosen, texts, said):
-        """Notes the edits whose functions are refused at a goal of their own, and returns the others."""
+        """Notes the edits whose functions are refused at a goal of their own, and returns the others. Prints those that no goal is named of,
+        but the function's line alone: what refuses them may be no clause."""
         paths, keys = open_goals(self.crate, texts, self.said)
-        paths |= {it for it, what in said.items() if OWN.match(what)}
-        self.refused |= {edit for edit, key in chosen.items() if key in keys or any(is_at(self.crate, key, it) for it in paths)}
+        at_goals = {edit for edit, key in chosen.items() if key in keys or any(is_at(self.crate, key, it) for it in paths)}
+        lines = {it for it, what in said.items() if OWN.match(what)}
+        by_line = {edit for edit, key in chosen.items() if any(is_at(self.crate, key, it) for it in lines)} - at_goals
+        if by_line:
+            print(f"{self.crate.name}: refused, and no goal is named: {' '.join(sorted(map(os.path.basename, by_line)))}", flush=True)
+        self.refused |= at_goals | by_line
         return [edit for edit in chosen if edit not in self.refused]
 
     def unread(self, chosen):

@@ -6,6 +6,7 @@ with another one, the gate tries each body alone, by documented calls."""
 import functools
 import importlib.machinery
 import importlib.util
+import json
 import os
 import re
 import shutil
@@ -60,6 +61,34 @@ def crates(rt, top):
 def linked(folder, to):
     """Makes a folder of links to the files of another one. A check replaces such a file, and does not write into it."""
     shutil.copytree(folder, to, copy_function=os.link)
+
+
+def with_proofs(build_rlib):
+    """Returns the call that builds a library, so that a run keeps its checked proofs in it, and not its statements alone. Its verdict is
+    the same, from nothing. Turned bodies begin with what it holds."""
+
+    def build(crate, *given, **named):
+        crate.cuts_libraries = False
+        return build_rlib(crate, *given, **named)
+
+    return build
+
+
+def take_proofs(crate, kept):
+    """Writes what a library's build of this run checked as a folder of kept work: a file a module, in a folder that the first line on the
+    toolchain names."""
+    made = f"{crate.rlib}/toolchain/checked"
+    if not os.path.isfile(f"{made}.json"):
+        return
+    with open(f"{made}.json", encoding="utf-8") as names, open(f"{made}.a", "rb") as archive:
+        whole = archive.read()
+        # (the last one is the archive's sum)
+        parts = [(name, whole[at : at + size]) for name, at, size in map(json.loads, names) if "/" not in name]
+    kernel = re.search(rb"(?m)^--@ kernel (\S+)$", parts[0][1])[1].decode().replace("/", "_")
+    os.makedirs(f"{kept}/{kernel}", exist_ok=True)
+    for name, text in parts:
+        with open(f"{kept}/{kernel}/{name}.oantt", "wb") as file:
+            file.write(text)
 
 
 def is_refusal(rt, kind):
@@ -144,6 +173,7 @@ class Run:
         rt.in_lanes = lambda tasks: lanes(self.told((self.with_bodies if self.has_seeds else self.with_lines)(tasks)))
         if not self.has_seeds:
             rt.must_fail_all = self.must_fail_all
+            rt.Crate.build_rlib = with_proofs(rt.Crate.build_rlib)
         remember_sums(rt)
         rt.must_fail = self.clocked(must_fail, lambda crate, edit, *_: f"edit {crate.name}/{os.path.basename(edit)}")
 
@@ -164,12 +194,13 @@ class Run:
         return {key: (task[0], lines(key), *task[2:]) for key, task in tasks.items()}
 
     def must_fail_all(self, crate, named, flags):
-        """Tries a crate's turned bodies and its named wrong designs together, over one folder of kept work. A design that is not refused
-        there is tried alone. Returns of each design what `must_fail` does."""
+        """Tries a crate's turned bodies and its named wrong designs together, over what its proof in this run checked. A design that is not
+        refused there is tried alone. Returns of each design what `must_fail` does."""
         with tempfile.TemporaryDirectory(prefix="rt-edits-") as kept:
             bodies = self.edits_of(crate)
             if not bodies and not named:
                 return []
+            take_proofs(crate, kept)
             name_of = lambda *_, **__: f"{crate.name} turned jobs=1"
             tried = self.clocked(self.try_all, name_of)(self.rt, crate, [*bodies, *named], kept, 1, alone=bodies)
             self.results[crate.name] = [it for it in tried if it[0] in bodies]

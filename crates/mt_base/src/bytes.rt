@@ -78,7 +78,7 @@ impl Bytes {
     }
 }
 
-/// Two are equal where each byte is.
+/// Two are equal if each byte is.
 impl PartialEq for Bytes {
     ghost eq = { bytes_eq };
 

@@ -1,10 +1,11 @@
-// Lists that proofs alone see.
+// Lists that contracts speak of and that no code reads. Devices, logs and kernels note in them what they have done.
+// They take no memory.
 ghost use Rattle.std.specs.Prelude.{◌≡◌, List, [], ◌∷◌, ◌++◌};
 ghost use Rattle.std.specs.Borrow.{ftrue};
 
 use std::marker::{Model, PhantomData};
 
-/// A list of values that only proofs see: what something has done so far, told to no one who runs.
+/// A list of values that only proofs see: what something has done so far. No code that runs can read it.
 ///
 /// It has no bytes, and its calls do nothing: keeping a history takes neither memory nor time.
 /// A clause reads it as `items`, the oldest first.

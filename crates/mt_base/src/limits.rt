@@ -101,7 +101,7 @@ pub const TRANSACTION_LOG_BYTES: u64 = 128;
 /// Free pages that an insert reserves for itself; its inverse needs none.
 pub const INSERT_PAGES: u16 = 3;
 
-/// Free pages that an insert reserves for itself where it may not split a bucket.
+/// Free pages that an insert reserves for itself if it may not split a bucket.
 pub const UNSPLIT_INSERT_PAGES: u16 = 2;
 
 /// Free pages that an update reserves for itself.

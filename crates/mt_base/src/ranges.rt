@@ -1,4 +1,4 @@
-// Numbers and ranges of a page's bytes, in place.
+// Numbers and ranges of a page's bytes, read and put in place. Formats of pages go by it.
 ghost use Rattle.std.specs.Prelude.{◌≡◌, ◌+◌, ◌≤◌, length};
 ghost use Rattle.mt_base.specs.Ranges.{u16_at, part, Torn, Wrote};
 

@@ -1,4 +1,5 @@
-// The operations of a bucket page.
+// Puts, renames and takes out entries of one bucket page in place, and parts a page in two by a bit of the hash.
+// Plans of mt_index call this on copies of pages. No other page is known here, and neither log nor lock.
 ghost use Rattle.std.specs.Prelude.{ℕ, ◌≡◌, ◌+◌, ◌-◌, ◌*◌, ◌≤◌, ◌<◌, ◌++◌, ◌∷◌, [], length, true, false, not, Some, None, filter};
 ghost use Rattle.std.specs.Bool.{OnTrue, OnFalse};
 ghost use Rattle.mt_bucket.specs.declared.heads.TheConstants.{CELL_BYTES, HEAD_BYTES, MAX_ENTRIES};

@@ -1,4 +1,5 @@
-// The head of a bucket page.
+// The head of a bucket page: its depth, the count of its entries, and the overflow page after it.
+// Also how long the head is, and each entry after it.
 ghost use Rattle.std.specs.Prelude.{ℕ, ◌≡◌, ◌≤◌, ◌<◌, [], length};
 ghost use Rattle.mt_bucket.specs.declared.heads.TheConstants.{CELL_BYTES, HEAD_BYTES, MAX_ENTRIES};
 ghost use Rattle.mt_base.specs.declared.limits.TheConstants.{PAGE_BYTES};
@@ -33,7 +34,7 @@ pub fn count(page: &[u8]) -> usize
     usize::from(u16_at(page, 2)).min(MAX_ENTRIES)
 }
 
-/// The overflow page after this one; page 0 where there is none.
+/// The overflow page after this one; page 0 if there is none.
 pub fn next(page: &[u8]) -> PageNo
     requires whole { length page.now ≡ PAGE_BYTES }
     ensures { result ≡ next_of page.now }

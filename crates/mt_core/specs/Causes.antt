@@ -1,4 +1,4 @@
--- Why a call is refused, and what it had where it is not.
+-- Why a call is refused, and what it had if it is not.
 use Rattle.std.specs.Prelude.{ℕ, ◌<◌, ◌≤◌, ◌+◌, ◌*◌, Bool, List, Result, Ok, Err, ⊤}
 use Rattle.mt_base.specs.declared.refusal.Refusal.{Refusal}
 use Rattle.mt_base.specs.declared.refusal.Refusal.TheVariants as refusal

@@ -55,8 +55,8 @@ use Rattle.mt_core.specs.declared.parts.Commit.{Commit}
 use Rattle.mt_core.specs.declared.parts.Core.{Core}
 use Rattle.mt_core.specs.declared.parts.Running.{Running}
 
--- What a kernel began on: the base on which its book begins, and the schema; and of its log's area the pages as they were when that began,
--- the base that they held, and the commits that were in the book by then.
+-- What a kernel began on: the base on which its book begins, and the schema; and of its log's area the pages as they
+-- were when that began, the base that they held, and the commits that were in the book by then.
 pub record Origin : Type 0 where
   pub first : Base
   pub earlier : List Committed
@@ -87,7 +87,8 @@ state_of k base = record {
   base = base;
 }
 
--- each lock and each record is of an operation that has begun; no transaction that is open or aborting, and none to come, has ended
+-- each lock and each record is of an operation that has begun; no transaction that is open or aborting, and none to
+-- come, has ended
 pub record IsNumbered (last begun : ℕ) (ms : List Member) (page_locks : List PageLock) (records : List Record) : Type 0 where
   pub locks : All (λ (l : PageLock). l.op ≤ last) page_locks
   pub ops : (n : ℕ) → last < n → some_record (ends_op n) records ≡ false
@@ -102,7 +103,8 @@ pub record IsDue (records : List Record) (t n : ℕ) : Type 0 where
   pub ended : some_record (finishes t n) records ≡ true
   pub standing : some_record (undoes_op t n) records ≡ false
 
--- The operations of a transaction are numbered in the order of their ends, and each that did something may be taken back.
+-- The operations of a transaction are numbered in the order of their ends, and each that did something may be taken
+-- back.
 pub record IsTold (last : ℕ) (records : List Record) (t : ℕ) (m : Member) : Type 0 where
   pub many : length m.operations ≡ length m.calls
   pub numbers : All (λ n. (1 ≤ n) × (n ≤ last)) m.operations
@@ -116,7 +118,7 @@ abbrev pub session_or : Option Member → ℕ
 session_or None = 0
 session_or (Some m) = m.session
 
--- whose it is, where it lives
+-- whose it is, if it lives
 abbrev pub session_in : List Member → ℕ → ℕ
 session_in ms t = session_or (member_of ms t)
 
@@ -139,8 +141,8 @@ pub record IsWithinSchema (origin : Origin) (e : Entry) : Type 0 where
   pub op : IsWithin origin.relations origin.counters e.op
   pub reply : HasSmallReply e.reply
 
--- The numbers of operations suffice. A call is given one below 2^40; each inverse after that has its bytes kept, so of such there
--- are no more than the area and the ends that are kept for transactions have room for.
+-- The numbers of operations suffice. A call is given one below 2^40; each inverse after that has its bytes kept, so
+-- of such there are no more than the area and the ends that are kept for transactions have room for.
 abbrev pub AreLeft : ℕ → ℕ → ℕ → Type 0
 AreLeft last begun reserved = OPERATION_LOG_BYTES * last + reserved ≤ OPERATION_LOG_BYTES * MAX_BEGUN + MAX_AREA_MIB * MIB_BYTES + TRANSACTION_LOG_BYTES * begun
 
@@ -149,7 +151,8 @@ pub record IsEscrowed (counters : ℕ) (m : Base) (e : Escrowed) : Type 0 where
   pub all : length e.committed ≡ counters
   pub counts : (c : ℕ) → c < counters → count_at e.committed c ≡ m.counts c
 
--- operations of which none has begun, in a log area without records but the images that it began with, and an escrow without pending adds
+-- operations of which none has begun, in a log area without records but the images that it began with, and an escrow
+-- without pending adds
 pub record IsFresh {D : Type 0} (o : Operations D) (e : Escrowed) : Type 0 where
   pub locks : o.locks ≡ []
   pub unclaimed : claimed o ≡ 0
@@ -157,8 +160,9 @@ pub record IsFresh {D : Type 0} (o : Operations D) (e : Escrowed) : Type 0 where
   pub room : used o.store.log < area_size o.store.log
   pub pending : e.pending ≡ []
 
--- What the parts keep of one another, whatever one of the operations is about: the laws' state is kept; each operation is its
--- transaction's only one; each page lock is of one of them; numbers are used once; the log has room for what may still have to be appended.
+-- What the parts keep of one another, whatever one of the operations is about: the laws' state is kept; each
+-- operation is its transaction's only one; each page lock is of one of them; numbers are used once; the log has room
+-- for what may still have to be appended.
 pub record IsFit {D : Type 0} (seen : D → List ℕ) (may_leave : D → List ℕ → Type 0) (origin : Origin) (base : Base) (k : Core D) : Type 0 where
   pub schema : IsSchema origin
   pub right : IsRight seen may_leave origin.pages origin.relations origin.counters k.operations
@@ -176,7 +180,8 @@ pub record IsFit {D : Type 0} (seen : D → List ℕ) (may_leave : D → List �
   pub booked : vec_len k.book + length k.commits.items ≤ vec_capacity k.book
   pub escrowed : IsEscrowed origin.counters (committed_base origin.first (state_of k base)) k.escrow
 
--- All operations are under way; the pages hold the base; what is claimed is what they and what may have to be undone may take.
+-- All operations are under way; the pages hold the base; what is claimed is what they and what may have to be undone
+-- may take.
 pub record IsConsistent {D : Type 0} (seen : D → List ℕ) (may_leave : D → List ℕ → Type 0) (origin : Origin) (base : Base) (k : Core D) : Type 0 where
   pub fit : IsFit seen may_leave origin base k
   pub holds : Holds (held_in (world seen origin.pages k.operations)) base
@@ -293,7 +298,8 @@ GoesBack seen may_leave origin base s k place (Ok taken.More) = IsIn seen may_le
 GoesBack seen may_leave origin base s k place (Ok taken.Flush) = IsIn seen may_leave origin base s k
 GoesBack seen may_leave origin base s k place (Err why) = IsIn seen may_leave origin base s k
 
--- An operation that a transaction has called may run: it lies within the schema, and its transaction is at work, with room, and idle.
+-- An operation that a transaction has called may run: it lies within the schema, and its transaction is at work, with
+-- room, and idle.
 pub record MayRun {D : Type 0} (origin : Origin) (k : Core D) (t : ℕ) (op : Op) : Type 0 where
   pub within : IsWithin origin.relations origin.counters op
   pub at_work : is_open (member_of k.live.members t) ≡ true
@@ -336,7 +342,7 @@ pub record IsRestored {D : Type 0} (seen : D → List ℕ) (may_leave : D → Li
   pub page_locks : n.operations.locks ≡ k.operations.locks
   pub claimed : claimed n.operations ≡ claimed k.operations
 
--- where it is refused or has to wait, nothing of it stays
+-- if it is refused or has to wait, nothing of it stays
 abbrev pub IsCalled : {D : Type 0} → (D → List ℕ) → (D → List ℕ → Type 0) → Origin → Base → State → Core D → ℕ → Op → Result Called Refusal → Type 0
 IsCalled seen may_leave origin base s n t op (Ok answer.Started) = IsIn seen may_leave origin base (called s t op) n
 IsCalled seen may_leave origin base s n t op (Ok (answer.Wait holder)) = IsIn seen may_leave origin base s n
@@ -362,7 +368,7 @@ IsOwnerOf rs op None = All (λ (r : Running). r.scope.number ≢ op) rs
 abbrev pub EndsIn : {D : Type 0} → (D → List ℕ) → (D → List ℕ → Type 0) → Origin → Base → Core D → Core D → Running → Type 0
 EndsIn seen may_leave origin base k n r = IsIn seen may_leave origin (base_after base r.scope.op) (ended (state_of k base) r.scope.txn r.scope.op) n
 
--- the inverse has, of the last effect of its transaction, whose add is given back where it is one
+-- the inverse has, of the last effect of its transaction, whose add is given back if it is one
 pub record UndoesIn {D : Type 0} (seen : D → List ℕ) (may_leave : D → List ℕ → Type 0) (origin : Origin) (base : Base) (s : State) (n : Core D) (t : ℕ) (inverse : Op) : Type 0 where
   pub last : Entry
   pub idle : s.running t ≡ None
@@ -371,7 +377,7 @@ pub record UndoesIn {D : Type 0} (seen : D → List ℕ) (may_leave : D → List
   pub given : GivesBack t last.op s.pending n.escrow.pending
   pub leads : IsIn seen may_leave origin (base_after base inverse) (undone s t inverse n.escrow.pending) n
 
--- what the transaction runs is dropped, and its add is given back where it is one
+-- what the transaction runs is dropped, and its add is given back if it is one
 pub record DropsIn {D : Type 0} (seen : D → List ℕ) (may_leave : D → List ℕ → Type 0) (origin : Origin) (base : Base) (s : State) (n : Core D) (t : ℕ) : Type 0 where
   pub op : Op
   pub runs : s.running t ≡ Some op

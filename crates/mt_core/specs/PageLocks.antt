@@ -21,14 +21,15 @@ step_of (going.Wait holder) = stepped.Wait holder
 step_of (going.Again holder) = stepped.Again holder
 step_of going.Flush = stepped.Flush
 
--- They stay but for what its plan asks for next: it gets this lock, and no other; or waits for the smallest operation in the way; or gives
--- all its own back, and no other's, where it begins anew or ends. A refused step leaves all.
+-- They stay but for what its plan asks for next: it gets this lock, and no other; or waits for the smallest operation
+-- in the way; or gives all its own back, and no other's, if it begins anew or ends. A refused step leaves all.
 abbrev pub KeepsPageLocks : {D : Type 0} → Core D → Core D → Running → Result Stepping Refusal → Type 0
 KeepsPageLocks k n r (Ok (Ended reply)) = n.operations.locks ≡ locks_without r.scope.number k.operations.locks
 KeepsPageLocks k n r (Ok (GoingOn g)) = KeepsLocks r.scope.number (IsNext k.operations.rooms k.operations.locks r.scope) k.operations.locks n.operations.locks (Ok (step_of g))
 KeepsPageLocks k n r (Err why) = n.operations.locks ≡ k.operations.locks
 
--- They stay while a step of its taking back puts a page back. Once nothing else of it is left its own go, and no other's.
+-- They stay while a step of its taking back puts a page back. Once nothing else of it is left its own go, and no
+-- other's.
 abbrev pub GivesLocksBack : {D : Type 0} → Core D → Core D → Running → Result TakenBack Refusal → Type 0
 GivesLocksBack k n r (Ok taken.Clear) = n.operations.locks ≡ locks_without r.scope.number k.operations.locks
 GivesLocksBack k n r (Ok taken.More) = n.operations.locks ≡ k.operations.locks

@@ -1,4 +1,4 @@
--- What the log's records tell of the transactions, and that a restart over each beginning of them finds its base.
+-- What the log's records say of the transactions, and that a restart over each beginning of them finds its base.
 use Rattle.std.specs.Prelude.{ℕ, ◌*◌, ◌≡◌, ◌≤◌, ◌+◌, ◌++◌, Bool, cond, List, [], ◌∷◌, Option, Some, None, filter, map, length, Result, Ok, Err}
 use Rattle.mt_base.specs.declared.limits.TheConstants.{MAX_LIVE, MIB_BYTES, MIN_AREA_MIB}
 use Rattle.mt_base.specs.declared.refusal.Refusal.{Refusal}
@@ -49,7 +49,7 @@ abbrev pub numbers_of : Option Member → List ℕ
 numbers_of None = []
 numbers_of (Some m) = cond (is_at_work m.state) (numbers_did m.calls m.operations) []
 
--- ---- what the records tell
+-- ---- what the records say
 
 -- Of a book with commits of these transactions after it, in their order, and of the others, which are at work: what
 -- each has committed, and what each has done, under its numbers.
@@ -58,8 +58,8 @@ pub record IsTelling (book : List Committed) (ts : List ℕ) (ms : List Member) 
   pub live : map entry_of x.live ≡ filter did (without_all ts standing)
   pub numbers : (t : ℕ) → map (λ (f : Finished). f.op) (its t x.live) ≡ numbers_of (member_of ms t)
 
--- The records tell of what is in the book since the area began, of the commits under way and of the transactions at work, and have led
--- to what these leave.
+-- The records name what is in the book since the area began, the commits under way and the transactions at work, and
+-- have led to what these leave.
 pub record TellsOf {D : Type 0} (origin : Origin) (k : Core D) (records : List Record) : Type 0 where
   pub since : List Committed
   pub book : k.book.items ≡ origin.earlier ++ since
@@ -71,15 +71,15 @@ abbrev pub Recovers : {D : Type 0} → Origin → Core D → List Record → Typ
 Recovers origin k records = IsRecoverable origin.relations origin.counters (pages k.operations.store.pool)
     (area_size k.operations.store.log) origin.pages origin.begun records
 
--- The durable records tell of each commit that was booked since the area began. Of those under way they tell of each whose record is one
--- of them.
+-- The durable records name each commit that was booked since the area began. Of those under way they name each whose
+-- record is one of them.
 abbrev pub TellsBook : {D : Type 0} → Origin → Core D → Type 0
 TellsBook origin k = length k.book.items + durable_count k.commits.items (length (durable k.operations.store.log))
     ≤ length origin.earlier + length (tells (durable k.operations.store.log)).books
 
--- A restart over each beginning of the records finds its base, if the area has 4 MiB at least: at most 64 transactions
--- live, and such an area has room for the images of the pages that inverses change. The area began on what the commits
--- from before it lead to.
+-- A restart over each beginning of the records finds its base, if the area has 4 MiB at least: at most 64
+-- transactions live, and such an area has room for the images of the pages that inverses change. The area began on
+-- what the commits from before it lead to.
 pub record IsRestartable {D : Type 0} (origin : Origin) (k : Core D) : Type 0 where
   pub beginnings : MIN_AREA_MIB * MIB_BYTES ≤ area_size k.operations.store.log → EachBeginning (Recovers origin k) (appended k.operations.store.log)
   pub begun : origin.begun ≡ after origin.first origin.earlier
@@ -99,7 +99,7 @@ pub record SameArea {D : Type 0} (k n : Core D) : Type 0 where
   pub bytes : area_size n.operations.store.log ≡ area_size k.operations.store.log
   pub lasts : Lasts k n
 
--- after these records others tell nothing, and the pages held stay
+-- after these records others say nothing of transactions, and the pages held stay
 pub record IsQuiet (opening : PageBytes) (records more : List Record) : Type 0 where
   pub held : pages_held opening (records ++ more) ≡ pages_held opening records
   pub calls : calls_in more ≡ []
@@ -116,7 +116,7 @@ pub record AppendsEnd (origin : Origin) (total : ℕ) (old new : List Record) (s
   pub is : new ≡ old ++ end_of s reply
   pub leads : LeadsOn origin.relations origin.counters total origin.pages old → LeadsOn origin.relations origin.counters total origin.pages new
 
--- a step of an operation appends its end where it is ready, and else nothing that tells
+-- a step of an operation appends its end if it is ready, and else nothing that says more
 abbrev pub Appends : Origin → ℕ → List Record → List Record → OpScope → Result Stepped Refusal → Type 0
 Appends origin total old new s (Ok (stepped.Ready first second)) = AppendsEnd origin total old new s first
 Appends origin total old new s (Ok stepped.Went) = AppendsQuietly origin.pages old new
@@ -125,7 +125,8 @@ Appends origin total old new s (Ok (stepped.Again holder)) = AppendsQuietly orig
 Appends origin total old new s (Ok stepped.Flush) = AppendsQuietly origin.pages old new
 Appends origin total old new s (Err why) = AppendsQuietly origin.pages old new
 
--- so of parts whose operation at a place makes a step, and of parts of which nothing is appended but what tells nothing
+-- so of parts whose operation at a place makes a step, and of parts of which nothing is appended but what says
+-- nothing more
 pub record StepAppends {D : Type 0} (origin : Origin) (k n : Core D) (s : OpScope) (result : Result Stepped Refusal) : Type 0 where
   pub area : SameArea k n
   pub appends : Appends origin (pages k.operations.store.pool) (appended k.operations.store.log) (appended n.operations.store.log) s result

@@ -23,7 +23,8 @@ Steps seen may_leave origin base k n place (Ok (Ended reply)) = (r : Running) �
 Steps seen may_leave origin base k n place (Ok (GoingOn going)) = IsIn seen may_leave origin base (state_of k base) n
 Steps seen may_leave origin base k n place (Err why) = IsIn seen may_leave origin base (state_of k base) n
 
--- It ends, with the model's reply, and what it takes back stands no more; or the base and all that stands are as before.
+-- It ends, with the model's reply, and what it takes back stands no more; or the base and all that stands are as
+-- before.
 abbrev pub UndoSteps : {D : Type 0} → (D → List ℕ) → (D → List ℕ → Type 0) → Origin → Base → Core D → Core D → ℕ → Result Stepping Refusal → Type 0
 UndoSteps seen may_leave origin base k n place (Ok (Ended reply)) = (r : Running) → r ≡ slice_index_or k.running.items place r
     → (reply_of base r.scope.op ≡ reply) × UndoesIn seen may_leave origin base (state_of k base) n r.scope.txn r.scope.op
@@ -57,7 +58,7 @@ NamesOther rs t (Ok (Ended reply)) = ⊤
 NamesOther rs t (Ok (GoingOn g)) = AwaitsOther rs t g
 NamesOther rs t (Err why) = ⊤
 
--- as the step of the operations tells it
+-- the same of what a step of the operations answers
 abbrev pub TellsOther : List Running → ℕ → Result Stepped Refusal → Type 0
 TellsOther rs t (Ok stepped.Went) = ⊤
 TellsOther rs t (Ok (stepped.Wait holder)) = IsOfOther rs t holder

@@ -23,7 +23,8 @@ abbrev pub steps_in : List Running → ℕ → ℕ
 steps_in [] t = 0
 steps_in (r ∷ rs) t = cond (r.scope.txn == t) (work_of r.scope) (steps_in rs t)
 
--- A step that went on leaves fewer. One that begins anew may leave more, by two a page at most; every other leaves no more.
+-- A step that went on leaves fewer. One that begins anew may leave more, by two a page at most; every other leaves no
+-- more.
 abbrev pub LeavesSteps : ℕ → Going → ℕ → ℕ → Type 0
 LeavesSteps pages going.Went before now = now < before
 LeavesSteps pages (going.Wait holder) before now = now ≤ before
@@ -55,7 +56,8 @@ effect_steps pages t e = if is_effect t e then 2 * pages + 10 else 0
 abbrev pub effects_left : ℕ → List Entry → ℕ → ℕ
 effects_left pages es t = sum_by (effect_steps pages t) es
 
--- An operation that is no inverse is put back, a page a step, and dropped out. An inverse represents one of the effects.
+-- An operation that is no inverse is put back, a page a step, and dropped out. An inverse represents one of the
+-- effects.
 abbrev pub steps_with : ℕ → Running → ℕ → ℕ
 steps_with pages r effects = cond (r.scope.undoes == 0) (r.scope.standing + 1 + effects) (work_of r.scope + (effects - (2 * pages + 10)))
 
@@ -67,7 +69,7 @@ abort_steps pages (r ∷ rs) t effects = cond (r.scope.txn == t) (steps_with pag
 abbrev pub undo_steps : {D : Type 0} → Core D → ℕ → ℕ
 undo_steps k t = abort_steps (pages k.operations.store.pool) k.running.items t (effects_left (pages k.operations.store.pool) k.live.standing t)
 
--- where none of them grows
+-- if none of them grows
 abbrev pub LeavesUndo : {D : Type 0} → Core D → Core D → Type 0
 LeavesUndo k n = (t : ℕ) → undo_steps n t ≤ undo_steps k t
 

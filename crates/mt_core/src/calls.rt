@@ -85,11 +85,11 @@ impl<D: Device> Core<D> {
     }
 
     /// Calls an operation of a transaction at work that runs nothing, and starts it. It takes the operation's lock,
-    /// the escrow's leave where it is an add, and pages and log bytes for it and for its inverse. `split` says
+    /// the escrow's leave if it is an add, and pages and log bytes for it and for its inverse. `split` says
     /// whether an insert may split a bucket of the index.
     ///
     /// It answers [`Called::Wait`] or is refused with 14 as the lock table does, and with 9 as the escrow does. It is
-    /// refused with 10 where fewer pages are free and not claimed. It is refused with 11 where the log has no room
+    /// refused with 10 if fewer pages are free and not claimed. It is refused with 11 if the log has no room
     /// beside what is kept. For want of memory it is refused with 1. In each of these cases nothing of the call is
     /// kept.
     pub fn call(
@@ -133,8 +133,8 @@ impl<D: Device> Core<D> {
         bytes < log.area_size() - log.used() - left_in(self.running.as_slice()) - self.reserved
     }
 
-    // Starts an operation for which all is granted, where there are pages and log bytes for it and for its inverse.
-    // Where it is refused it is given back.
+    // Starts an operation for which all is granted, if there are pages and log bytes for it and for its inverse.
+    // If it is refused it is given back.
     fn start(
         &mut self,
         alloc: Global,
@@ -179,7 +179,7 @@ impl<D: Device> Core<D> {
         }
     }
 
-    // Asks leave for an operation that is an add, and starts it. Its lock is had. Where it is refused it is given
+    // Asks leave for an operation that is an add, and starts it. Its lock is had. If it is refused it is given
     // back.
     fn admit(
         &mut self,

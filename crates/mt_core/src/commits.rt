@@ -57,7 +57,7 @@ fn durable_count(commits: &[Commit], place: LogPos) -> usize
 impl<D: Device> Core<D> {
     /// Begins a transaction of this session, open and without operations. Its number is the next one, from 1.
     ///
-    /// Refused with 11 where the log has no room for its end beside what is kept, else with 1 for want of memory.
+    /// Refused with 11 if the log has no room for its end beside what is kept, else with 1 for want of memory.
     /// Nothing has changed then.
     pub fn begin(&mut self, session: u32) -> Result<TxnNo, Refusal>
         requires safe { IsSound D.seen D.may_leave self.old }
@@ -170,7 +170,7 @@ impl<D: Device> Core<D> {
         ensures running { self.new.running ≡ self.old.running }
         ensures states { SameUncommitted self.old self.new }
         ensures undo { LeavesUndo self.old self.new }
-        // Where the records up to this place are durable: none is booked that a crash may take away.
+        // If the records up to this place are durable: none is booked that a crash may take away.
         ensures restartable { place ≤ length (durable self.old.operations.store.log)
             → StaysRestartable D.seen D.may_leave self.old self.new }
     {
@@ -181,10 +181,10 @@ impl<D: Device> Core<D> {
         }
     }
 
-    /// Makes a step of the log's force, of one device call. Answers up to which record the log is durable where a
+    /// Makes a step of the log's force, of one device call. Answers up to which record the log is durable if a
     /// force has ended.
     ///
-    /// Refused with 2 where the device has failed or fails in this call, so no fault is passed over.
+    /// Refused with 2 if the device has failed or fails in this call, so no fault is passed over.
     pub fn force_step(&mut self) -> Result<Forced, Refusal>
         requires safe { IsSound D.seen D.may_leave self.old }
         ensures state { StaysIn D.seen D.may_leave self.old self.new }
@@ -205,7 +205,7 @@ impl<D: Device> Core<D> {
         self.operations.force_step()
     }
 
-    /// Writes a page into its slot, where one waits for no record that is not durable. The error is the device's.
+    /// Writes a page into its slot, if one waits for no record that is not durable. The error is the device's.
     pub fn flush_step(&mut self) -> Result<Flushed, DeviceFault>
         requires safe { IsSound D.seen D.may_leave self.old }
         ensures state { StaysIn D.seen D.may_leave self.old self.new }
@@ -230,7 +230,7 @@ impl<D: Device> Core<D> {
         self.operations.flush_step()
     }
 
-    /// Tells what the pages come to, by their bytes, where no transaction is active. Nothing has changed then. Refused
+    /// Answers what the pages come to, by their bytes, if no transaction is active. Nothing has changed then. Refused
     /// for want of memory, and with 2 if and only if the device failed in this call.
     pub fn survey(&mut self, alloc: Global) -> Result<Survey, Refusal>
         requires safe { IsSound D.seen D.may_leave self.old }

@@ -1,4 +1,5 @@
-// Operations that are taken back unfinished.
+// An operation that an abort finds unfinished is put back page by page, and then dropped out.
+// Its page locks, its claims and its pending add go with it. Its semantic lock stays until the transaction ends.
 ghost use Rattle.std.specs.Prelude.{◌≡◌, ◌<◌, Ok, Some, IfErr, length};
 ghost use Rattle.mt_log.specs.Words.{durable};
 ghost use Rattle.mt_model.specs.Model.{Base};
@@ -36,7 +37,7 @@ impl<D: Device> Core<D> {
     }
 
     // Drops an operation out that was taken back and is no inverse. Its page locks go, and so does what was kept for
-    // it and for its inverse. Its add, where it is one, is pending no more. It takes no memory.
+    // it and for its inverse. Its add, if it is one, is pending no more. It takes no memory.
     fn drop_out(&mut self, place: usize)
         requires cleared { ∥ ((origin : Origin) × (base : Base)
             × IsClearedAt D.seen D.may_leave origin base self.old place) ∥₁ }
@@ -55,10 +56,10 @@ impl<D: Device> Core<D> {
 
     /// Makes a step of the taking back of an operation at a place. It is no inverse, and of a transaction that is to
     /// be undone. A page that it wrote is put back. At `Clear` it is dropped out. Its page locks go, and so does what
-    /// was kept for it and for its inverse. Its add, where it is one, is pending no more. The base that the pages
+    /// was kept for it and for its inverse. Its add, if it is one, is pending no more. The base that the pages
     /// hold stays.
     ///
-    /// Refused with 1 for want of memory, and with 2 where the device has failed; nothing has changed then.
+    /// Refused with 1 for want of memory, and with 2 if the device has failed; nothing has changed then.
     pub fn take_back_step(&mut self, place: usize) -> Result<TakenBack, Refusal>
         requires safe { IsSound D.seen D.may_leave self.old }
         requires within { place < length self.old.running.items }

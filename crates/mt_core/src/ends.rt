@@ -1,4 +1,5 @@
-// The ends of operations that are ready.
+// What changes in the core once an operation or an inverse has ended: what counts, claims, log bytes, pending adds.
+// `steps` calls this after the last step. No page and no record of the log changes here.
 ghost use Rattle.std.specs.Prelude.{◌≡◌, ◌≢◌, ◌<◌, ◌++◌, [], List, length};
 ghost use Rattle.mt_live.specs.Adds.{GivesBack, add_before};
 ghost use Rattle.mt_model.specs.declared.pending_add.Pending.{Pending};

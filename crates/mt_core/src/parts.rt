@@ -1,4 +1,5 @@
-// The core of a kernel: what it is made of.
+// The parts of `Core`, and the core of a kernel that begins.
+// Each other file of this crate has some of the events, which change the parts together.
 ghost use Rattle.std.specs.Prelude.{◌≡◌};
 ghost use Rattle.mt_live.specs.Machine.{start};
 ghost use Rattle.mt_model.specs.Model.{IsBase};

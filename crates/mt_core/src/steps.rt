@@ -1,4 +1,5 @@
-// The steps of operations.
+// Steps of operations that go forward, and of inverses. mt_op makes the step; this notes in the core what has ended.
+// A step writes no page into its slot: if it lacks a frame it answers `Flush`, and who calls flushes and asks again.
 ghost use Rattle.std.specs.Prelude.{◌≡◌, ◌≢◌, ◌⊎◌, ◌<◌, ℕ, Ok, IfErr, length, slice_index_or};
 ghost use Rattle.mt_log.specs.Words.{durable};
 ghost use Rattle.mt_model.specs.Model.{Base};
@@ -62,7 +63,7 @@ impl<D: Device> Core<D> {
     /// once on the base that the pages hold, and stands after all others with the model's reply. Else it leaves that
     /// base. It waits, or begins anew, only for an operation of another transaction.
     ///
-    /// Refused with 1 for want of memory, and with 2 where the device has failed; the base is as before.
+    /// Refused with 1 for want of memory, and with 2 if the device has failed; the base is as before.
     pub fn step(&mut self, alloc: Global, place: usize) -> Result<Stepping, Refusal>
         requires safe { IsSound D.seen D.may_leave self.old }
         requires within { place < length self.old.running.items }
@@ -99,10 +100,10 @@ impl<D: Device> Core<D> {
     }
 
     /// Makes a step of an inverse, at a place of those under way. If it ends, with the model's reply on the base,
-    /// what it takes back stands no more, nor what its transaction did after that. Its add, where it is one, is
+    /// what it takes back stands no more, nor what its transaction did after that. Its add, if it is one, is
     /// pending no more. It waits, or begins anew, only for an operation of another transaction.
     ///
-    /// Refused with 1 for want of memory, and with 2 where the device has failed; the base is as before.
+    /// Refused with 1 for want of memory, and with 2 if the device has failed; the base is as before.
     pub fn undo_step(&mut self, alloc: Global, place: usize) -> Result<Stepping, Refusal>
         requires safe { IsSound D.seen D.may_leave self.old }
         requires within { place < length self.old.running.items }

@@ -1,4 +1,5 @@
-// The inverses of an abort, and its end.
+// The inverse of a transaction's last effect begins, and an abort ends of which nothing is left to undo.
+// The steps between are made in `steps`. An operation that is unfinished is taken back before, in `drops`.
 ghost use Rattle.std.specs.Prelude.{◌≡◌, ◌≢◌, ◌<◌, ◌≤◌, ◌++◌, ◌∷◌, [], ℕ, true, false, All, None, Some, Ok, IfErr, OnOk, OnErr};
 ghost use Rattle.mt_frame.specs.declared.records.Record.TheVariants.{AbortEnd};
 ghost use Rattle.mt_live.specs.Lives.{member_of};

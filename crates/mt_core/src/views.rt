@@ -1,4 +1,4 @@
-// What a kernel asks of its parts.
+// What mt_txn reads of the core: its transactions, its log, its book and what is under way. Nothing changes here.
 ghost use Rattle.std.specs.Prelude.{◌≡◌, ◌==◌, ◌<◌, ◌≢◌, ℕ, length, Some, true, not};
 ghost use Rattle.mt_core.specs.Consistent.{AtPlace, IsOwnerOf};
 ghost use Rattle.mt_core.specs.declared.parts.Running.{Running};

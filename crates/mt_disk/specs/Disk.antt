@@ -15,8 +15,9 @@ Leaves outcomes P = (c : List ℕ) → outcomes c → P c
 abbrev pub Only : List ℕ → (List ℕ → Type 0) → Type 0
 Only content outcomes = (c : List ℕ) → outcomes c → c ≡ content
 
--- The time of one call at most: a moment passes in it at most, so that two calls have no such time; and what a crash since
--- some earlier moment might have left is what it might have left before the call, or what it may leave after it.
+-- The time of one call at most: a moment passes in it at most, so that two calls have no such time; and what a crash
+-- since some earlier moment might have left is what it might have left before the call, or what it may leave after
+-- it.
 pub record Elapses (before now : ℕ) (past since : ℕ → List ℕ → Type 0) (may_leave : List ℕ → Type 0) : Type 0 where
   pub later : before ≤ now
   pub at_once : now ≤ before + 1

@@ -15,8 +15,8 @@ good_calls f = f.left
 abbrev pub own_failures : {D : Type 0} → FaultDevice D → ℕ
 own_failures f = length f.failures.items
 
--- A call is counted. It fails without reaching the device below where none was left, and else just
--- where that one fails, whose failures are `before` and `now`.
+-- A call is counted. It fails without reaching the device below if none was left, and else just
+-- if that one fails, whose failures are `before` and `now`.
 pub record TakesTurn {D T E : Type 0} (old new : FaultDevice D) (before now : ℕ) (result : Result T E) : Type 0 where
   pub counted : good_calls new ≡ good_calls old - 1
   pub failed : good_calls old ≡ 0 → IsErr result × (below new ≡ below old)

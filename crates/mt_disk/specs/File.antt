@@ -30,7 +30,7 @@ pub record IsFresh {F : Type 0} (f : FileDevice F) : Type 0 where
   pub copy : IsFreshCopy (copy_in f)
   pub quiet : file_failures f ≡ 0
 
--- What was asked of the file alone: it is not asked where it has failed before, and after a failure it is broken.
+-- What was asked of the file alone: it is not asked if it has failed before, and after a failure it is broken.
 pub record AsksFile {F T E : Type 0} (old new : FileDevice F) (result : Result T E) : Type 0 where
   pub copy : copy_in new ≡ copy_in old
   pub cause : HasCause (file_failures old) (file_failures new) result

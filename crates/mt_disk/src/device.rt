@@ -20,7 +20,7 @@ impl From<io::Error> for DeviceFault {
     }
 }
 
-/// A fault of the device, as the crates above tell of it.
+/// A fault of the device, as the crates above report it.
 impl From<DeviceFault> for Refusal {
     ghost use Rattle.mt_base.specs.declared.refusal.Refusal.{Refusal};
 

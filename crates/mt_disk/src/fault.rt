@@ -1,4 +1,4 @@
-// A device that fails from a call on, for tests of what then comes.
+// A device that fails from a call on, over another device. Tests alone use it.
 ghost use Rattle.std.specs.Prelude.{◌≡◌, ℕ, List, ◌+◌, ◌-◌, ◌<◌, ◌≤◌, length, IsTrue, ◌↔◌, OnOk, if◌then◌else◌};
 ghost use Rattle.mt_disk.specs.Disk.{Has, Only, Follows, Torn, Wrote, Elapses, HasCause};
 

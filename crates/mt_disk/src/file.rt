@@ -1,4 +1,5 @@
-// A device in a file of the system.
+// A device in a file of the system. Its bytes are kept in memory too; each write goes to the file and to the copy.
+// A read is answered by the copy. Once the file has failed each later write and sync fails, and does not ask it.
 ghost use Rattle.std.specs.Prelude.{◌≡◌, ℕ, List, ◌+◌, ◌*◌, ◌<◌, ◌≤◌, ◌⊎◌, length, replicate, IsTrue, IfOk, IfErr, OnOk, OnErr, IsOk, IsErr};
 ghost use Rattle.mt_disk.specs.Disk.{Has, Only, Follows, Torn, Wrote, Elapses, HasCause};
 ghost use Rattle.mt_disk.specs.Memory.{content, MayLeave, moment_of, left_by, failures_of};
@@ -26,8 +27,8 @@ const SPARE_WRITES: usize = 64;
 /// written all the same. After one error of the file each later write and sync fails as well. After a failed sync a
 /// system may forget what it could not write, and answer the next one well.
 ///
-/// Nobody else opens the file meanwhile, as long as they open it so too. Its lock is taken, as `flock` does, and let
-/// go with the device.
+/// Nobody else opens the file meanwhile, as long as they open it so too. Its lock is taken, as `flock` does, and
+/// given back with the device.
 ///
 /// It has room without a sync for a write to each page of 4096 bytes and 64 more. These have room for as many bytes
 /// as the file has and 262,144 more: enough to format it whole.
@@ -44,8 +45,8 @@ impl FileDevice<File> {
 
     /// The device in the file of this path, of the file's length. What the file holds is synced first, so that none
     /// of it can be lost any more. A file that may be read alone is opened so, and each write to it is a fault.
-    /// Refused by `NoMemory` for want of memory. Refused by `DeviceFailed` if the file cannot be opened or read,
-    /// is no regular file, or does not keep its length. It is refused so if the file is open as a device, too, here or
+    /// Refused by `NoMemory` for want of memory. Refused by `DeviceFailed` if the file cannot be opened or read, is
+    /// no regular file, or does not keep its length. It is refused so if the file is open as a device, too, here or
     /// in another program. It is then as it was. What is no regular file is not opened, so a pipe holds up nobody.
     pub fn open<R: Files<File = File> + AllocGlobal>(
         rt: &R,
@@ -84,8 +85,8 @@ impl FileDevice<File> {
     }
 
     /// A device of so many bytes, all of them 0, in this file, which is open to be read and written; what it held
-    /// before is gone. Refused by `NoMemory` for want of memory, before the file is touched. Refused by `DeviceFailed`
-    /// if the file is open as a device elsewhere, and is then as it was, or cannot be written.
+    /// before is gone. Refused by `NoMemory` for want of memory, before the file is touched. Refused by
+    /// `DeviceFailed` if the file is open as a device elsewhere, and is then as it was, or cannot be written.
     pub fn over(alloc: Global, file: File, len: u64) -> Result<FileDevice<File>, Refusal>
         ensures content { IfOk result (λ device. content (copy_in device) ≡ replicate len 0) }
         ensures fresh { IfOk result (λ device. IsFresh device) }
@@ -188,7 +189,7 @@ fn opened<R: Files>(rt: &R, path: &str) -> Result<R::File, DeviceFault> {
     }
 }
 
-/// The file of this path, made where there is none. It keeps its bytes until its lock is taken.
+/// The file of this path, made if there is none. It keeps its bytes until its lock is taken.
 fn created<R: Files>(rt: &R, path: &str) -> Result<R::File, DeviceFault> {
     Ok(
         OpenOptions::new()
@@ -199,7 +200,7 @@ fn created<R: Files>(rt: &R, path: &str) -> Result<R::File, DeviceFault> {
     )
 }
 
-/// Takes the file's lock, which the system lets go with the last handle of this opening.
+/// Takes the file's lock, which the system gives back with the last handle of this opening.
 fn lock(file: &File) -> Result<(), DeviceFault> {
     match file.try_lock() {
         Ok(()) => Ok(()),

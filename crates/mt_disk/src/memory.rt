@@ -1,4 +1,4 @@
-// A device in memory, which knows what a crash may leave.
+// A device in memory, with what a crash may leave of it. It is the model of the trait, and a file's copy.
 ghost use Rattle.std.specs.Prelude.{◌≡◌, ℕ, ◌+◌, ◌≤◌, ◌++◌, length, vec_len, vec_capacity, IfOk, IsTrue, ◌↔◌, All, replicate};
 ghost use Rattle.mt_disk.specs.Unsynced.{Unsynced, IsInside};
 ghost use Rattle.mt_disk.specs.Disk.{Wrote};
@@ -136,7 +136,7 @@ fn stamp(bytes: &mut Vec<u8>, at: usize, new: &[u8])
     bytes[at..at + new.len()].copy_from_slice(new);
 }
 
-/// Copies each write's range from `bytes`, where the two agree everywhere else.
+/// Copies each write's range from `bytes`, if the two agree everywhere else.
 fn copy_ranges(synced: &mut Vec<u8>, bytes: &[u8], writes: &[Write])
     requires agree { Unsynced synced.old.items writes.now bytes.now }
     requires inside { (n : ℕ) × All (λ w. IsInside w (length bytes.now) n) writes.now }

@@ -23,7 +23,7 @@ with_add p e = record { committed = e.committed; pending = e.pending ++ p ∷ []
 abbrev pub CanStand : Escrowed → Pending → Type 0
 CanStand e p = IsAdmissible (count_at e.committed p.counter) (steps_at p.counter (e.pending ++ p ∷ []))
 
--- the list without the last of its adds that is this one; where none is, the list itself
+-- the list without the last of its adds that is this one; if none is, the list itself
 pub record LosesLast (p : Pending) (old new : List Pending) : Type 0 where
   pub last : (front back : List Pending) → old ≡ front ++ p ∷ back → (Contains back p → ⊥) → new ≡ front ++ back
   pub absent : (Contains old p → ⊥) → new ≡ old

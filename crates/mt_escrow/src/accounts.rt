@@ -54,11 +54,11 @@ impl Escrow {
         })
     }
 
-    /// Asks leave for an add. It is granted where the counter stays in its bounds whichever of the pending adds are
+    /// Asks leave for an add. It is granted if the counter stays in its bounds whichever of the pending adds are
     /// made, this one among them. It is then the last of the pending adds.
     ///
-    /// [`Refusal::NoMemory`] where the list of pending adds could not grow; else
-    /// [`Refusal::Escrow`] where some choice of them leaves the bounds. The escrow is then as before.
+    /// [`Refusal::NoMemory`] if the list of pending adds could not grow; else
+    /// [`Refusal::Escrow`] if some choice of them leaves the bounds. The escrow is then as before.
     pub fn ask(&mut self, txn: TxnNo, counter: CtrNo, step: i64) -> Result<(), Refusal>
         requires there { counter < length self.old.committed }
         requires step { IsStep step }
@@ -95,7 +95,7 @@ impl Escrow {
     }
 
     /// The end of an add's inverse, or of an add that was given up. The last pending add of this transaction to this
-    /// counter by this step goes, and nothing else changes. Where none is pending nothing changes. It takes no
+    /// counter by this step goes, and nothing else changes. If none is pending nothing changes. It takes no
     /// memory.
     pub fn taken_back(&mut self, txn: TxnNo, counter: CtrNo, step: i64)
         ensures committed { self.new.committed ≡ self.old.committed }

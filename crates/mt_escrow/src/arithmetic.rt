@@ -22,7 +22,7 @@ pub fn difference_of(one: i64, other: i64) -> i64
     one - other
 }
 
-/// A step's part below zero: the step where it goes down, and else nothing.
+/// A step's part below zero: the step if it goes down, and else nothing.
 pub fn part_below(step: i64) -> i64
     requires { IsStep step }
     ensures part { result ≡ below step }
@@ -31,7 +31,7 @@ pub fn part_below(step: i64) -> i64
     if step < 0 { step } else { 0 }
 }
 
-/// A step's part above zero: the step where it goes up, and else nothing.
+/// A step's part above zero: the step if it goes up, and else nothing.
 pub fn part_above(step: i64) -> i64
     requires { IsStep step }
     ensures part { result ≡ above step }

@@ -16,7 +16,7 @@ use Rattle.mt_explain.specs.declared.unfinished.Unfinished.{Unfinished}
 
 -- ---- an operation
 
--- a key: in quotes where all of its bytes are printable and none is a quote, and else as hexadecimal digits
+-- a key: in quotes if all of its bytes are printable and none is a quote, and else as hexadecimal digits
 abbrev pub is_plain : ℕ → Bool
 is_plain b = (nat_le 32 b && nat_le b 126) && not (b == 34)
 

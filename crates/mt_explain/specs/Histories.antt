@@ -11,7 +11,7 @@ use Rattle.mt_explain.specs.Explanations.{batch_lines, put_back_line, undo_lines
 use Rattle.mt_explain.specs.Listings.{numbered}
 use Rattle.mt_explain.specs.declared.history.History.{History}
 
--- it has these batches, and what they tell of operations
+-- it has these batches, and what they say of operations
 pub record Recounts (batches : List Batch) (h : History) : Type 0 where
   pub same : h.batches.items ≡ batches
   pub unfinished_told : h.unfinished.items ≡ unfinished (joined (records_of batches))

@@ -44,7 +44,7 @@ fn write_bytes<W: Write>(writer: &mut W, bytes: &[u8]) -> Result<(), Unheard>
     Ok(())
 }
 
-/// Writes a key or a value: its bytes as hexadecimal digits, and a dash where there are none.
+/// Writes a key or a value: its bytes as hexadecimal digits, and a dash if there are none.
 pub(crate) fn write_hex<W: Write>(writer: &mut W, bytes: &Bytes) -> Result<(), Unheard>
     ensures all { OnOk result (Appends (W.contents writer.old) (W.contents writer.new) (hex_text bytes.now)) }
     ensures front { OnErr result (AppendsFront (W.contents writer.old) (W.contents writer.new) (hex_text bytes.now)) }

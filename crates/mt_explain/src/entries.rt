@@ -31,7 +31,7 @@ fn is_readable(key: &[u8]) -> bool
     true
 }
 
-/// Writes a key: in quotes where it is readable, and else as hexadecimal digits.
+/// Writes a key: in quotes if it is readable, and else as hexadecimal digits.
 fn write_key<W: Write>(writer: &mut W, key: &Bytes) -> Result<(), Unheard>
     ensures all { OnOk result (Appends (W.contents writer.old) (W.contents writer.new) (key_text key.now)) }
     ensures front { OnErr result (AppendsFront (W.contents writer.old) (W.contents writer.new) (key_text key.now)) }
@@ -117,7 +117,7 @@ fn write_added<W: Write>(writer: &mut W, counter: CtrNo, step: i64) -> Result<()
     )
 }
 
-/// Writes an operation as its record tells it, and ends the line.
+/// Writes an operation as its record has it, and ends the line.
 fn write_done<W: Write>(writer: &mut W, done: &LoggedOp) -> Result<(), Unheard>
     ensures all { OnOk result (Appends (W.contents writer.old) (W.contents writer.new) (done_line done.now)) }
     ensures front { OnErr result (AppendsFront (W.contents writer.old) (W.contents writer.new) (done_line done.now)) }
@@ -212,7 +212,7 @@ fn write_txn<W: Write>(writer: &mut W, txn: TxnNo, end: &str) -> Result<(), Unhe
     )
 }
 
-/// Writes which operation an inverse undoes; nothing where it is none.
+/// Writes which operation an inverse undoes; nothing if it is none.
 fn write_undoes<W: Write>(writer: &mut W, undoes: u64) -> Result<(), Unheard>
     ensures all { OnOk result (Appends (W.contents writer.old) (W.contents writer.new) (undoes_text undoes)) }
     ensures front { OnErr result (AppendsFront (W.contents writer.old) (W.contents writer.new)

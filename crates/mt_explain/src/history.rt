@@ -17,7 +17,7 @@ use mt_script::Unheard;
 use std::alloc::Global;
 use std::io::Write;
 
-/// What a log tells.
+/// The batches of a log, with the operations that a restart puts back and those that it undoes.
 #[derive(Drop)]
 pub struct History {
     /// Its batches, in order.
@@ -28,7 +28,7 @@ pub struct History {
     losers: Vec<Loser>,
 }
 
-/// What these batches tell. The only refusal is [`Refusal::NoMemory`].
+/// The history of these batches. The only refusal is [`Refusal::NoMemory`].
 pub fn history_of(alloc: Global, batches: Vec<Batch>) -> Result<History, Refusal>
     requires { AreOfGrammar batches.items }
     ensures told { IfOk result (Recounts batches.items) }

@@ -69,8 +69,8 @@ fn note_batch(list: &mut Vec<Unfinished>, records: &[Record]) -> Result<(), Allo
     Ok(())
 }
 
-/// The operations of these batches that have not ended, in the order of their first records. The only error is want of
-/// memory.
+/// The operations of these batches that have not ended, in the order of their first records. The only error is want
+/// of memory.
 pub(crate) fn unfinished_of(alloc: Global, batches: &[Batch]) -> Result<Vec<Unfinished>, AllocError>
     ensures { IfOk result (λ list. list.items ≡ unfinished (joined (records_of batches.now))) }
 {

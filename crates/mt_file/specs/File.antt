@@ -38,7 +38,7 @@ pub record Adds (old new : PageBytes) (p s : ℕ) (row : Row) : Type 0 where
   pub own : kind new p ≡ 3
   pub touches : Touches old new p
 
--- one record less; its page is given back where it was the last
+-- one record less; its page is given back if it was the last
 pub record Drops (old new : PageBytes) (p s : ℕ) : Type 0 where
   pub puts : Puts old new p s None
   pub file : IsFile new

@@ -22,7 +22,7 @@ abbrev pub IsChosen : Option ℕ → ℕ → PageBytes → ℕ → Type 0
 IsChosen (Some room) total pages p = p ≡ room
 IsChosen None total pages p = IsFirstFree (mapped (pages 0) total) p
 
--- a page that has to be seen for it: that one, or the map where none is named
+-- a page that has to be seen for it: that one, or the map if none is named
 abbrev pub IsLooked : Option ℕ → ℕ → PageBytes → ℕ → Type 0
 IsLooked (Some room) total pages p = p ≡ room
 IsLooked None total pages p = (p ≡ 0) ⊎ IsFirstFree (mapped (pages 0) total) p
@@ -98,7 +98,7 @@ IsRemoval at_hand pages p s Full = ⊥
 abbrev pub IsOutgrown : PageBytes → ℕ → Row → Row → Type 0
 IsOutgrown pages p r row = room_of (pages p) + row_length r < row_length row
 
--- The record stays under its name where its page has room for it, and moves to a chosen page only if it has not.
+-- The record stays under its name if its page has room for it, and moves to a chosen page only if it has not.
 abbrev pub IsReplaced : Option ℕ → ℕ → PageBytes → PageBytes → ℕ → ℕ → Row → Row → ℕ → ℕ → Type 0
 IsReplaced room total pages next p s r row q t =
     ((q ≡ p) × (t ≡ s) × Stays pages next p s row)

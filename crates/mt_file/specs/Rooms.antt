@@ -7,7 +7,7 @@ use Rattle.mt_space.specs.Changes.{PageBytes}
 use Rattle.mt_slots.specs.Page.{count, live_slots, room_of}
 use Rattle.mt_space.specs.Kinds.{kind}
 
--- the bytes of the longest record that fits: a new slot takes 4 where none is empty
+-- the bytes of the longest record that fits: a new slot takes 4 if none is empty
 unfoldable pub fits_of : List ℕ → ℕ
 fits_of page = if live_slots page (count page) == count page then room_of page - 4 else room_of page
 

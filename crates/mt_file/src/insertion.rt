@@ -1,4 +1,5 @@
-// A record more.
+// The plan to put one record more: into a page that is named, or into the smallest free page.
+// It reads pages at hand and answers what changes; it writes none.
 ghost use Rattle.std.specs.Prelude.{◌≡◌, ◌≢◌, ◌<◌, ◌≤◌, ℕ, [], length, get_or, Option, Some, None, IfOk, IsSome};
 ghost use Rattle.mt_base.specs.declared.limits.TheConstants.{MAX_VALUE_BYTES, PAGE_BYTES};
 ghost use Rattle.mt_base.specs.Limits.{IsKey, IsValue};
@@ -17,7 +18,7 @@ use mt_space::{Changes, Pages, first_free};
 use std::alloc::{AllocError, Global};
 
 /// Plans to put a record into the page `room`, which holds records; into a new page, the smallest free one,
-/// where no page is named. One record more stands under a name that held nothing, and no other changes.
+/// if no page is named. One record more stands under a name that held nothing, and no other changes.
 /// `Full` if and only if the page that is named has no room, or none is named and none is free. A page that
 /// is taken is written whole, since the bytes of a free page are open. The only error is want of memory.
 pub fn plan_put<V: Pages>(

@@ -1,4 +1,4 @@
-// The record under a name.
+// The record under a name, read off its page if that is at hand. Nothing changes.
 ghost use Rattle.std.specs.Prelude.{◌≡◌, ℕ};
 ghost use Rattle.mt_space.specs.Changes.{PageBytes, Agrees};
 ghost use Rattle.mt_space.specs.Kinds.{kind};

@@ -1,4 +1,4 @@
-// A record less.
+// The plan to take one record away. A page that loses its last record becomes free.
 ghost use Rattle.std.specs.Prelude.{◌≡◌, ℕ, [], Some, IfOk, IsSome};
 ghost use Rattle.mt_space.specs.Changes.{PageBytes, Agrees};
 ghost use Rattle.mt_slots.specs.Page.{Row};

@@ -1,4 +1,4 @@
-// A record with another value.
+// The plan to give a record another value: in its own page, or else in another page under a new name.
 ghost use Rattle.std.specs.Prelude.{◌≡◌, ◌≢◌, ◌+◌, ◌<◌, ◌≤◌, [], length, Some, IfOk, IsSome};
 ghost use Rattle.std.specs.Bool.{OnTrue, OnFalse};
 ghost use Rattle.mt_base.specs.declared.limits.TheConstants.{MAX_VALUE_BYTES};
@@ -16,9 +16,9 @@ use mt_slots::{get, live, remove, replace};
 use mt_space::{Changes, Pages};
 use std::alloc::{AllocError, Global};
 
-/// Plans to give the record under a name another value. It stays under its name where its page has room for it. That
-/// is so where its new length is no more than the page's room and its old length. Else it moves. It is taken away
-/// there, and put into the page `room`, which holds records, or into a new one where no page is named. The same bytes
+/// Plans to give the record under a name another value. It stays under its name if its page has room for it. That
+/// is so if its new length is no more than the page's room and its old length. Else it moves. It is taken away
+/// there, and put into the page `room`, which holds records, or into a new one if no page is named. The same bytes
 /// change nothing. `Full` if and only if it would move, and the page that is named has no room, or none is named and
 /// none is free. The only error is want of memory.
 ///

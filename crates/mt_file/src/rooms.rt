@@ -1,4 +1,5 @@
-// Which page of records takes a record of so many bytes.
+// Which page of records takes a record of so many bytes: a tree over all pages, each node the larger of its children.
+// mt_op keeps one beside its store, and finds in it a page to try. It notes a page anew when an operation ends.
 ghost use Rattle.std.specs.Prelude.{◌≡◌, ◌≢◌, ◌+◌, ◌*◌, ◌<◌, ◌≤◌, ℕ, length, get_or, replicate, IfOk, IfSome, IfNone, slice_set};
 ghost use Rattle.mt_base.specs.declared.limits.TheConstants.{MAX_PAGES};
 ghost use Rattle.mt_file.specs.declared.rooms.TheConstants.{LEAVES};
@@ -18,7 +19,7 @@ use std::marker::Model;
 const LEAVES: usize = 4096;
 
 /// The bytes of the longest record that a page of records takes: its room, less the 4 of a new slot
-/// where none is empty.
+/// if none is empty.
 #[tactic(auto, unfolding(crate::specs::Rooms::fits_of, mt_slots::specs::Page::count))]
 pub fn fits(page: &[u8]) -> u16
     requires { IsShaped page.now }
@@ -120,7 +121,7 @@ fn leaf_from(tree: &[u16], from: usize, least: u16) -> Option<usize>
     Some(leaf_below(tree, from, least, node))
 }
 
-// The first leaf below a node that is no less than this, where none before the node is.
+// The first leaf below a node that is no less than this, if none before the node is.
 fn leaf_below(tree: &[u16], from: usize, least: u16, node: usize) -> usize
     requires size { length tree.now ≡ 2 * LEAVES }
     requires nodes { (i : ℕ) → 1 ≤ i → i < LEAVES → IsMax tree.now i }

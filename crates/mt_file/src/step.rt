@@ -1,4 +1,4 @@
-// What a plan of the record file answers.
+// What a plan of the record file answers: a page that it needs first, or what changes, or that no page takes it.
 use mt_base::{Mode, PageNo, RecordName};
 use mt_space::Changes;
 

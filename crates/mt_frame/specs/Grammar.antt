@@ -24,7 +24,7 @@ operation_text (Update relation key value old) = 2 ∷ (relation ∷ []) ++ ((le
 operation_text (Delete relation key old) = 3 ∷ (relation ∷ []) ++ ((length key ∷ key) ++ counted w16 old)
 operation_text (Add counter step) = 4 ∷ (counter ∷ []) ++ to_be_bytes w64 (cast_unsigned w64 step)
 
--- 1 where an image follows, 0 where none does
+-- 1 if an image follows, 0 if none does
 abbrev pub flag_number : Bool → ℕ
 flag_number image = if image then 1 else 0
 
@@ -37,7 +37,7 @@ abbrev pub head_text : ℕ → ℕ → ℕ → Bool → ℕ → ℕ → List ℕ
 head_text txn op page image start size =
     (to_be_bytes w64 txn ++ to_be_bytes w64 op) ++ (to_be_bytes w16 page ++ ((flag_number image ∷ []) ++ (to_be_bytes w16 start ++ to_be_bytes w16 size)))
 
--- a head, and the bytes: the image, where there is one, and the range's old and new ones
+-- a head, and the bytes: the image, if there is one, and the range's old and new ones
 abbrev pub page_text : ℕ → ℕ → ℕ → Option (List ℕ) → ℕ → List ℕ → List ℕ → List ℕ
 page_text txn op page image start old new =
     head_text txn op page (is_some image) start (length old) ++ (image_text image ++ (old ++ new))
@@ -75,7 +75,7 @@ IsOperation (Update relation key value old) = IsRelation relation × IsKey key �
 IsOperation (Delete relation key old) = IsRelation relation × IsKey key × IsValue old
 IsOperation (Add counter step) = (counter < MAX_COUNTERS) × IsStep step
 
--- a whole page, where there is one
+-- a whole page, if there is one
 abbrev pub IsImage : Option (List ℕ) → Type 0
 IsImage None = Unit {0}
 IsImage (Some image) = length image ≡ PAGE_BYTES

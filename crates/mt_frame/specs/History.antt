@@ -109,8 +109,8 @@ abbrev pub BatchesMayFollow : List Record → List (List Record) → Type 0
 BatchesMayFollow earlier [] = Unit {0}
 BatchesMayFollow earlier (b ∷ bs) = MayFollow false earlier b × BatchesMayFollow (earlier ++ b) bs
 
--- the batches of an area break no rule: there is a first one, of images alone, in which a page stands at most once since its
--- image is its first record
+-- the batches of an area break no rule: there is a first one, of images alone, in which a page stands at most once
+-- since its image is its first record
 abbrev pub IsHistory : List (List Record) → Type 0
 IsHistory [] = ⊥
 IsHistory (b ∷ bs) = MayFollow true [] b × BatchesMayFollow b bs

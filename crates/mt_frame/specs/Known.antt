@@ -1,4 +1,4 @@
--- What the sets of the rules tell of the records so far.
+-- What the sets of the rules know of the records so far.
 use Rattle.std.specs.Prelude.{◌≡◌, ℕ, List}
 use Rattle.std.specs.declared.cmp.Ordering.{Ordering}
 use Rattle.std.specs.Ordering.{nat_cmp, ordering_then}

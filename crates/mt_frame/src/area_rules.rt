@@ -1,4 +1,6 @@
-// The rules over all records of a log area, tested record by record.
+// The rules over all records of a log area, tested record by record. The first batch has images alone.
+// No record follows the end of its transaction, and no page record that of its operation. An inverse names a finished
+// operation, once. Of a page the first record has the image, and no other. mt_log's scan asks it about each batch.
 ghost use Rattle.std.specs.Prelude.{◌≡◌, ◌==◌, ◌&&◌, ◌||◌, ◌∷◌, ◌++◌, ℕ, List, [], true, false, not, if◌then◌else◌, IfOk, IfErr, OnOk};
 ghost use Rattle.std.specs.BTreeSet.{contains};
 ghost use Rattle.std.specs.Ordering.{nat_cmp};
@@ -12,7 +14,7 @@ use mt_base::Refusal;
 use std::alloc::{AllocError, Global};
 use std::collections::BTreeSet;
 
-/// What the records of a log area so far tell of those that may follow. Which transactions and operations have ended,
+/// What the records of a log area so far say of those that may follow. Which transactions and operations have ended,
 /// which operations are finished and which of them are undone, and which pages have their image. Each record costs a
 /// few look-ups in ordered sets.
 #[derive(Drop)]
@@ -35,6 +37,7 @@ fn remember(set: &mut BTreeSet<(u64, u64)>, txn: u64, op: u64) -> Result<(), All
     }
 }
 
+// Notes the transaction that a record ends: no later record may be of it.
 fn note_end(set: &mut BTreeSet<u64>, entry: &Record) -> Result<(), AllocError>
     ensures { OnOk result ((t : ℕ) → contains nat_cmp set.new t ≡
         (contains nat_cmp set.old t || ends_txn t entry.now)) }
@@ -52,6 +55,7 @@ fn note_end(set: &mut BTreeSet<u64>, entry: &Record) -> Result<(), AllocError>
     }
 }
 
+// Notes the page of a record: the area has its image then, so no later record may carry one.
 fn note_page(set: &mut BTreeSet<u16>, entry: &Record) -> Result<(), AllocError>
     ensures { OnOk result ((p : ℕ) → contains nat_cmp set.new p ≡
         (contains nat_cmp set.old p || is_of_page p entry.now)) }
@@ -65,6 +69,7 @@ fn note_page(set: &mut BTreeSet<u16>, entry: &Record) -> Result<(), AllocError>
     }
 }
 
+// Notes the operation that a record ends: no later page record may be of it.
 fn note_op_end(set: &mut BTreeSet<u64>, entry: &Record) -> Result<(), AllocError>
     ensures { OnOk result ((o : ℕ) → contains nat_cmp set.new o ≡
         (contains nat_cmp set.old o || ends_op o entry.now)) }
@@ -82,6 +87,7 @@ fn note_op_end(set: &mut BTreeSet<u64>, entry: &Record) -> Result<(), AllocError
     }
 }
 
+// Notes an operation that has finished and is no inverse: an inverse may name it from then on.
 fn note_finish(set: &mut BTreeSet<(u64, u64)>, entry: &Record) -> Result<(), AllocError>
     ensures { OnOk result ((t o : ℕ) → contains pair_cmp set.new (t, o) ≡
         (contains pair_cmp set.old (t, o) || finishes t o entry.now)) }
@@ -102,6 +108,7 @@ fn note_finish(set: &mut BTreeSet<(u64, u64)>, entry: &Record) -> Result<(), All
     }
 }
 
+// Notes the operation that an inverse took back: no other inverse may name it.
 fn note_undoing(set: &mut BTreeSet<(u64, u64)>, entry: &Record) -> Result<(), AllocError>
     ensures { OnOk result ((t o : ℕ) → contains pair_cmp set.new (t, o) ≡
         (contains pair_cmp set.old (t, o) || undoes_op t o entry.now)) }
@@ -117,6 +124,7 @@ fn note_undoing(set: &mut BTreeSet<(u64, u64)>, entry: &Record) -> Result<(), Al
     }
 }
 
+// Whether a record of this transaction may be in its batch: transaction 0 has the images of the first batch alone.
 fn is_in_place(first: bool, txn: u64) -> bool
     ensures { result ≡ (if first then txn == 0 else not (txn == 0)) }
 {
@@ -124,7 +132,7 @@ fn is_in_place(first: bool, txn: u64) -> bool
 }
 
 impl AreaRules {
-    /// What no records tell.
+    /// What is known before the first record: nothing.
     pub fn new(alloc: Global) -> AreaRules
         ensures { Knows result [] }
     {
@@ -137,12 +145,14 @@ impl AreaRules {
         }
     }
 
+    // Whether no record has ended the record's transaction.
     fn txn_is_open(&self, entry: &Record) -> bool
         ensures { (earlier : List Record) → Knows self.now earlier → result ≡ txn_is_open earlier entry.now }
     {
         !self.ended.contains(&entry.txn().get())
     }
 
+    // Whether no record has ended the operation of a page record.
     fn op_is_open(&self, entry: &Record) -> bool
         ensures { (earlier : List Record) → Knows self.now earlier → result ≡ op_is_open earlier entry.now }
     {
@@ -152,6 +162,7 @@ impl AreaRules {
         }
     }
 
+    // Whether an inverse names an operation that has finished and was not taken back.
     fn inverse_is_due(&self, entry: &Record) -> bool
         ensures { (earlier : List Record) → Knows self.now earlier → result ≡ inverse_is_due earlier entry.now }
     {
@@ -167,6 +178,7 @@ impl AreaRules {
         }
     }
 
+    // Whether a page record has an image if and only if none of that page was before it.
     fn image_is_first(&self, entry: &Record) -> bool
         ensures { (earlier : List Record) → Knows self.now earlier → result ≡ image_is_first earlier entry.now }
     {

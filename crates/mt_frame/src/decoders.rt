@@ -136,7 +136,7 @@ fn operation_of(alloc: Global, bytes: &[u8]) -> Result<(LoggedOp, &[u8]), ReadEr
 
 // ---- page records
 
-// Whether the numbers go together: of transaction 0 they tell an image alone, of any other a range
+// Whether the numbers go together: of transaction 0 they are of an image alone, of any other of a range
 // within the page.
 fn is_page_head(head: &PageHead) -> bool
     ensures { result ≡ is_head (
@@ -373,7 +373,7 @@ pub fn decode_body(alloc: Global, bytes: &[u8]) -> Result<Option<Vec<Record>>, R
 }
 
 /// The batch at the front of the bytes: its records, and how many bytes it takes. `None` exactly
-/// where no front of them is an open batch. The only refusal is [`Refusal::NoMemory`].
+/// if no front of them is an open batch. The only refusal is [`Refusal::NoMemory`].
 pub fn decode_batch(alloc: Global, bytes: &[u8]) -> Result<Option<(Vec<Record>, usize)>, Refusal>
     ensures found { IfOk result (λ o. IfSome o (λ batch. IsBatch bytes.now batch.0.items batch.1)) }
     ensures none { IfOk result (λ o. IfNone o ((records : List Record) (size : ℕ) → IsBatch bytes.now records size

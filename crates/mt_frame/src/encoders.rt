@@ -1,4 +1,4 @@
-// Records and batches as bytes. What writes into a buffer finds its room there, so that none of it
+// Records and batches as bytes. What writes into a buffer finds its memory there, so that none of it
 // can fail halfway.
 ghost use Rattle.std.specs.Prelude.{◌≡◌, ◌+◌, ◌≤◌, ◌<◌, ◌^◌, ◌++◌, ◌∷◌, [], length, is_some, OnOk, OnErr, IfOk, IfErr, IsOk};
 ghost use Rattle.std.specs.Int.{w16, w32, w64, to_be_bytes, cast_unsigned};
@@ -156,7 +156,7 @@ fn put_name(out: &mut Vec<u8>, txn: u64, op: u64)
     put_u64(out, op)
 }
 
-// What a page record tells of its range.
+// What a page record says of its range.
 fn put_place(out: &mut Vec<u8>, head: &PageHead)
     requires { vec_len out.old + 7 ≤ vec_capacity out.old }
     ensures items { out.new.items ≡ out.old.items ++ (to_be_bytes w16 head.now.page
@@ -182,7 +182,7 @@ fn put_head(out: &mut Vec<u8>, head: &PageHead)
     put_place(out, head)
 }
 
-// The bytes of a page record: the image, where there is one, and the range's old and new bytes.
+// The bytes of a page record: the image, if there is one, and the range's old and new bytes.
 fn put_range(out: &mut Vec<u8>, image: &Option<Bytes>, old: &Bytes, new: &Bytes)
     requires { vec_len out.old + (image_length image.now + length old.now + length new.now) ≤ vec_capacity out.old }
     ensures items { out.new.items ≡ out.old.items ++ (image_text image.now ++ (old.now ++ new.now)) }
@@ -265,7 +265,7 @@ fn put_record(out: &mut Vec<u8>, entry: &Record)
 }
 
 /// Appends the record's text to the buffer. The only error is want of memory, and the buffer then
-/// has the bytes that it had; there is none where the buffer has room.
+/// has the bytes that it had; there is none if the buffer has room.
 pub fn push_record(buffer: &mut Vec<u8>, entry: &Record) -> Result<(), AllocError>
     requires { IsRecord entry.now }
     ensures ok { OnOk result (buffer.new.items ≡ buffer.old.items ++ record_text entry.now) }

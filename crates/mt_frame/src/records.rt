@@ -1,4 +1,5 @@
-// The records of the log.
+// The records of the log as values, with the operations that their ends log: copies, comparisons and lengths.
+// Their bytes are written in `encoders` and read in `decoders`.
 ghost use Rattle.std.specs.Prelude.{◌≡◌, ◌↔◌, IsTrue, IfOk};
 ghost use Rattle.mt_frame.specs.Grammar.{IsRecord, IsOfPage, IsOperation};
 ghost use Rattle.mt_frame.specs.Kinds.{IsOfInsert, IsOfUpdate};

@@ -1,4 +1,4 @@
-// Master slots.
+// Master slots as values and as 17 bytes. Which of a device's two slots is in force is decided in mt_log.
 ghost use Rattle.std.specs.Prelude.{◌≡◌};
 ghost use Rattle.std.specs.Prelude.{IfErr};
 ghost use Rattle.mt_frame.specs.declared.fields.ReadError.TheVariants.{Wrong};

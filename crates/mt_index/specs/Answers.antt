@@ -69,7 +69,8 @@ pub record Holds (r : ℕ) (k : List ℕ) (pages : PageBytes) (p : ℕ) (name : 
   pub passed : Passed (Lacks r k pages) pages k p steps
   pub here : look r k (entries (pages p)) ≡ Some name
 
--- what the walk along a key's bucket comes to: a page that is needed, the page that has the key's entry, or that none has it
+-- what the walk along a key's bucket comes to: a page that is needed, the page that has the key's entry, or that none
+-- has it
 abbrev pub FindsHolder : (ℕ → Option (List ℕ)) → ℕ → ℕ → List ℕ → Mode → Held → Type 0
 FindsHolder at_hand total r k in_bucket (held.Need p mode) = Asks at_hand total (IsInBucket k in_bucket) p mode
 FindsHolder at_hand total r k in_bucket (held.In p name) = (at_hand p ≡ None → ⊥) × InMaps at_hand total (λ pages m. Holds r k pages p name)
@@ -119,7 +120,8 @@ pub record IsEnd (key : List ℕ) (pages : PageBytes) (p : ℕ) (alone : Bool) :
   pub one : alone ≡ true → steps ≡ 0
   pub more : alone ≡ false → 0 < steps
 
--- what the walk for a new entry comes to: a page that is needed, the first with room, or the last of those that are full
+-- what the walk for a new entry comes to: a page that is needed, the first with room, or the last of those that are
+-- full
 abbrev pub FindsSpot : (ℕ → Option (List ℕ)) → ℕ → List ℕ → Spot → Type 0
 FindsSpot at_hand total k (spot.Need p mode) = Asks at_hand total (IsInBucket k Write) p mode
 FindsSpot at_hand total k (spot.In p) = InMaps at_hand total (λ pages m. HasRoom k pages p)
@@ -175,7 +177,7 @@ pub record Shortage (split : Bool) (total : ℕ) (e : Entry) (pages : PageBytes)
   pub full : IsEnd e.key pages last alone
   pub free : HasNoneFree total pages ⊎ ((split ≡ true) × (MaySplit e.key (state_of pages) × (((q : ℕ) × HasOneFree total pages q) × IsLopsided e pages last)))
 
--- besides the pages of the bucket: the map of the space, the directory where a split may change it, and pages to be
+-- besides the pages of the bucket: the map of the space, the directory if a split may change it, and pages to be
 -- taken are needed, to be written
 abbrev pub IsInAdd : Bool → List ℕ → ℕ → PageBytes → ℕ → Mode → Type 0
 IsInAdd split key total pages p mode =
@@ -192,7 +194,7 @@ pub record MayTake (split : Bool) (key : List ℕ) (total : ℕ) (pages : PageBy
   pub within : q < total
   pub before : (n : ℕ) → n < q → kind pages n ≡ 0 → (split ≡ true) × MaySplit key (state_of pages) × IsSmallest (state_of pages) n
 
--- each of these only if the bucket has no room: the map of the space; the directory where it splits; a page
+-- each of these only if the bucket has no room: the map of the space; the directory if it splits; a page
 -- that it then takes
 abbrev pub IsDueInAdd : Bool → List ℕ → ℕ → PageBytes → ℕ → Mode → Type 0
 IsDueInAdd split key total pages p mode =

@@ -28,8 +28,8 @@ pub record IsPlaced (pages : PageBytes) (p : ℕ) : Type 0 where
   pub on : IsOn pages (pointer_at (pages 1) pointer) p
   pub each : (i : ℕ) → i < count_of (pages p) → IsAlone pages (pointer_at (pages 1) pointer) p i
 
--- A page breaks a rule of the index: as the map of the space, as the directory by its own bytes or by the
--- buckets that it names, as a bucket page by its own bytes, by the page that it names as the next one, by the chain that
+-- A page breaks a rule of the index: as the map of the space, as the directory by its own bytes or by the buckets
+-- that it names, as a bucket page by its own bytes, by the page that it names as the next one, by the chain that
 -- comes to it, or by its place.
 pub data IsBroken (relations total : ℕ) (pages : PageBytes) (p : ℕ) : Type 0 where
   map_broken : p ≡ 0 → (AreKinds total pages → ⊥) → IsBroken relations total pages p

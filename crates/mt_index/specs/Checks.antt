@@ -127,7 +127,7 @@ pub record IsSettled (pages : PageBytes) (homes : List ℕ) (p : ℕ) : Type 0 w
   pub home : get_or homes p 0 ≢ 0
   pub each : AreAlone pages (get_or homes p 0) p
 
--- a bucket page stands in a bucket, and where that begins with it, all pages there are settled
+-- a bucket page stands in a bucket, and if that begins with it, all pages there are settled
 pub record IsBegun (pages : PageBytes) (homes : List ℕ) (p : ℕ) : Type 0 where
   pub home : get_or homes p 0 ≢ 0
   pub bucket : get_or homes p 0 ≡ p → (n : ℕ) → get_or homes n 0 ≡ p → IsSettled pages homes n

@@ -1,4 +1,5 @@
--- Some pages in memory, as the tests have them: the map of the space, the directory, and pages 3 to 5; and pages in a row.
+-- Some pages in memory, as the tests have them: the map of the space, the directory, and pages 3 to 5; and pages in a
+-- row.
 use Rattle.std.specs.Prelude.{ℕ, ◌≡◌, ◌==◌, ◌<◌, ◌≤◌, Bool, true, false, cond, List, [], length, Option, Some, None, slice_get}
 use Rattle.std.proofs.Common.{⊎_elim, sym, ap, ◌∙◌}
 use Rattle.std.proofs.lemmas.Bool.{cases_lt}

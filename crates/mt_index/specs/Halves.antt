@@ -30,7 +30,7 @@ pub record Apart (b q : ℕ) : Type 0 where
   pub fresh_1 : 1 ≢ q
   pub each_other : b ≢ q
 
--- an entry more in a page, where it has room
+-- an entry more in a page, if it has room
 pub record Puts (there : Bool) (e : Entry) (old new : List ℕ) : Type 0 where
   pub head : KeepsHead old new
   pub pushed : OnTrue there (entries new ≡ entries old ++ e ∷ [])

@@ -54,7 +54,7 @@ double s = record s { g = suc s.g; pointers = s.pointers ++ s.pointers }
 abbrev pub Puts : Entry → State → State → Type 0
 Puts e s t = ((p : ℕ) × InRoom e p s t) ⊎ ((z : ℕ) × (q : ℕ) × Behind e z q s t)
 
--- one split at most, doubled before where the bucket is as deep as the directory
+-- one split at most, doubled before if the bucket is as deep as the directory
 abbrev pub Adds : Bool → Entry → State → State → Type 0
 Adds false e s t = Puts e s t
 Adds true e s t = Puts e s t ⊎ ((u : State) × (q : ℕ) × (l : ℕ) × (Halves e.key q l s u ⊎ Halves e.key q l (double s) u) × Puts e u t)

@@ -1,4 +1,5 @@
-// What plans answer.
+// What the plans of the index answer: a page that they need and in which mode, what they found, or what changes.
+// `Held` and `Spot` are answers within this crate.
 use mt_base::{Mode, PageNo, RecordName};
 use mt_space::Changes;
 

@@ -1,4 +1,5 @@
-// A bucket becomes two (Fagin 1979).
+// A full bucket of one page becomes two, by the next bit of the hash (Fagin 1979). The new entry goes into its half,
+// or onto an overflow page if that half is full. `insertion_plan` chooses a split.
 ghost use Rattle.std.specs.Prelude.{ℕ, ◌≡◌, ◌≢◌, ◌≤◌, ◌<◌, ◌++◌, ◌∷◌, [], length, true, false, IfOk, Some};
 ghost use Rattle.std.specs.Bool.{OnTrue, OnFalse};
 ghost use Rattle.mt_base.specs.declared.limits.TheConstants.{MAX_KEY_BYTES, PAGE_BYTES};

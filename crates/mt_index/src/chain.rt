@@ -1,4 +1,4 @@
-// The walk along the chain of a key's bucket.
+// The walk along the pages of a key's bucket: to the page with the key's entry, or to one that takes an entry more.
 ghost use Rattle.std.specs.Prelude.{◌≤◌, length};
 ghost use Rattle.mt_base.specs.declared.limits.TheConstants.{MAX_KEY_BYTES};
 ghost use Rattle.mt_index.specs.Answers.{FindsHolder, FindsSpot};

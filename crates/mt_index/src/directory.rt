@@ -36,7 +36,7 @@ pub(crate) fn pointer(directory: &[u8], hash: u64) -> PageNo
     PageNo::new(u16_at(directory, DIRECTORY_HEAD_BYTES + POINTER_BYTES * i))
 }
 
-// The directory once a bucket that goes by so many bits is two. It is doubled before where it goes by no more. Each
+// The directory once a bucket that goes by so many bits is two. It is doubled before if it goes by no more. Each
 // pointer to the bucket whose number has the next bit names the new page.
 pub(crate) fn rewired(
     directory: &[u8; PAGE_BYTES],

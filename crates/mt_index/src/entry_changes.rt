@@ -1,4 +1,4 @@
-// Changes of an entry that is there.
+// The plans that rename an entry that is there, or take it out. Each changes one page of the key's bucket.
 ghost use Rattle.std.specs.Prelude.{◌≡◌, ◌≤◌, ◌<◌, ℕ, length, Some, None, IfOk};
 ghost use Rattle.mt_base.specs.declared.limits.TheConstants.{MAX_KEY_BYTES};
 ghost use Rattle.mt_base.specs.declared.modes.Mode.TheVariants.{Write};

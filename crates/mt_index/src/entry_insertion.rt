@@ -1,4 +1,5 @@
-// An entry more.
+// An entry comes in without a split: into a page of its bucket, or onto a new overflow page.
+// `insertion_plan` chooses which of the two, or a split.
 ghost use Rattle.std.specs.Prelude.{ℕ, ◌≡◌, ◌≤◌, ◌<◌, length, true, IfOk, Bool};
 ghost use Rattle.mt_base.specs.declared.limits.TheConstants.{MAX_KEY_BYTES, PAGE_BYTES};
 ghost use Rattle.mt_bucket.specs.Page.{IsBucket};

@@ -39,7 +39,7 @@ pub(crate) fn find_unsettled(
     Ok(None)
 }
 
-// This page, where it is a bucket page in no bucket. Else a page of the bucket that it begins with an entry in a
+// This page, if it is a bucket page in no bucket. Else a page of the bucket that it begins with an entry in a
 // wrong place.
 fn unsettled_from(
     alloc: Global,

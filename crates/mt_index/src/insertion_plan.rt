@@ -19,13 +19,13 @@ use std::alloc::{AllocError, Global};
 /// The changes that add the entry of a relation and a key that have none. The first page of the key's bucket with
 /// room takes it. If none has room, splits are allowed, the bucket is of one page and its keys share fewer than 9
 /// bits, it is split once. It is then over its page and the free page of the smallest number. The directory doubles
-/// before where it goes by no more bits than the bucket. The entry then goes into its half, or as where no split is
+/// before if it goes by no more bits than the bucket. The entry then goes into its half, or as if no split were
 /// due: into the free page of the smallest number, chained after. So at most two pages are taken, and five change.
-/// Each bucket page stands in a chain then, where each did before.
+/// Each bucket page stands in a chain then, if each did before.
 ///
-/// The directory is needed for read, and for write where it is to change. Pages of the bucket are needed for write.
+/// The directory is needed for read, and for write if it is to change. Pages of the bucket are needed for write.
 /// The map of the space and pages to be taken are needed only if the bucket has no room. `Full` is answered just
-/// where no page is free, or just one where a split takes it and its half has no room. A relation's number is below
+/// if no page is free, or just one if a split takes it and its half has no room. A relation's number is below
 /// 256. The only error is want of memory.
 pub fn plan_add<V: Pages>(
     alloc: Global,

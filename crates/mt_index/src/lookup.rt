@@ -1,4 +1,4 @@
-// Finds an entry.
+// The plan that finds the record name under a relation and a key. It reads pages at hand, and changes nothing.
 ghost use Rattle.std.specs.Prelude.{◌≡◌, ◌≤◌, length, Some, None};
 ghost use Rattle.mt_base.specs.declared.limits.TheConstants.{MAX_KEY_BYTES};
 ghost use Rattle.mt_base.specs.declared.modes.Mode.TheVariants.{Read};

@@ -26,7 +26,7 @@ pub fn has_effect(op: &Op, reply: &Reply) -> bool
     }
 }
 
-/// The operation that takes back what this one did, where it replied this. It takes an insert back by a delete, an
+/// The operation that takes back what this one did, if it replied this. It takes an insert back by a delete, an
 /// update or a delete by putting the old value back, an add by the opposite step. `None` if it did nothing (Weikum
 /// 1991). That is a read, an insert on a key that was there, or an update or a delete on one that was not.
 ///

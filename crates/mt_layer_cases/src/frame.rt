@@ -4,7 +4,8 @@ use mt_frame::{decode_batch, encode_batch};
 use std::alloc::Global;
 use std::test::Fail;
 
-// How many records the batch that the bytes begin with has, and its size, if these records, written again, are its bytes.
+// How many records the batch that the bytes begin with has, and its size, if these records, written again, are its
+// bytes.
 fn read_again(alloc: Global, bytes: &[u8]) -> Result<Option<(usize, usize)>, Refusal> {
     let Some((records, size)) = decode_batch(alloc, bytes)? else {
         return Ok(None);

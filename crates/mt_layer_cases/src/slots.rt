@@ -43,7 +43,7 @@ fn filled() -> ([u8; 4096], [Option<u16>; 3], [u16; 2])
     (page, slots, [before, left])
 }
 
-// Whether a page stays as it is where one more is refused.
+// Whether a page stays as it is if one more is refused.
 fn has_no_room(page: &[u8; 4096]) -> bool
     requires { IsShaped page.now }
 {

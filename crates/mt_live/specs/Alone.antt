@@ -20,7 +20,7 @@ pub record IsAlone (s : State) (t session : ℕ) (cs : List Call) : Type 0 where
   pub calls_are : calls (kept (only t) s.standing) ≡ cs
   pub idle : s.running t ≡ None
 
--- where no transaction is active, one that begins is alone
+-- if no transaction is active, one that begins is alone
 abbrev pub BeginsAlone : Type 0
 BeginsAlone = (b : Base) (s : State) (session : ℕ) → IsKept b s → NobodyLives s → IsAlone (begun s session) s.next session []
 

@@ -127,7 +127,7 @@ EmptyHoldsBook =
     (b : Base) (states : List State) → IsBase b → AllGo b (start b) states → (last_state (start b) states).standing ≡ []
     → (last_state (start b) states).base ≡ after b (last_state (start b) states).book
 
--- and where nobody is live, nothing stands, and no lock is held
+-- and if nobody is live, nothing stands, and no lock is held
 abbrev pub NobodyLeavesNothing : Type 0
 NobodyLeavesNothing =
     (b : Base) (s : State) → IsKept b s → ((t : ℕ) → is_live s t ≡ true → ⊥)

@@ -34,8 +34,8 @@ abbrev pub has_room : Option Member → Bool
 has_room None = false
 has_room (Some m) = m.has_room
 
--- The transaction of a number: the number is one of those that have begun, from 1; there are as many operations as calls, and
--- their numbers rise.
+-- The transaction of a number: the number is one of those that have begun, from 1; there are as many operations as
+-- calls, and their numbers rise.
 pub record IsNumbered (begun t : ℕ) (m : Member) : Type 0 where
   pub number : m.number ≡ t
   pub from_one : 1 ≤ t
@@ -98,8 +98,8 @@ AreInOrder ms = (high : ℕ) × AreRising 0 ms high
 abbrev pub rooms : Member → ℕ
 rooms m = cond m.has_room 1 0
 
--- transaction numbers rise up to the last begun, and so do each transaction's operations; its calls ended in their order; and the
--- list of ends has a place for each transaction that has room
+-- transaction numbers rise up to the last begun, and so do each transaction's operations; its calls ended in their
+-- order; and the list of ends has a place for each transaction that has room
 pub record IsWell (begun : ℕ) (ms : List Member) (os : List Place) (used capacity : ℕ) : Type 0 where
   pub rising : AreRising 0 ms begun
   pub numbered : All (λ (m : Member). IsNumbered begun m.number m) ms

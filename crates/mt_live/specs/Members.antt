@@ -17,7 +17,7 @@ pub record Member : Type 0 where
   pub operations : List ℕ
   pub has_room : Bool
 
--- there are as many numbers as calls, and room for one of each where there is room
+-- there are as many numbers as calls, and room for one of each if there is room
 pub record HasRoomFor (has_room : Bool) (calls calls_room operations operations_room : ℕ) : Type 0 where
   pub both : operations ≡ calls
   pub call : has_room ≡ true → calls < calls_room

@@ -9,7 +9,7 @@ pub fn begin_keeps()
     ensures { BeginKeeps }
 {}
 
-/// A call that is granted keeps what is kept. It is granted where no other transaction's lock bars its own. Each
+/// A call that is granted keeps what is kept. It is granted if no other transaction's lock bars its own. Each
 /// counter has room then for whichever of the pending adds and this one (Weikum 1991, O'Neil 1986).
 pub fn call_keeps()
     ensures { CallKeeps }

@@ -1,4 +1,5 @@
 // The active transactions, and what of their operations counts. Each change is an event of the laws.
+// mt_core keeps one `Live`, and ties it to locks, escrow and pages, which are not known here.
 ghost use Rattle.std.specs.Prelude.{ℕ, [], ◌∷◌, ◌++◌, ◌≡◌, ◌≢◌, ◌==◌, ◌<◌, ◌≤◌, ◌+◌, ◌^◌, true, false, None, Some, IfOk, IfErr, OnOk, OnErr, MatchOption, length, slice_index_or};
 ghost use Rattle.std.specs.List.{position};
 ghost use Rattle.std.specs.Option.{option_map};

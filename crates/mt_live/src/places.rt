@@ -1,4 +1,5 @@
-// The order in which calls ended.
+// The order in which calls ended: of each its transaction, and which of the transaction's calls it is.
+// `live` keeps one such list. What is undone, or leaves with its transaction, is taken out of it.
 ghost use Rattle.std.specs.Prelude.{◌≡◌, ◌≤◌, ◌==◌, ◌||◌, nat_lt, not, filter};
 ghost use Rattle.std.specs.Vec.{vec_len, vec_capacity};
 

@@ -1,4 +1,5 @@
-// What is kept of one active transaction.
+// What is kept of one active transaction: its session, its state, and its calls with their replies.
+// `live` keeps the list of them. Locks, pages and log are not known here.
 ghost use Rattle.std.specs.Prelude.{ℕ, ◌≡◌, ◌<◌, IfSome, IfNone, OnOk, OnErr, length, true, slice_index_or};
 ghost use Rattle.mt_live.specs.Members.{fresh, with_room, with_call, with_state, cut_at, committed_of, last_place};
 

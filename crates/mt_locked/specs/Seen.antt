@@ -21,7 +21,8 @@ pub record LockedSeen : Type 0 where
   pub list : List Entry
   pub is_left : Bool
 
--- The pass's new list is legal, begins with all that it had seen, has this length, and ends with the entry. No other entry past the old list is this pass's.
+-- The pass's new list is legal, begins with all that it had seen, has this length, and ends with the entry. No other
+-- entry past the old list is this pass's.
 pub record Extends (b : Base) (old : PassSeen) (entry : Entry) (place : ℕ) (new : PassSeen) : Type 0 where
   pub number : new.number ≡ old.number
   pub between : List Entry

@@ -25,8 +25,8 @@ pub record IsUse {D : Type 0} (g : Ghosts D) (base : Base) (u : LogUse) : Type 0
 abbrev pub IsUseOn : {D : Type 0} → Ghosts D → Base → LogUse → Type 0
 IsUseOn g base u = ∥ IsUse g base u ∥₁
 
--- A kernel that began on this base had not failed, and nobody lived in it. It goes on as another one, in whatever state it
--- was, with its book, and with a log that has no record but its area's images.
+-- A kernel that began on this base had not failed, and nobody lived in it. It goes on as another one, in whatever
+-- state it was, with its book, and with a log that has no record but its area's images.
 pub record IsTurn {D : Type 0} (g : Ghosts D) (base : Base) : Type 0 where
   pub was : Kernel D g
   pub began : BeganOn g.seen g.may_leave base was
@@ -40,10 +40,10 @@ pub record IsTurn {D : Type 0} (g : Ghosts D) (base : Base) : Type 0 where
 abbrev pub HasTurned : {D : Type 0} → Ghosts D → Base → Type 0
 HasTurned g base = ∥ IsTurn g base ∥₁
 
--- what a rotation makes of what is kept, and what it tells
+-- what a rotation makes of what is kept, and what it answers
 pub record IsRotation {D : Type 0} (g : Ghosts D) (commits : ℕ) (old new : KeptSeen) (told : Result Bool Refusal) : Type 0 where
   pub turned : IsTurned commits old new
   pub why : IfErr told IsTurnFault
   pub did : told ≡ Ok true → HasTurned g old.base
-  -- where no more than the device is left, it is refused
+  -- if no more than the device is left, it is refused
   pub gone : new.is_left ≡ true → IsErr told

@@ -1,4 +1,4 @@
-// A kernel beside the base that it began on.
+// A kernel beside the base that it began on, which contracts alone see. Each call is the kernel's own.
 ghost use Rattle.std.specs.Prelude.{◌≡◌, false, IfOk, IfErr, IsTrue};
 ghost use mathlib.Core.List.{IsPrefix};
 ghost use Rattle.mt_mark.specs.Legal.{IsLegal};
@@ -15,8 +15,8 @@ use mt_pool::Flushed;
 use mt_txn::{AbortStepped, Called, Kernel, KernelForced, Stepped};
 use std::marker::Model;
 
-/// A kernel, with the base that it began on, which contracts alone see: it is the first of a history. Threads may pass
-/// a history on, and so what holds it.
+/// A kernel, with the base that it began on, which contracts alone see: it is the first of a history. Threads may
+/// pass a history on, and so what holds it.
 pub struct Based<D: Device> {
     pub(crate) kernel: Kernel<D>,
     pub(crate) base: History<Base>,

@@ -1,4 +1,5 @@
-// A kernel under the lock, or what a rotation left of it.
+// A kernel under the lock, or what a rotation left of it. Each call is the kernel's own, and is refused with 2 if
+// there is none. `locked` alone calls it.
 ghost use Rattle.std.specs.Prelude.{◌≡◌, Ok, true, false, length, IfOk, IfErr, IsErr, IfSome, IfNone};
 ghost use mathlib.Core.List.{IsPrefix};
 ghost use Rattle.mt_mark.specs.Legal.{IsLegal};
@@ -21,7 +22,7 @@ use mt_txn::{AbortStepped, Called, Kernel, KernelForced, Stepped};
 use std::alloc::Global;
 use std::marker::Model;
 
-// A kernel; or, where a rotation left none, its device with its past. Then each call is refused with 2.
+// A kernel; or, if a rotation left none, its device with its past. Then each call is refused with 2.
 pub(crate) struct Kept<D: Device> {
     held: Result<Based<D>, D>,
     past: Past,
@@ -118,7 +119,7 @@ impl<D: Device> Kept<D> {
         }
     }
 
-    // How much of the log's area is in use; none where a rotation left no kernel.
+    // How much of the log's area is in use; none if a rotation left no kernel.
     pub(crate) fn log_use(&self) -> Option<LogUse>
         ensures { IfSome result (IsUseOn ⟦<D as Device>⟧ self.now.base) }
     {
@@ -213,7 +214,7 @@ impl<D: Device> Kept<D> {
 }
 
 impl<D: Device + Drop> Kept<D> {
-    // Turns the log over, where so many commits are all and no transaction is active; whether it did.
+    // Turns the log over, if so many commits are all and no transaction is active; whether it did.
     pub(crate) fn rotate(
         &mut self,
         commits: u64,

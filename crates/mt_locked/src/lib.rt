@@ -1,10 +1,10 @@
-//! What lies under the lock of a kernel that threads share: the kernel, with its end of the mark of one history. Nothing
-//! here waits.
+//! What lies under the lock of a kernel that threads share: the kernel, with its end of the mark of one history.
+//! Nothing here waits.
 //!
 //! [`Locked`] is that value. Each that takes part holds a [`Pass`], and a token, [`Txn`], of its open transaction.
 //!
-//! The lock, and the calls that wait, are in `mt_shared`, which passes on the types alone. What gives and spends tokens
-//! stays here: no clause says how many transactions a pass has.
+//! The lock, and the calls that wait, are in `mt_shared`, which passes on the types alone. What gives and spends
+//! tokens stays here: no clause says how many transactions a pass has.
 #![tactic(auto)]
 
 mod based;

@@ -1,4 +1,5 @@
-// What the lock of a shared kernel guards, and what is done under it.
+// What the lock of a shared kernel guards, and what is done under it. mt_shared calls it with the lock taken;
+// nothing here waits or wakes a thread.
 ghost use Rattle.std.specs.Prelude.{◌≡◌, ◌+◌, ◌++◌, ◌∷◌, [], ◌≤◌, false, length, OnOk, IfOk, IfErr, IfNone, IfSome, Ok, IsTrue, ◌↔◌, slice_get, Some, All, true};
 ghost use mathlib.Core.List.{IsPrefix};
 ghost use Rattle.mt_mark.specs.Legal.{IsLegal};
@@ -38,8 +39,8 @@ pub enum Due {
     End,
 }
 
-/// What lies under the lock: the kernel, or what a rotation left of it, with its end of the mark. Its first commits are
-/// the history, as many as the mark counts. Contracts see the book and the history.
+/// What lies under the lock: the kernel, or what a rotation left of it, with its end of the mark. Its first commits
+/// are the history, as many as the mark counts. Contracts see the book and the history.
 pub struct Locked<D: Device, J: Naming> {
     pub(crate) kernel: Kept<D>,
     pub(crate) end: End,
@@ -212,7 +213,7 @@ impl<D: Device, J: Naming> Locked<D, J> {
         self.kernel.force_step()
     }
 
-    /// Flushes a page; where each waits for the log, one step of a force.
+    /// Flushes a page; if each waits for the log, one step of a force.
     pub fn make_room(&mut self) -> Result<(), Refusal>
         ensures book { IsPrefix self.old.book self.new.book }
         ensures list { self.new.list ≡ self.old.list }
@@ -247,7 +248,7 @@ impl<D: Device, J: Naming> Locked<D, J> {
         }
     }
 
-    // The kernel of what is whole, which each pass meets. Or all as it was, where a transaction lives in a kernel
+    // The kernel of what is whole, which each pass meets. Or all as it was, if a transaction lives in a kernel
     // that has not failed.
     fn into_met(self, passes: Vec<Pass<J>>) -> Result<Kernel<D>, Unclosed<D, J>>
         requires whole { IsWhole self }

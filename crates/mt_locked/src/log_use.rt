@@ -8,7 +8,8 @@ use mt_txn::Kernel;
 /// How much of the log's area is in use, in bytes.
 #[derive(Clone, Copy, PartialEq, Eq, Debug)]
 pub struct LogUse {
-    /// Those before the place of the next batch, and 5 more and its own length for each record that is in no batch yet.
+    /// Those before the place of the next batch, and 5 more and its own length for each record that is in no batch
+    /// yet.
     pub used: u64,
     /// All bytes of the area.
     pub size: u64,

@@ -2,7 +2,8 @@
 use std::marker::Brand;
 
 /// Names which mark it is, the base that its kernel began on, and the book that stood when the mark was made, for
-/// contracts alone. Code that is generic in a name holds passes, tokens and what is shared; who calls it picks the name.
+/// contracts alone. Code that is generic in a name holds passes, tokens and what is shared; who calls it picks the
+/// name.
 pub trait Naming {
     ghost use Rattle.atomic_table.specs.Seated.{TableId};
     ghost use Rattle.mt_model.specs.declared.history.Committed.{Committed};

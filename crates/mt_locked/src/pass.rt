@@ -1,4 +1,5 @@
-// A thread's part in a shared kernel.
+// A thread's part in a shared kernel: its seat at the mark, and whether a transaction of it is open.
+// Its calls take no lock, and wait for nobody.
 ghost use Rattle.std.specs.Prelude.{◌≡◌};
 ghost use Rattle.mt_locked.specs.Seen.{Looked};
 

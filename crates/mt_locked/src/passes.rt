@@ -1,4 +1,4 @@
-// The passes of a mark's seats.
+// The passes of a mark that was just made, one for each of its seats. mt_shared hands them to the threads.
 ghost use Rattle.std.specs.Prelude.{◌≡◌, All, IfOk, vec_len};
 ghost use Rattle.mt_mark.specs.Rule.{labelled};
 ghost use Rattle.mt_locked.specs.Seen.{Beside};
@@ -10,7 +10,8 @@ use mt_mark::{End, Seat};
 use std::alloc::{AllocError, Global};
 use std::marker::PhantomData;
 
-/// A pass for each of these seats, which has seen the book that stood when the mark was made. Nothing in it is its own.
+/// A pass for each of these seats, which has seen the book that stood when the mark was made. Nothing in it is its
+/// own.
 pub fn passes_of<J: Naming>(
     alloc: Global,
     end: &End,

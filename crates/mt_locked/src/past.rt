@@ -1,4 +1,5 @@
-// What is left of a kernel whose device could not be opened again.
+// What is left of a kernel whose device could not be opened again: how long its book was.
+// Contracts also see its base and its book.
 ghost use Rattle.std.specs.Prelude.{◌≡◌, length};
 ghost use Rattle.mt_mark.specs.Legal.{IsLegal};
 

@@ -1,4 +1,4 @@
-// Passes that come back: whether they are all, and what they have seen.
+// Passes that come back at a close: whether they are all, and what they have seen. `locked` asks both.
 ghost use Rattle.std.specs.Prelude.{◌≡◌, All, IsTrue};
 ghost use Rattle.mt_mark.specs.Rule.{Holds, IsConfirmed};
 ghost use Rattle.mt_locked.specs.Seen.{PassSeen};

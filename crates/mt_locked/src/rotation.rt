@@ -1,4 +1,5 @@
-// A rotation of a kernel with its base.
+// Turns the log of a kernel over, by `rotate` of mt_restart, and keeps the kernel's base beside what comes of it.
+// `kept` alone calls it.
 ghost use Rattle.std.specs.Prelude.{◌≡◌, ◌↔◌, Ok, true, false, length, IfOk, IfErr, IsErr, IsTrue};
 ghost use Rattle.mt_locked.specs.Seen.{IsTurned, KeepsAll, seen_of, whole};
 ghost use Rattle.mt_restart.specs.TurnFaults.{IsTurnFault};
@@ -11,7 +12,7 @@ use mt_disk::Device;
 use mt_restart::{NotRotated, rotate};
 use std::alloc::Global;
 
-// What a rotation gives: the kernel, or the device that was left of it, and its past, where none is left. With it is
+// What a rotation gives: the kernel, or the device that was left of it, and its past, if none is left. With it is
 // whether the log was turned over, which it is not while something is under way.
 pub(crate) struct Turned<D: Device> {
     pub(crate) held: Result<Based<D>, D>,
@@ -19,7 +20,7 @@ pub(crate) struct Turned<D: Device> {
     pub(crate) told: Result<bool, Refusal>,
 }
 
-// The kernel, and what is told.
+// The kernel, and what is answered.
 fn kept<D: Device>(kernel: Based<D>, told: Result<bool, Refusal>) -> Turned<D>
     ensures held { result.held ≡ Ok kernel }
     ensures told { result.told ≡ told }
@@ -50,7 +51,7 @@ fn has_just<D: Device>(kernel: &Based<D>, commits: u64) -> bool
     kernel.book().len() as u64 == commits
 }
 
-// Turns a kernel's log over, where its book has so many commits, and no transaction is active.
+// Turns a kernel's log over, if its book has so many commits, and no transaction is active.
 pub(crate) fn turn<D: Device + Drop>(
     kernel: Based<D>,
     commits: u64,

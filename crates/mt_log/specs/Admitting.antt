@@ -16,7 +16,7 @@ pub record AreAdmitted (body : List ℕ) (pages : ℕ) (first : Bool) (old new :
   pub may : (earlier : List Record) → Knows old earlier → MayFollow first earlier records
   pub known : (earlier : List Record) → Knows old earlier → Knows new (earlier ++ records)
 
--- the records of a body are admitted; none are where it is no row of records that may stand there
+-- the records of a body are admitted; none are if it is no row of records that may stand there
 pub record Admits (body : List ℕ) (pages : ℕ) (first : Bool) (old new : AreaRules) (r : Result (Option (Vec Record Global)) Refusal) : Type 0 where
   pub some : IfOk r (λ o. IfSome o (λ records. AreAdmitted body pages first old new records.items))
   pub none : IfOk r (λ o. IfNone o ((records earlier : List Record) → Knows old earlier → IsBody body records → AreRecords pages records → MayFollow first earlier records → ⊥))

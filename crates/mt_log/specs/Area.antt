@@ -33,7 +33,7 @@ Present (Forcing WriteGate) next batch c = Unit {0}
 Present (Forcing SyncGate) next batch c = get_or c next 0 ≡ OPEN_GATE
 Present Failed next batch c = Unit {0}
 
--- where the gate after the batch that is being forced stands, or the next gate where none is
+-- where the gate after the batch that is being forced stands, or the next gate if none is
 abbrev pub gate_behind : Stage → ℕ → List Record → ℕ
 gate_behind Idle next batch = next
 gate_behind (Forcing step) next batch = next + 5 + length (body_text batch)
@@ -67,11 +67,11 @@ AreaAfter SyncGate seen may_leave start end next batches batch = Area seen may_l
 abbrev pub ScansWithOrWithout : ℕ → ℕ → List (List Record) → List Record → List ℕ → Type 0
 ScansWithOrWithout start end batches batch c = Scans c start end batches ⊎ Scans c start end (batches ++ batch ∷ [])
 
--- what one of these contents may become where the n bytes from `at` on are torn
+-- what one of these contents may become if the n bytes from `at` on are torn
 abbrev pub TornFrom : (List ℕ → Type 0) → ℕ → ℕ → List ℕ → Type 0
 TornFrom contents at n c = (d : List ℕ) × contents d × Torn at n d c
 
--- What a crash may leave of an area that is begun with this batch: what it might have left before, but for the first gate; then
--- a first gate that is not open; at last the batch.
+-- What a crash may leave of an area that is begun with this batch: what it might have left before, but for the first
+-- gate; then a first gate that is not open; at last the batch.
 abbrev pub AreaBegins : (List ℕ → Type 0) → ℕ → ℕ → List Record → List ℕ → Type 0
 AreaBegins contents start end batch c = TornFrom contents start 1 c ⊎ ScansWithOrWithout start end [] batch c

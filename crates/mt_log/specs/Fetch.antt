@@ -7,7 +7,7 @@ use Rattle.mt_disk.specs.Disk.{Has, HasCause}
 use Rattle.mt_frame.specs.declared.TheConstants.{OPEN_GATE}
 use Rattle.mt_log.specs.Quiet.{OnlyReads}
 
--- the length of the body after this gate; none where the gate after that body would not lie within the area
+-- the length of the body after this gate; none if the gate after that body would not lie within the area
 abbrev pub IsLength : List ℕ → ℕ → ℕ → Option ℕ → Type 0
 IsLength c at end (Some n) = Has c (at + 1) (to_be_bytes w32 n) × (at + 5 + n < end)
 IsLength c at end None = (n : ℕ) → n < 2 ^ 32 → Has c (at + 1) (to_be_bytes w32 n) → end ≤ at + 5 + n

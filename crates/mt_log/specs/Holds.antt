@@ -45,8 +45,8 @@ places_from p (b ∷ bs) = p ∷ places_from (p + 5 + length (body_text b)) bs
 
 -- ---- areas
 
--- The area holds these batches and no more: they stand in a row from its first byte on, after them and before its end is a
--- gate that is not open, and they break no rule.
+-- The area holds these batches and no more: they stand in a row from its first byte on, after them and before its end
+-- is a gate that is not open, and they break no rule.
 pub record HoldsBatches (c : List ℕ) (start end pages : ℕ) (batches : List (List Record)) : Type 0 where
   pub row : Scans c start end batches
   pub each : AreBatches pages batches
@@ -59,8 +59,8 @@ pub record IsNextBatch (c : List ℕ) (place end pages : ℕ) (before : List (Li
   pub each : AreRecords pages batch
   pub rules : MayComeNext before batch
 
--- The area breaks the grammar at this place first: a row of batches that break no rule stands up to it, a batch is due there,
--- since its gate is open or it would be the first one, and none that may stand there does.
+-- The area breaks the grammar at this place first: a row of batches that break no rule stands up to it, a batch is
+-- due there, since its gate is open or it would be the first one, and none that may stand there does.
 pub record BreaksAt (c : List ℕ) (start end pages place : ℕ) : Type 0 where
   pub before : List (List Record)
   pub row : Stands c start before place

@@ -5,7 +5,8 @@ use Rattle.mt_log.specs.declared.log.Log.{Log}
 use Rattle.mt_log.specs.Holds.{HoldsBatches, BreaksAt}
 use Rattle.mt_log.specs.Sound.{IsSound, HoldsBeginning}
 
--- while the appended records break no rule, each content that may be left holds a beginning of them with all durable ones
+-- while the appended records break no rule, each content that may be left holds a beginning of them with all durable
+-- ones
 abbrev pub LeavesBeginning : Log → (List ℕ → Type 0) → Type 0
 LeavesBeginning log may_leave = (pages : ℕ) (c : List ℕ) → IsSound pages log → may_leave c → HoldsBeginning pages log c
 

@@ -59,7 +59,7 @@ area_start slot = MASTER_BYTES + PAGE_BYTES * slot.pages + slot.area * area_size
 abbrev pub area_end : MasterSlot → ℕ
 area_end slot = area_start slot + area_size slot
 
--- ---- where none does
+-- ---- devices on which no slot rules
 
 -- the device is shorter than its two slots' pages, or both slots are closed
 abbrev pub IsUnformatted : List ℕ → Type 0
@@ -85,7 +85,7 @@ BreaksMaster c at = ((at ≡ 0) × IsBadAt c 0) ⊎ ((at ≡ PAGE_BYTES) × (IsB
 
 -- ---- of two open slots
 
--- the newer one rules, where one may
+-- the newer one rules, if one may
 abbrev pub IsNewer : MasterSlot → MasterSlot → Result MasterSlot Refusal → Type 0
 IsNewer first second (Ok slot) =
     ((slot ≡ first) × IsBefore second first) ⊎ ((slot ≡ second) × IsBefore first second)

@@ -7,8 +7,8 @@ use Rattle.mt_log.specs.Holds.{AreRecords, HoldsBatches}
 use Rattle.mt_log.specs.Words.{durable_batches, durable, in_flight, waiting, appended, area_start, area_end}
 use Rattle.mt_log.specs.declared.log.Log.{Log}
 
--- The area has its first batch, each record is one of the grammar on a device of so many pages, and those after the durable
--- ones break no rule there, in whatever batches they come.
+-- The area has its first batch, each record is one of the grammar on a device of so many pages, and those after the
+-- durable ones break no rule there, in whatever batches they come.
 pub record IsSound (pages : ℕ) (log : Log) : Type 0 where
   pub begun : 0 < length (durable_batches log)
   pub each : AreRecords pages (appended log)

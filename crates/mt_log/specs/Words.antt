@@ -53,7 +53,7 @@ calls_after (Forcing WriteGate) = 2
 calls_after (Forcing SyncGate) = 1
 calls_after Failed = 0
 
--- device calls until what is being forced is durable; 0 where nothing is being forced
+-- device calls until what is being forced is durable; 0 if nothing is being forced
 unfoldable pub calls_left : Log → ℕ
 calls_left log = calls_after log.stage
 
@@ -92,8 +92,8 @@ IsLast Nothing = ⊥
 IsLast More = ⊥
 IsLast (Durable pos) = Unit {0}
 
--- What a step does to the records, whatever it answered: nothing moves; or those that wait become the batch that is being
--- forced; or that batch joins the durable ones.
+-- What a step does to the records, whatever it answered: nothing moves; or those that wait become the batch that is
+-- being forced; or that batch joins the durable ones.
 abbrev pub Moves : Log → Log → Type 0
 Moves old new = ((durable new ≡ durable old) × (in_flight new ≡ in_flight old) × (waiting new ≡ waiting old) × (calls_left new ≡ 0 → has_failed new ≡ false → calls_left old ≡ 0))
     ⊎ (((calls_left old ≡ 0) × (durable new ≡ durable old) × (in_flight new ≡ waiting old) × (waiting new ≡ []) × (calls_left new ≡ 0 → has_failed new ≡ true))

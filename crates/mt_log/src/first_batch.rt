@@ -85,7 +85,8 @@ fn force_all<D: Device>(log: &mut Log, device: &mut D) -> Result<(), Refusal>
 /// synced. Then the gate is opened and synced. Until the first sync a crash may leave any byte as the first gate, and
 /// the rest as it was. Until the last one it leaves a gate that is closed, or the batch; from then on the batch.
 ///
-/// The only refusal is [`Refusal::DeviceFailed`]. Nothing outside of the area is touched in any case. It takes no memory.
+/// The only refusal is [`Refusal::DeviceFailed`]. Nothing outside of the area is touched in any case. It takes no
+/// memory.
 pub fn begin_prepared<D: Device>(device: &mut D, prepared: Log) -> Result<Log, Refusal>
     requires prepared { (place : AreaPlace) × (images : List Record) × IsFirst place images prepared }
     requires within { area_end prepared ≤ length (D.seen device.old) }

@@ -106,11 +106,11 @@ impl Log {
         self.settle(step, done)
     }
 
-    /// One device call of a force, or none where every record is durable. The first call takes all records that wait
+    /// One device call of a force, or none if every record is durable. The first call takes all records that wait
     /// into a batch, and those that are appended later wait for the next one. The fourth makes the batch durable. It
     /// takes no memory.
     ///
-    /// The only refusal is [`Refusal::DeviceFailed`], where the device failed in this call or in an earlier one. What
+    /// The only refusal is [`Refusal::DeviceFailed`], if the device failed in this call or in an earlier one. What
     /// is durable stays, and each later call is refused.
     #[tactic(auto, unfolding(crate::specs::Words::durable_batches, crate::specs::Words::durable, crate::specs::Words::in_flight, crate::specs::Words::waiting, crate::specs::Words::area_start, crate::specs::Words::area_end, crate::specs::Words::used, crate::specs::Words::area_size, crate::specs::Words::calls_left, crate::specs::Words::has_failed, crate::specs::Words::coming, crate::specs::Words::IsOn))]
     pub fn force_step<D: Device>(&mut self, device: &mut D) -> Result<Forced, Refusal>
@@ -147,7 +147,7 @@ impl Log {
         ensures quiet { IsOk result → D.faults device.new ≡ D.faults device.old }
         ensures only_device { IfErr result (λ why. why ≡ Refusal.DeviceFailed) }
         ensures err_durable { OnErr result (durable self.new ≡ durable self.old) }
-        // No call at all where the device has failed before, nor where every record is durable.
+        // No call at all if the device has failed before, nor if every record is durable.
         ensures failed_still { has_failed self.old ≡ true → device.new ≡ device.old }
         ensures idle_still { calls_left self.old ≡ 0 → waiting self.old ≡ [] → device.new ≡ device.old }
         // The last call of a force is a sync: a crash after it leaves what is there.

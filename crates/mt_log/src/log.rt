@@ -1,4 +1,5 @@
-// The log: records wait for a force, which makes them durable a batch at a time.
+// The log of one area: records wait in memory for a force, which makes them durable a batch at a time.
+// Appending calls no device. The calls of a force are in `forces`.
 ghost use Rattle.std.specs.Prelude.{◌≡◌, ◌+◌, ◌-◌, ◌*◌, ◌<◌, ◌≤◌, ◌++◌, ◌∷◌, [], ℕ, true, false, length, map, drop, vec_len, vec_capacity, IfOk, IfErr, OnOk, OnErr, IsOk};
 ghost use Rattle.mt_base.specs.declared.limits.TheConstants.{MAX_AREA_MIB, MIB_BYTES};
 ghost use Rattle.mt_base.specs.declared.refusal.Refusal.{Refusal};

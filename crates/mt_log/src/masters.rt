@@ -1,4 +1,4 @@
-// A device's two master slots: which of them rules.
+// A device's two master slots: which of them is in force. They are only read here; `slot_change` writes one.
 ghost use Rattle.std.specs.Prelude.{◌≡◌, ◌⊎◌, ◌+◌, ◌<◌, ◌≤◌, ℕ, List, length, IfOk, IfErr, Err};
 ghost use Rattle.mt_base.specs.declared.refusal.Refusal.{Refusal};
 ghost use Rattle.mt_disk.specs.Disk.{LeavesOnly};
@@ -17,7 +17,7 @@ pub const FIRST_SLOT: u64 = 0;
 /// Where the second master slot lies.
 pub const SECOND_SLOT: u64 = 4096;
 
-// The slot at a place, where its gate is open.
+// The slot at a place, if its gate is open.
 fn read_slot<D: Device>(device: &mut D, at: u64) -> Result<Option<MasterSlot>, Refusal>
     requires { at + 17 ≤ length (D.seen device.old) }
     ensures found { IfOk result (IsFoundAt at (D.seen device.old)) }
@@ -57,17 +57,17 @@ fn newer(first: MasterSlot, second: MasterSlot) -> Result<MasterSlot, Refusal>
 
 /// The master slot that rules a device: an open one, of which the other is closed, or older.
 ///
-/// Refusals, in the order of the tests: [`Refusal::NotFormatted`] where the device is shorter than 8192 bytes;
+/// Refusals, in the order of the tests: [`Refusal::NotFormatted`] if the device is shorter than 8192 bytes;
 /// [`Refusal::DeviceFailed`] if and only if a read failed in this call. [`Refusal::BadFormat`] has the place of the
 /// first slot whose gate is open over bytes that are no slot of a device of this length. [`Refusal::NotFormatted`]
-/// comes where both gates are closed, and [`Refusal::BadFormat`] with 4096 where two open slots have the same epoch, or
+/// comes if both gates are closed, and [`Refusal::BadFormat`] with 4096 if two open slots have the same epoch, or
 /// other sizes. It takes no memory. The device is only read, and its content is as before in any case.
 pub fn ruling_slot<D: Device>(device: &mut D) -> Result<MasterSlot, Refusal>
     ensures rules { IfOk result (IsRuling (D.seen device.old)) }
     ensures cause { IfErr result (λ why. (why ≡ Refusal.DeviceFailed) × (D.faults device.old < D.faults device.new)
         ⊎ ((why ≡ Refusal.NotFormatted) × IsUnformatted (D.seen device.old)
         ⊎ ((at : ℕ) × (why ≡ Refusal.BadFormat at) × BreaksMaster (D.seen device.old) at))) }
-    // A device without an open slot is told that it is not formatted, or fails.
+    // Of a device without an open slot it is answered that it is not formatted, or the device fails.
     ensures unformatted { IsUnformatted (D.seen device.old)
         → IfErr result (λ why. (why ≡ Refusal.NotFormatted) ⊎ (why ≡ Refusal.DeviceFailed)) }
     // A device on which a slot rules is refused only for a fault, and no other slot is found.

@@ -1,4 +1,5 @@
-// What a scan keeps while it reads an area.
+// What a scan keeps while it reads an area: the batches so far, and what their records rule out for later ones.
+// `scanner` calls it, a batch at a time. The device is only read.
 ghost use Rattle.std.specs.Prelude.{◌≡◌, ◌<◌, ◌≤◌, ℕ, List, true, false, length};
 ghost use Rattle.std.specs.List.{AllByRecursion};
 ghost use Rattle.mt_log.specs.Admitting.{Admits};
@@ -51,7 +52,7 @@ fn have_their_pages(records: &[Record], pages: u16) -> bool
     true
 }
 
-// The records that the body is a row of, where they may stand after those that are known; they
+// The records that the body is a row of, if they may stand after those that are known; they
 // are known then.
 fn admitted(
     alloc: Global,
@@ -94,7 +95,7 @@ impl Reading {
         }
     }
 
-    // Reads the next batch, where its gate is open.
+    // Reads the next batch, if its gate is open.
     pub(crate) fn read_batch<D: Device>(
         &mut self,
         alloc: Global,

@@ -21,8 +21,8 @@ use std::alloc::Global;
 ///
 /// Refusals are [`Refusal::NoMemory`]; [`Refusal::DeviceFailed`], if and only if a read failed; and
 /// [`Refusal::BadFormat`] with the place of the first batch that breaks the grammar. That is the first of the area
-/// where its gate is not open. Or it is an open one that does not fit, or whose body is no row of whole records. Or it
-/// has a record which may not stand there. The device is as before in any case.
+/// where its gate is not open. Or it is an open one that does not fit, or whose body is no row of whole records. Or
+/// it has a record which may not stand there. The device is as before in any case.
 pub fn scan<D: Device>(
     alloc: Global,
     device: &mut D,
@@ -43,7 +43,8 @@ pub fn scan<D: Device>(
     ensures no_other_refusal { (batches : List (List Record))
         → HoldsBatches (D.seen device.old) place.start place.end pages batches
         → IfErr result (λ why. (why ≡ Refusal.NoMemory) ⊎ (why ≡ Refusal.DeviceFailed)) }
-    // So of what a crash left of a log whose records break no rule it finds a beginning of them with all durable ones.
+    // So of what a crash left of a log whose records break no rule it finds a beginning of them with all durable
+    // ones.
     ensures recovers { (log : Log) → area_start log ≡ place.start → area_end log ≡ place.end
         → HoldsBeginning pages log (D.seen device.old)
         → IfOk result (λ found. IsBeginning log (records_of found.items)) }

@@ -1,4 +1,4 @@
-// The other master slot is put in force.
+// The other master slot is put in force, as the log turns over. The slot in force is never written.
 ghost use Rattle.std.specs.Prelude.{◌≡◌, ◌+◌, ◌<◌, ◌≤◌, ◌^◌, ◌↔◌, ℕ, List, length, IsTrue, OnOk};
 ghost use Rattle.mt_base.specs.declared.limits.TheConstants.{MASTER_BYTES};
 ghost use Rattle.mt_disk.specs.Disk.{Follows, Has, HasCause, LeavesOnly, Only, Torn};
@@ -53,7 +53,7 @@ fn close_beside<D: Device>(device: &mut D, at: u64, other: u64) -> Result<(), De
     write_durably(device, at, &[CLOSED_GATE])
 }
 
-// Has the next slot rule at `at`, where the gate is closed, beside the slot that rules at `other`. Writes it after the
+// Has the next slot rule at `at`, if the gate is closed, beside the slot that rules at `other`. Writes it after the
 // gate, and then opens the gate.
 fn open_beside<D: Device>(
     device: &mut D,
@@ -92,11 +92,11 @@ fn rule_beside<D: Device>(
 
 /// Has the next master slot rule in place of this one: one opening later, over the other log area.
 ///
-/// It closes the gate beside the ruling slot where that gate is open, and syncs. It writes the slot after the gate,
+/// It closes the gate beside the ruling slot if that gate is open, and syncs. It writes the slot after the gate,
 /// and syncs; then it opens the gate, and syncs. It never writes a closed gate before that gate's slot.
 ///
-/// A crash in this call leaves a device on which one of the two slots rules. Once it has answered, the next one rules.
-/// The only error is the device's, and either slot may rule then.
+/// A crash in this call leaves a device on which one of the two slots rules. Once it has answered, the next one
+/// rules. The only error is the device's, and either slot may rule then.
 pub fn turn_slot<D: Device>(device: &mut D, ruling: &MasterSlot) -> Result<(), DeviceFault>
     requires rules { (c : List ℕ) → D.may_leave device.old c → IsRuling c ruling.now }
     requires durable { Only (D.seen device.old) (D.may_leave device.old) }

@@ -1,4 +1,4 @@
-// Bytes that are made to last.
+// A write and a sync, after which the bytes last. Areas begin and slots change by it; a force makes its own calls.
 ghost use Rattle.std.specs.Prelude.{◌+◌, ◌≤◌, length};
 ghost use Rattle.mt_log.specs.Lasting.{WritesDurably};
 

@@ -1,4 +1,4 @@
--- The rule of the mark, and what its steps tell.
+-- The rule of the mark, and what its steps show to a pass and to the end.
 use Rattle.std.specs.Prelude.{◌≡◌, ◌≢◌, ℕ, ◌+◌, ◌<◌, ◌≤◌, max, Bool, true, false, cond, eqb, List, [], ◌∷◌, ◌++◌, map, length}
 use mathlib.Core.Option.{some}
 use mathlib.Core.List.{IsPrefix}
@@ -136,7 +136,7 @@ heard v w = record v { told = w.told; sure = max v.sure w.sure }
 abbrev pub spent : View
 spent = record { keeps = false; sees = false; number = 0; made = 0; list = []; told = []; sure = 0; base = record { relations = 0; rows = []; counters = [] }; book = [] }
 
--- only what a step tells may change
+-- its number and its base stay; only what a step shows it may change
 abbrev pub SamePass : View → View → Type 0
 SamePass v w = (w.number ≡ v.number) × (w.base ≡ v.base)
 

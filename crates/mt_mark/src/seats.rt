@@ -83,7 +83,7 @@ impl Seat {
         self.word.shared.join_seat::<Hear>(&mut self.place, note);
     }
 
-    /// Counts the mark up from `at`, by the entry of this pass that the end named, which a note told of. It always
+    /// Counts the mark up from `at`, by the entry of this pass that the end named in a note. It always
     /// answers true: what was named is this pass's to enter, and nothing else is named meanwhile.
     pub fn exchange(&mut self, at: u64) -> bool
         requires room { at + 1 < 2 ^ 64 }
@@ -100,7 +100,7 @@ impl Seat {
         found == at
     }
 
-    // Has seen just what it was told.
+    // Has seen just what the last note named.
     fn settle(&mut self)
         requires longer { IsPrefix self.old.view.list self.old.view.told }
         requires sure { length self.old.view.told ≤ self.old.view.sure }
@@ -112,7 +112,7 @@ impl Seat {
     }
 
     /// A look with the end at hand, after which this pass has seen all that the end has: the whole history. It takes
-    /// a note each way, since a load alone tells a pass nothing of what the end named.
+    /// a note each way, since a load alone shows a pass nothing of what the end named.
     pub fn meet(&mut self, end: &mut End)
         requires mark { self.old.mark ≡ end.old.mark }
         requires confirmed { IsConfirmed end.old.view }

@@ -1,9 +1,9 @@
-// What contracts see of a mark.
+// The entries of a history, what a mark is made about, and what contracts see of a mark and its seats.
 use mt_model::{Base, Committed};
 use std::collections::LinkedList;
 use std::snapshot::Snapshot;
 
-/// One transaction of the history: what it did, and the number of the pass that entered it. That is 0 where it was in
+/// One transaction of the history: what it did, and the number of the pass that entered it. That is 0 if it was in
 /// the book already when the mark was made.
 #[derive(Drop)]
 pub struct Entry {

@@ -1,4 +1,4 @@
-// Bounded numbers.
+// The counters of a base: numbers within bounds, and adds that leave them there. `tables` adds through it.
 ghost use Rattle.std.specs.Prelude.{◌≡◌, ◌<◌, ◌+ℤ◌, ◌≤ℤ◌, ◌&&◌, ◌↔◌, IsTrue, int_le, IfOk, All, map, length, slice_set};
 ghost use Rattle.mt_base.specs.Limits.{IsStep, IsCounter};
 ghost use Rattle.mt_model.specs.Model.{added, stays};
@@ -62,7 +62,7 @@ impl Count {
         is_between(self.low, sum_of(self.number, step), self.high)
     }
 
-    /// Adds a step where the sum lies in the bounds, and says whether it does.
+    /// Adds a step if the sum lies in the bounds, and says whether it does.
     fn add(&mut self, step: i64) -> bool
         requires limited { IsLimited self.old }
         requires step { IsStep step }
@@ -111,7 +111,7 @@ impl Counters {
         self.list[usize::from(counter.get())]
     }
 
-    /// Adds a step to a counter where the sum lies in its bounds, and says whether it does.
+    /// Adds a step to a counter if the sum lies in its bounds, and says whether it does.
     pub fn add(&mut self, counter: CtrNo, step: i64) -> bool
         requires there { counter < length self.old }
         requires step { IsStep step }

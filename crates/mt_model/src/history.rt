@@ -1,4 +1,5 @@
-// What committed, with its replies.
+// Operations with their replies in a list, and a committed transaction: such a list with its session.
+// Books are lists of these.
 ghost use Rattle.std.specs.Prelude.{◌≡◌, ◌↔◌, ◌++◌, ◌∷◌, [], IfOk, OnOk, OnErr, IsTrue, length};
 
 use crate::{Op, Reply};

@@ -1,4 +1,4 @@
-// What an operation is on.
+// What an operation is on, a key or a counter, and in which mode a transaction locks it. mt_slock goes by both.
 ghost use Rattle.std.specs.Prelude.{◌≡◌, IfOk};
 ghost use Rattle.mt_model.specs.Model.{object_of, mode_of};
 

@@ -1,4 +1,4 @@
-// Values under keys, in order.
+// The rows of a base: values under keys, in order of relation and key. `tables` changes them.
 ghost use Rattle.std.specs.Prelude.{◌≡◌, IfOk, OnOk, OnErr, length, is_none};
 ghost use Rattle.std.specs.Option.{option_copied};
 ghost use Rattle.mt_model.specs.Model.{inserted, updated, deleted};

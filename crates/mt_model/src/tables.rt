@@ -1,4 +1,4 @@
-// The map that a kernel represents, and what each operation does to it.
+// The map that a kernel represents, and what each operation does to it. No page, lock or log is known here.
 ghost use Rattle.std.specs.Prelude.{◌≡◌, ◌≤◌, ◌<◌, IfOk, OnOk, IfErr, OnErr, All, map, length};
 ghost use Rattle.mt_base.specs.declared.limits.TheConstants.{MAX_COUNTERS, MAX_RELATIONS};
 ghost use Rattle.mt_base.specs.Limits.{IsCounter, IsStep};
@@ -91,7 +91,7 @@ impl Base {
     /// | `Update` | `Was(old)` | `Missing` |
     /// | `Delete` | `Was(old)` | `Missing` |
     ///
-    /// `Add` answers `Done`, or `OutOfBounds` where the sum would lie outside the counter's bounds,
+    /// `Add` answers `Done`, or `OutOfBounds` if the sum would lie outside the counter's bounds,
     /// and changes nothing then; `Read` answers `Value` of the counter's number. The operation's
     /// relation or counter is there, and its key, value or step within the limits.
     ///

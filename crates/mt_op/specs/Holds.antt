@@ -87,13 +87,13 @@ IsUnlocked locks p = All (λ (l : PageLock). l.page ≢ p) locks
 abbrev pub IsOpenTo : List ℕ → List PageLock → Op → ℕ → Type 0
 IsOpenTo noted locks op p = Takes noted (record_bytes op) p × IsUnlocked locks p
 
--- what an operation finds that looks for a page for its record: an open one, or none where none is
+-- what an operation finds that looks for a page for its record: an open one, or none if none is
 abbrev pub FindsRoom : List ℕ → List PageLock → OpScope → Option ℕ → Type 0
 FindsRoom noted locks s (Some p) = NeedsRoom s × IsOpenTo noted locks s.op p
 FindsRoom noted locks s None = NeedsRoom s → (p : ℕ) → IsOpenTo noted locks s.op p → ⊥
 
--- Its plan asks for the space map, to take a page for the record: a page that is open to the record is tried first, to
--- write it.
+-- Its plan asks for the space map, to take a page for the record: a page that is open to the record is tried first,
+-- to write it.
 abbrev pub IsTried : List ℕ → List PageLock → OpScope → ℕ → Mode → Type 0
 IsTried noted locks s p mode = ((first : Mode) × IsAsked s 0 first) × (mode ≡ Write) × FindsRoom noted locks s (Some p)
 
@@ -101,7 +101,7 @@ IsTried noted locks s p mode = ((first : Mode) × IsAsked s 0 first) × (mode �
 abbrev pub IsInTurn : List ℕ → List PageLock → OpScope → ℕ → Type 0
 IsInTurn noted locks s p = p ≡ 0 → FindsRoom noted locks s None
 
--- a page that it has not looked at; where it only reads, to read it
+-- a page that it has not looked at; if it only reads, to read it
 pub record IsUnseen (s : OpScope) (p : ℕ) (mode : Mode) : Type 0 where
   pub new : looked s p ≡ None
   pub inside : p < s.seen.total
@@ -163,7 +163,7 @@ KeepsLocks op Next old new (Ok stepped.Flush) = new ≡ old
 KeepsLocks op Next old new (Ok (stepped.Ready first second)) = new ≡ old
 KeepsLocks op Next old new (Err why) = new ≡ old
 
--- the same of a step that plans; where it answers nothing the plan is made
+-- the same of a step that plans; if it answers nothing the plan is made
 abbrev pub KeepsLocksOn : ℕ → (ℕ → Mode → Type 0) → List PageLock → List PageLock → Result (Option Stepped) Refusal → Type 0
 KeepsLocksOn op Next old new (Ok (Some answer)) = KeepsLocks op Next old new (Ok answer)
 KeepsLocksOn op Next old new (Ok None) = new ≡ old
@@ -175,12 +175,12 @@ KeepsLocksOn op Next old new (Err why) = new ≡ old
 abbrev pub IsMisled : OpScope → Type 0
 IsMisled s = (p : ℕ) → s.room ≡ Some p → fits_of (looked_bytes s p) < record_bytes s.op
 
--- It is led to the page that it was led to; or it was led to none, and is led to one that it had not looked at; or that page
--- does not take its record, and it is led to none.
+-- It is led to the page that it was led to; or it was led to none, and is led to one that it had not looked at; or
+-- that page does not take its record, and it is led to none.
 abbrev pub KeepsRoom : OpScope → OpScope → Type 0
 KeepsRoom s t = (t.room ≡ s.room) ⊎ (((s.room ≡ None) × ((p : ℕ) → t.room ≡ Some p → looked s p ≡ None)) ⊎ ((t.room ≡ None) × IsMisled s))
 
--- It stays where it waits; where it begins anew it is as at its beginning. If it needs a frame or is refused it
+-- It stays if it waits; if it begins anew it is as at its beginning. If it needs a frame or is refused it
 -- stays, unless its plan was made in this step. It forgets the page that it was led to only if that does not take its
 -- record.
 abbrev pub KeepsScope : OpScope → OpScope → Result Stepped Refusal → Type 0

@@ -15,7 +15,8 @@ use Rattle.mt_op.specs.World.{World, held_in, looked_bytes, changes_in}
 use Rattle.mt_op.specs.declared.scope.OpScope.{OpScope}
 use Rattle.mt_op.specs.declared.scope.Stage.TheVariants.{Planning}
 
--- the log's area and the device have as many pages, and began with the same; the present pages may differ where nothing is said of them
+-- the log's area and the device have as many pages, and began with the same; the present pages may differ where
+-- nothing is said of them
 pub record SameArea (w z : World) : Type 0 where
   pub opening : z.opening ≡ w.opening
   pub total : z.total ≡ w.total

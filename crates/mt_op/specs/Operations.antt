@@ -40,8 +40,8 @@ world seen opening o = record {
 abbrev pub claimed : {D : Type 0} → Operations D → ℕ
 claimed o = reserved_of o.map.space
 
--- The store keeps its rules, the world is right, the map, the free pages and what each page of records takes are those
--- of the pages held, and no more pages are claimed than are free.
+-- The store keeps its rules, the world is right, the map, the free pages and what each page of records takes are
+-- those of the pages held, and no more pages are claimed than are free.
 pub record IsRight {D : Type 0} (seen : D → List ℕ) (may_leave : D → List ℕ → Type 0) (opening : PageBytes) (relations counters : ℕ) (o : Operations D) : Type 0 where
   pub kept : IsKept seen may_leave opening o.store
   pub sound : IsWorld relations counters (world seen opening o)
@@ -99,7 +99,7 @@ pub record Goes (relations counters : ℕ) (w z : World) (s t : OpScope) : Type 
 
 -- The operation acts once on the base that the pages hold, whatever the others have half done, with this reply, whose
 -- value is within its limit; pages are taken only if it needs one, and its record goes into the page that it was led
--- to, or into a free one where it was led to none; and nothing but its end is appended.
+-- to, or into a free one if it was led to none; and nothing but its end is appended.
 pub record Acts (relations counters : ℕ) (w z : World) (s t : OpScope) (reply : Reply) : Type 0 where
   pub own : IsUnderWay relations counters z t
   pub others : (u : OpScope) → IsUnderWay relations counters w u → IsOther s u → IsUnderWay relations counters z u
@@ -136,7 +136,7 @@ GoesOn relations counters w z s t (Ok (stepped.Again holder)) = Goes relations c
 GoesOn relations counters w z s t (Ok stepped.Flush) = Goes relations counters w z s t
 GoesOn relations counters w z s t (Err why) = Goes relations counters w z s t
 
--- a step of an operation that plans; where it answers nothing the plan is made
+-- a step of an operation that plans; if it answers nothing the plan is made
 abbrev pub IsPlannedOn : ℕ → ℕ → World → World → OpScope → OpScope → Result (Option Stepped) Refusal → Type 0
 IsPlannedOn relations counters w z s t (Ok (Some answer)) = GoesOn relations counters w z s t (Ok answer)
 IsPlannedOn relations counters w z s t (Ok None) = Goes relations counters w z s t
@@ -150,6 +150,6 @@ pub record IsAsFar (s t : OpScope) : Type 0 where
   pub written : t.written ≡ s.written
   pub left : t.left ≡ s.left
 
--- a step is refused for want of memory, or where the device failed
+-- a step is refused for want of memory, or if the device failed
 abbrev pub IsCause : Refusal → Type 0
 IsCause why = (why ≡ refusal.NoMemory) ⊎ (why ≡ refusal.DeviceFailed)

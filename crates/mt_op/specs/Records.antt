@@ -16,7 +16,7 @@ use Rattle.mt_op.specs.declared.answers.TakenBack.{TakenBack}
 use Rattle.mt_op.specs.declared.answers.TakenBack.TheVariants as taken
 use Rattle.mt_op.specs.declared.scope.OpScope.{OpScope}
 
--- the record that an operation ends with, where it did anything
+-- the record that an operation ends with, if it did anything
 abbrev pub end_with : ℕ → ℕ → ℕ → Option LoggedOp → List Record
 end_with txn number undoes None = []
 end_with txn number undoes (Some done) = OpEnd txn number undoes done ∷ []
@@ -29,8 +29,8 @@ abbrev pub HasPageMore : OpScope → List Record → List Record → Type 0
 HasPageMore s old new = (new ≡ old) ⊎ ((c : PageChange) × (image : Option (List ℕ)) × (bytes : List ℕ) × Contains (changes_in s) c
     × (new ≡ old ++ change_records s.txn s.number c.page image bytes (patched c.edits.items bytes) c.edits.items))
 
--- The records stay where the operation waits, begins anew or is refused; a step that goes on may append those of a
--- page. What is appended where it has ended is said by Acts.
+-- The records stay if the operation waits, begins anew or is refused; a step that goes on may append those of a
+-- page. What is appended if it has ended is said by Acts.
 abbrev pub KeepsRecords : OpScope → List Record → List Record → Result Stepped Refusal → Type 0
 KeepsRecords s old new (Ok stepped.Went) = HasPageMore s old new
 KeepsRecords s old new (Ok (stepped.Wait holder)) = new ≡ old
@@ -41,7 +41,7 @@ KeepsRecords s old new (Err why) = new ≡ old
 
 -- ---- a step of a taking back
 
--- the record of the taking back, where any page still stands
+-- the record of the taking back, if any page still stands
 abbrev pub dropped_with : ℕ → ℕ → ℕ → List Record
 dropped_with txn number zero = []
 dropped_with txn number (suc standing) = OpDropped txn number ∷ []

@@ -7,7 +7,7 @@ use Rattle.mt_op.specs.Begun.{HasRead, ShowsOpening}
 use Rattle.mt_op.specs.declared.operations.Operations.{Operations}
 use Rattle.mt_op.specs.declared.scope.OpScope.{OpScope}
 
--- what a page of this kind with these bytes takes: nothing where it does not hold records
+-- what a page of this kind with these bytes takes: nothing if it does not hold records
 pub record IsRoom (kind : ℕ) (bytes : List ℕ) (room : ℕ) : Type 0 where
   pub records : kind ≡ 3 → room ≡ fits_of bytes
   pub others : kind ≢ 3 → room ≡ 0

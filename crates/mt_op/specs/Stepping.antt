@@ -1,4 +1,5 @@
--- What a call does that goes on with an operation or takes a page of it back: all its clauses in one relation, for those who pass them on.
+-- What a call does that goes on with an operation or takes a page of it back: all its clauses in one relation, for
+-- those who pass them on.
 use Rattle.std.specs.Prelude.{◌≡◌, ◌≤◌, ◌+◌, ℕ, List, [], Bool, true, false, Option, None, Some, Result, Ok, IfErr, OnErr, length, get_or, OnOk}
 use Rattle.mt_base.specs.declared.limits.TheConstants.{MAX_COUNTERS, MAX_RELATIONS}
 use Rattle.mt_base.specs.declared.modes.Mode.{Mode}
@@ -89,7 +90,7 @@ pub record LocksPage {D : Type 0} (seen : D → List ℕ) (may_leave : D → Lis
   pub why : IfErr r IsCause
   pub faults : TellsFaults (failures o.store.device) (failures n.store.device) r
 
--- a page that is in a frame is locked, and looked at where it is new; or it is not to be had
+-- a page that is in a frame is locked, and looked at if it is new; or it is not to be had
 pub record TakesLock {D : Type 0} (seen : D → List ℕ) (may_leave : D → List ℕ → Type 0) (o n : Operations D) (s t : OpScope) (r : Result Stepped Refusal) : Type 0 where
   pub goes : (opening : PageBytes) (relations counters : ℕ) → IsRight seen may_leave opening relations counters o → IsUnderWay relations counters (world seen opening o) s
       → IsRight seen may_leave opening relations counters n × GoesOn relations counters (world seen opening o) (world seen opening n) s t r

@@ -50,7 +50,7 @@ Works s t (Ok stepped.Flush) = work_of t ≤ work_of s
 Works s t (Ok (stepped.Ready first second)) = work_of t ≡ 0
 Works s t (Err why) = work_of t ≤ work_of s
 
--- the same of a step that plans; where it answers nothing the plan is made
+-- the same of a step that plans; if it answers nothing the plan is made
 abbrev pub WorksOn : OpScope → OpScope → Result (Option Stepped) Refusal → Type 0
 WorksOn s t (Ok (Some answer)) = Works s t (Ok answer)
 WorksOn s t (Ok None) = work_of t ≤ work_of s
@@ -61,7 +61,7 @@ WorksOn s t (Err why) = work_of t ≤ work_of s
 abbrev pub IsGoing : Stage → Type 0
 IsGoing stage = (stage ≡ Planning) ⊎ (stage ≡ Writing)
 
--- where it has ended it is ready, and otherwise it may make another step
+-- if it has ended it is ready, and otherwise it may make another step
 abbrev pub ComesTo : Stage → Result Stepped Refusal → Type 0
 ComesTo stage (Ok (stepped.Ready first second)) = stage ≡ Ready
 ComesTo stage (Ok stepped.Went) = IsGoing stage

@@ -47,7 +47,7 @@ unfinished_in w = (repeated_in w).unfinished
 abbrev pub IsCovered : List PageLock → Change → Type 0
 IsCovered locks c = Contains locks (lock_of c.op c.page Write)
 
--- Whatever is half done: a page is as the records make it, or as it is held where it is being taken back; and the
+-- Whatever is half done: a page is as the records make it, or as it is held if it is being taken back; and the
 -- pages held break no rule.
 pub record IsWorld (relations counters : ℕ) (w : World) : Type 0 where
   pub repeated : IsRepeated (repeated_in w)
@@ -159,7 +159,8 @@ pub record IsOther (s u : OpScope) : Type 0 where
   pub number : u.number ≢ s.number
   pub txn : u.txn ≢ s.txn
 
--- a number that no operation has, of a transaction without an operation under way; what it takes back, if anything, has ended
+-- a number that no operation has, of a transaction without an operation under way; what it takes back, if anything,
+-- has ended
 pub record IsFresh (w : World) (txn number undoes : ℕ) : Type 0 where
   pub locks : locks_of number w.locks ≡ []
   pub nothing : by number (unfinished_in w) ≡ []

@@ -5,8 +5,8 @@
 //! operation's writes put back. The end of an operation is one act on the base that these pages hold, and
 //! every other step leaves them as they are.
 //!
-//! A step reads a page from the device if no frame has it. It writes none: to free a frame, and to make the log durable,
-//! is asked of who calls.
+//! A step reads a page from the device if no frame has it. It writes none: to free a frame, and to make the log
+//! durable, is asked of who calls.
 #![tactic(auto)]
 
 mod answers;

@@ -53,7 +53,7 @@ fn rooms_of(alloc: Global, pages: &[[u8; 4096]]) -> Result<Rooms, AllocError>
 }
 
 impl Idle {
-    /// What operations keep beside a store over these pages, where none is under way. That is what each page of
+    /// What operations keep beside a store over these pages, if none is under way. That is what each page of
     /// records takes, and the map of the space without a claim. The only refusal is [`Refusal::NoMemory`].
     pub fn of(alloc: Global, pages: &[[u8; 4096]]) -> Result<Idle, Refusal>
         requires good { ∥ ((relations : ℕ) × (counters : ℕ)
@@ -77,7 +77,8 @@ impl Idle {
 }
 
 impl<D: Device> Operations<D> {
-    /// The store, and what operations keep beside it, to be joined to a store over the same pages. It takes no memory.
+    /// The store, and what operations keep beside it, to be joined to a store over the same pages. It takes no
+    /// memory.
     ///
     /// If none is under way the pages held are those that the store shows, and what is kept fits them.
     pub fn part(self) -> (Store<D>, Idle)

@@ -1,4 +1,5 @@
-// The operations of one kernel over their pages.
+// The operations of one kernel over their pages: the store with page locks, and how an operation begins.
+// mt_core calls it. Claims, forces and flushes pass through here; the other files have the steps.
 ghost use Rattle.std.specs.Prelude.{◌≡◌, ◌≢◌, ◌⊎◌, ◌<◌, ◌≤◌, ◌+◌, ◌*◌, ◌++◌, ◌∷◌, [], ℕ, length, get_or, replicate, false, true, Ok, Err, if◌then◌else◌, IsOk, IsErr, IfOk, IfErr, OnOk, OnErr};
 ghost use Rattle.mt_base.specs.declared.limits.TheConstants.{OPERATION_LOG_BYTES};
 ghost use Rattle.mt_disk.specs.Disk.{LeavesOnly, HasCause};
@@ -67,10 +68,10 @@ impl<D: Device + Drop> From<NotOpened<D>> for Refusal {
 }
 
 impl<D: Device + Drop> Operations<D> {
-    /// Operations over a store whose log has no record but the images that its area began with: none is under way. Each
-    /// page of records is looked at once, and it is noted how long a record it takes. Refusals are
-    /// [`Refusal::NoMemory`] and, if and only if the device failed in this call, [`Refusal::DeviceFailed`]; each hands
-    /// the store back. Pages are read, and nothing is written or appended in any case: whatever a crash leaves
+    /// Operations over a store whose log has no record but the images that its area began with: none is under way.
+    /// Each page of records is looked at once, and it is noted how long a record it takes. Refusals are
+    /// [`Refusal::NoMemory`] and, if and only if the device failed in this call, [`Refusal::DeviceFailed`]; each
+    /// hands the store back. Pages are read, and nothing is written or appended in any case: whatever a crash leaves
     /// meanwhile explains the pages as before.
     pub fn new(alloc: Global, store: Store<D>) -> Result<Operations<D>, NotOpened<D>>
         requires good { HasGoodOpening D.seen D.may_leave store }
@@ -207,8 +208,8 @@ impl<D: Device> Operations<D> {
         &self.store.pool
     }
 
-    /// Claims so many free pages, for operations and their inverses. Refused with 10 if and only if fewer of the pages
-    /// held are free and not claimed; nothing has changed then. It takes no memory.
+    /// Claims so many free pages, for operations and their inverses. Refused with 10 if and only if fewer of the
+    /// pages held are free and not claimed; nothing has changed then. It takes no memory.
     pub fn claim(&mut self, count: u16) -> Result<(), Refusal>
         ensures right { (opening : PageBytes) (relations counters : ℕ)
             → IsRight D.seen D.may_leave opening relations counters self.old
@@ -282,7 +283,7 @@ impl<D: Device> Operations<D> {
     }
 
     /// A step of the log's force, as [`Store::force_step`] makes it: pages, locks and operations stay. The only
-    /// refusal is [`Refusal::DeviceFailed`], where the device failed in this call or the log has failed before.
+    /// refusal is [`Refusal::DeviceFailed`], if the device failed in this call or the log has failed before.
     pub fn force_step(&mut self) -> Result<Forced, Refusal>
         requires kept { HasOpening D.seen D.may_leave self.old.store }
         ensures right { (opening : PageBytes) (relations counters : ℕ)
@@ -377,7 +378,7 @@ fn reads_only(op: &Op) -> bool
     matches!(op, Op::Get(_, _) | Op::Read(_))
 }
 
-// What each page of records takes, where none was looked at, and the map of the space.
+// What each page of records takes, if none was looked at, and the map of the space.
 fn first_parts<D: Device>(alloc: Global, store: &mut Store<D>) -> Result<(Rooms, SpaceMap), Refusal>
     requires good { HasGoodOpening D.seen D.may_leave store.old }
     requires free { IsFull store.old.pool → ⊥ }

@@ -1,4 +1,5 @@
-// Page locks of an operation.
+// How an operation gets its page locks: the page comes into a frame, is locked, and is copied for the plan.
+// If it is to begin anew all its locks go. No page is written here.
 ghost use Rattle.std.specs.Prelude.{◌≡◌, ◌⊎◌, ◌<◌, get_or, Ok, true, false, Some, None};
 ghost use Rattle.mt_base.specs.declared.refusal.Refusal.{Refusal};
 ghost use Rattle.mt_pool.specs.Views.{IsThere, pages};

@@ -1,4 +1,5 @@
-// Page writes of an operation, and its end.
+// How an operation writes the pages of its plan, each with its log records, and how it ends.
+// All its pages are locked by then. The device is asked to read alone, if a page is in no frame.
 ghost use Rattle.std.specs.Prelude.{◌≡◌, ◌≢◌, ◌<◌, ◌≤◌, ◌+◌, ℕ, List, length, get_or, false, true, None, Some, IsSome, IfErr, IfOk, IfSome};
 ghost use Rattle.mt_base.specs.declared.limits.TheConstants.{BATCH_HEAD_BYTES, LARGEST_OP_END, MAX_COUNTERS, MAX_RELATIONS, PAGE_BYTES};
 ghost use Rattle.mt_frame.specs.Grammar.{IsTxn, IsOp, IsOperation, IsOfPage, IsRecord};
@@ -57,7 +58,7 @@ impl<D: Device> Operations<D> {
         self.write_there(alloc, scope)
     }
 
-    // Writes a page that is in a frame. Where memory is refused nothing has changed.
+    // Writes a page that is in a frame. If memory is refused nothing has changed.
     fn write_there(&mut self, alloc: Global, scope: &mut OpScope) -> Result<Stepped, Refusal>
         requires right { IsOneOf D.seen D.may_leave self.old scope.old }
         requires writing { scope.old.stage ≡ Writing }
@@ -78,8 +79,8 @@ impl<D: Device> Operations<D> {
         Ok(Stepped::Went)
     }
 
-    // Ends the operation. Its end is appended where one is due, and with that it has acted on the base that the pages
-    // hold. Its claim on free pages is given back. Where memory is refused nothing has changed.
+    // Ends the operation. Its end is appended if one is due, and with that it has acted on the base that the pages
+    // hold. Its claim on free pages is given back. If memory is refused nothing has changed.
     pub(crate) fn finish(&mut self, scope: &mut OpScope) -> Result<Stepped, Refusal>
         requires right { IsOneWithin D.seen D.may_leave self.old scope.old }
         requires claims { own_needs scope.old.op scope.old.split ≤ claimed self.old }
@@ -123,7 +124,7 @@ impl<D: Device> Operations<D> {
         Ok(())
     }
 
-    // Appends a record that is of no page. Where memory is refused nothing has changed.
+    // Appends a record that is of no page. If memory is refused nothing has changed.
     pub(crate) fn append_record(&mut self, entry: Record) -> Result<(), Refusal>
         requires kept { HasOpening D.seen D.may_leave self.old.store }
         requires grammar { IsRecord entry }
@@ -136,12 +137,13 @@ impl<D: Device> Operations<D> {
         Ok(())
     }
 
-    // Notes what the pages take that the operation looked at, once its changes are made. Where it changes nothing each
+    // Notes what the pages take that the operation looked at, once its changes are made. If it changes nothing each
     // takes what it took.
     fn note_looked(&mut self, scope: &OpScope)
         requires pages { ∥ ((pages : PageBytes) × Agrees (looked scope.now) pages
             × AreShort (changes_in scope.now) pages
-            × ((p : ℕ) → get_or self.old.map.kinds.value p 0 ≡ 3 → IsShaped (after (changes_in scope.now) pages p))) ∥₁ }
+            × ((p : ℕ) → get_or self.old.map.kinds.value p 0 ≡ 3
+            → IsShaped (after (changes_in scope.now) pages p))) ∥₁ }
         requires whole { (p : ℕ) (bytes : List ℕ) → looked scope.now p ≡ Some bytes → length bytes ≡ PAGE_BYTES }
         requires inside { (p : ℕ) → IsSome (looked scope.now p) → p < length self.old.rooms }
         requires few { length self.old.rooms ≤ PAGE_BYTES }
@@ -156,7 +158,8 @@ impl<D: Device> Operations<D> {
     fn note_each(&mut self, scope: &OpScope)
         requires pages { ∥ ((pages : PageBytes) × Agrees (looked scope.now) pages
             × AreShort (changes_in scope.now) pages
-            × ((p : ℕ) → get_or self.old.map.kinds.value p 0 ≡ 3 → IsShaped (after (changes_in scope.now) pages p))) ∥₁ }
+            × ((p : ℕ) → get_or self.old.map.kinds.value p 0 ≡ 3
+            → IsShaped (after (changes_in scope.now) pages p))) ∥₁ }
         requires whole { (p : ℕ) (bytes : List ℕ) → looked scope.now p ≡ Some bytes → length bytes ≡ PAGE_BYTES }
         requires inside { (p : ℕ) → IsSome (looked scope.now p) → p < length self.old.rooms }
         requires few { length self.old.rooms ≤ PAGE_BYTES }
@@ -171,7 +174,7 @@ impl<D: Device> Operations<D> {
         }
     }
 
-    // What a page takes once these changes are made: nothing where it does not hold records.
+    // What a page takes once these changes are made: nothing if it does not hold records.
     fn room_after(&self, changes: &Changes, page: PageNo, before: &[u8; 4096]) -> u16
         requires inside { page < PAGE_BYTES }
         requires whole { length before.now ≡ PAGE_BYTES }

@@ -1,4 +1,5 @@
-// An operation under way.
+// An operation under way as a value: its page locks, its copies of pages, its plan, and how far it has come.
+// mt_core keeps it between the steps and lends it to each. It cannot be dropped: its end gives its locks back.
 ghost use Rattle.std.specs.Prelude.{◌≡◌};
 
 use mt_base::{OpNo, PageNo, TxnNo};
@@ -14,7 +15,7 @@ pub enum Stage {
     Planning,
     /// It knows what it changes, and writes one page after the other.
     Writing,
-    /// Its end is in the log where one is due; it is to be ended.
+    /// Its end is in the log if one is due; it is to be ended.
     Ready,
     /// Some of the pages that it wrote are put back.
     Taking,
@@ -78,8 +79,8 @@ impl OpScope {
         self.undoes
     }
 
-    /// Whether, as an insert, it may split a bucket of the index; [`pages_for`](mt_steps::pages_for) of the operation and
-    /// of this is its claim.
+    /// Whether, as an insert, it may split a bucket of the index; [`pages_for`](mt_steps::pages_for) of the operation
+    /// and of this is its claim.
     pub fn split(&self) -> bool
         ensures { result ≡ self.now.split }
     {

@@ -1,4 +1,6 @@
-// The map of the space as the pages held have it.
+// The space map as the pages held have it, with the claims on its free pages. It differs from page 0 while an
+// operation has written there and not ended. A page that it frees may be put back, and so cannot be claimed yet.
+// `page_writes` brings it up to date at an operation's end.
 ghost use Rattle.std.specs.Prelude.{◌≡◌, ◌≤◌, ◌+◌, ℕ, length, false, IfOk};
 ghost use Rattle.mt_base.specs.declared.limits.TheConstants.{MAX_PAGES, PAGE_BYTES};
 ghost use Rattle.mt_space.specs.Changes.{PageBytes, after, AreShort};
@@ -31,12 +33,12 @@ impl SpaceMap {
         })
     }
 
-    // Gives the claim of an operation back that has ended, and follows its changes. Of the pages that were claimed it
-    // has taken no more than its own.
+    // An operation has ended: gives its claim back, and makes its changes of page 0 here too. So the pages held
+    // before and after differ by its changes (`short`), and it has taken no more free pages than it had claimed.
     pub(crate) fn settle(&mut self, changes: &Changes, claim: u16)
-        requires short { ∥ ((pages : PageBytes) × (pages 0 ≡ self.old.kinds.value) × AreShort changes.now.list.items pages
-            × (length self.old.kinds.value ≡ PAGE_BYTES) × (reserved_of self.old.space
-            ≤ free_in (mapped (after changes.now.list.items pages 0) (length self.old.space.0)) + claim)) ∥₁ }
+        requires short { ∥ ((pages : PageBytes) × (pages 0 ≡ self.old.kinds.value)
+            × AreShort changes.now.list.items pages × (length self.old.kinds.value ≡ PAGE_BYTES)
+            × (reserved_of self.old.space ≤ free_in (mapped (after changes.now.list.items pages 0) (length self.old.space.0)) + claim)) ∥₁ }
         requires claimed { claim ≤ reserved_of self.old.space }
         requires mapped { self.old.space.0 ≡ mapped self.old.kinds.value (length self.old.space.0) }
         ensures kinds { (pages : PageBytes) → pages 0 ≡ self.old.kinds.value → AreShort changes.now.list.items pages
@@ -53,8 +55,8 @@ impl SpaceMap {
 
     // Makes the changes that are of the map; `false` if none is.
     fn follow(&mut self, changes: &Changes) -> bool
-        requires short { ∥ ((pages : PageBytes) × (pages 0 ≡ self.old.kinds.value) × AreShort changes.now.list.items pages
-            × (length self.old.kinds.value ≡ PAGE_BYTES)) ∥₁ }
+        requires short { ∥ ((pages : PageBytes) × (pages 0 ≡ self.old.kinds.value)
+            × AreShort changes.now.list.items pages × (length self.old.kinds.value ≡ PAGE_BYTES)) ∥₁ }
         ensures kinds { (pages : PageBytes) → pages 0 ≡ self.old.kinds.value → AreShort changes.now.list.items pages
             → self.new.kinds.value ≡ after changes.now.list.items pages 0 }
         ensures whole { length self.new.kinds.value ≡ PAGE_BYTES }

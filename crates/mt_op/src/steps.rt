@@ -1,4 +1,5 @@
-// The steps of an operation, from its first page lock to its end.
+// The steps of an operation, from its first page lock to its end. After each look the plan is made anew.
+// Locks are got in `page_locks`, and pages written in `page_writes`.
 ghost use Rattle.std.specs.Prelude.{◌≡◌, ◌≢◌, ◌⊎◌, ◌<◌, ◌≤◌, ◌+◌, ◌^◌, ℕ, List, length, All, Contains, [], None, Some, Ok, true, false, MatchOption, IfErr, IsTrue, ◌↔◌};
 ghost use Rattle.mt_base.specs.declared.limits.TheConstants.{MAX_COUNTERS, MAX_PAGES, MAX_RELATIONS, MAX_WRITTEN_PAGES};
 ghost use Rattle.mt_steps.specs.Overlays.{AreAtHand};
@@ -39,20 +40,20 @@ impl<D: Device> Operations<D> {
     /// ends. All pages are locked and looked at before the first is written.
     ///
     /// [`Stepped::Wait`], [`Stepped::Flush`] and the refusals change nothing of pages, locks and log. Of the
-    /// operation they change nothing but that its plan may be made, where it is not to wait. [`Stepped::Again`] gives
+    /// operation they change nothing but that its plan may be made, if it is not to wait. [`Stepped::Again`] gives
     /// the operation's locks back, so that it begins anew with its number. As many free pages as the operation may
     /// take are to be claimed for it; with its end it has given them back. The refusals are [`Refusal::NoMemory`]
     /// and, if and only if the device failed in this call, [`Refusal::DeviceFailed`].
     ///
     /// A lock is asked for on a page that the plan asks for and that was not looked at. An operation that only reads
     /// asks for it to read it. A row's operation looks for its key first: in the directory, to read it, and in the
-    /// key's chain. The plan may ask for the space map, for a record, where no page was tried yet. A page that takes
-    /// the record and that nobody has locked is tried first then, to write it. A page that is locked is passed by. The
-    /// map itself is asked for then only if each page that takes the record is locked. Or a lock is asked for, to write
-    /// it, on a page that the plan changes.
+    /// key's chain. The plan may ask for the space map, for a record, if no page was tried yet. A page that takes the
+    /// record and that nobody has locked is tried first then, to write it. A page that is locked is passed by. The
+    /// map itself is asked for then only if each page that takes the record is locked. Or a lock is asked for, to
+    /// write it, on a page that the plan changes.
     ///
-    /// A record goes into the page of records that was tried first and takes it, or into a free page where none was.
-    /// A free page is taken only for such a record, or for its entry where the key's bucket is full. Only a page of
+    /// A record goes into the page of records that was tried first and takes it, or into a free page if none was.
+    /// A free page is taken only for such a record, or for its entry if the key's bucket is full. Only a page of
     /// records is given back.
     ///
     /// How many steps: over `n` pages an operation that nobody is in the way of is ready after at most `2 n + 9`
@@ -121,7 +122,7 @@ impl<D: Device> Operations<D> {
     }
 
     // Plans over the pages that the operation has looked at: locks the one that is needed next, or keeps the
-    // plan where there is none.
+    // plan if there is none.
     fn plan_step(&mut self, alloc: Global, scope: &mut OpScope) -> Result<Option<Stepped>, Refusal>
         requires right { IsOneWithin D.seen D.may_leave self.old scope.old }
         requires claims { own_needs scope.old.op scope.old.split ≤ claimed self.old }
@@ -170,7 +171,7 @@ impl<D: Device> Operations<D> {
     }
 
     // The first page of records that takes the operation's record and that nobody has locked: one that is locked is
-    // passed by. `None` also where the operation puts no record, or was led to a page.
+    // passed by. `None` also if the operation puts no record, or was led to a page.
     fn room_for(&self, scope: &OpScope) -> Option<PageNo>
         requires few { length self.now.rooms ≤ MAX_PAGES }
         requires short { bytes_put scope.now.op < 2 ^ 16 }

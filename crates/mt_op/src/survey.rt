@@ -1,4 +1,5 @@
-// What the pages held come to, where no operation is under way.
+// What the pages held come to, if no operation is under way: the base, and figures of the index and the free pages.
+// Pages are read from frames or from the device, and none comes into a frame.
 ghost use Rattle.std.specs.Prelude.{◌≡◌, ◌⊎◌, ◌<◌, ◌≤◌, ◌+◌, ℕ, length, Err, IfOk, IfErr, OnOk};
 ghost use Rattle.mt_base.specs.declared.limits.TheConstants.{MAX_RELATIONS, PAGE_BYTES};
 ghost use Rattle.mt_model.specs.Model.{Base as ModelBase};
@@ -103,9 +104,9 @@ impl<D: Device> Operations<D> {
         Ok(())
     }
 
-    /// Tells what the pages held come to, by their bytes, where no operation is under way. Each page of records is read
-    /// once, from its frame or else from the device, so it answers however many pages are to be flushed. Nothing but the
-    /// device's reads is done.
+    /// Answers what the pages held come to, by their bytes, if no operation is under way. Each page of records is
+    /// read once, from its frame or else from the device, so it answers however many pages are to be flushed. Nothing
+    /// but the device's reads is done.
     ///
     /// Refused with [`Refusal::DeviceFailed`] if and only if the device failed in this call, and with
     /// [`Refusal::NoMemory`].

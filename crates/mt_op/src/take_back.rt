@@ -1,4 +1,5 @@
-// Taking an operation back, and the end of its locks.
+// Taking an unfinished operation back, a page a step, and the end of its locks.
+// Its log keeps the records of what it wrote; a record that it was taken back comes after them.
 ghost use Rattle.std.specs.Prelude.{◌≡◌, ◌≢◌, ◌⊎◌, ◌<◌, ◌≤◌, ◌+◌, ◌-◌, ℕ, List, length, get_or, IfErr, OnErr, OnOk, Ok, Some, IsSome};
 ghost use Rattle.mt_base.specs.declared.limits.TheConstants.{MAX_WRITTEN_PAGES, PAGE_BYTES};
 ghost use Rattle.mt_plock.specs.Releasing.{locks_of, locks_without};
@@ -26,13 +27,13 @@ use mt_space::Pages;
 
 impl<D: Device> Operations<D> {
     /// Takes the operation back a step: the page that it wrote last, of those that still stand, gets its bytes
-    /// from before the operation. Before the last of them is put back, the record is appended that tells
-    /// of the taking back; where nothing was written there is none. The pages held stay throughout, and so do the
+    /// from before the operation. Before the last of them is put back, the record of the
+    /// taking back is appended; if nothing was written there is none. The pages held stay throughout, and so do the
     /// claims on free pages: [`Operations::give_back`] gives those of the operation back.
     ///
     /// How many steps: each that answers [`TakenBack::More`] leaves a page less that stands, of eight at most.
     ///
-    /// [`TakenBack::Flush`] and the refusals change nothing: [`Refusal::NoMemory`], where the record cannot be
+    /// [`TakenBack::Flush`] and the refusals change nothing: [`Refusal::NoMemory`], if the record cannot be
     /// appended, and, if and only if the device failed in this call, [`Refusal::DeviceFailed`].
     pub fn take_back(&mut self, scope: &mut OpScope) -> Result<TakenBack, Refusal>
         requires right { IsOneOf D.seen D.may_leave self.old scope.old }

@@ -27,9 +27,9 @@ pub record IsLeastHolder (asked : PageLock) (locks : List PageLock) (holder : �
   pub holds : Any (λ held. (is_in_way asked held ≡ true) × (held.op ≡ holder)) locks
   pub least : All (λ held. is_in_way asked held ≡ true → holder ≤ held.op) locks
 
--- what an asker is answered, and the locks then: the lock is granted where none is in the way; it
--- waits for the smallest holder where that one, and so every holder, is larger than it; and begins
--- again where that one is smaller
+-- what an asker is answered, and the locks then: the lock is granted if none is in the way; it
+-- waits for the smallest holder if that one, and so every holder, is larger than it; and begins
+-- again if that one is smaller
 abbrev pub IsAnswered : PageLock → List PageLock → Asked → List PageLock → Type 0
 IsAnswered asked old (Granted guard) new =
     All (λ held. is_in_way asked held ≡ false) old × (guard ≡ asked) × (new ≡ old ++ asked ∷ [])

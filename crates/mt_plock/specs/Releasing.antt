@@ -15,7 +15,7 @@ pub record IsLastAt (locks : List PageLock) (lock : PageLock) (i : ℕ) : Type 0
   pub is : slice_index_or locks i lock ≡ lock
   pub last : (k : ℕ) → i < k → k < length locks → slice_index_or locks k lock ≢ lock
 
--- the list without the last of its locks that is this one; where none is, the list itself. So the
+-- the list without the last of its locks that is this one; if none is, the list itself. So the
 -- locks of other operations stay, and of its own operation's, if it is the last, those before it
 pub record GivesBack (lock : PageLock) (old new : List PageLock) : Type 0 where
   pub last : (front back : List PageLock) → old ≡ front ++ lock ∷ back → (Contains back lock → ⊥) → new ≡ front ++ back

@@ -92,7 +92,7 @@ impl PageLocks {
     }
 
     /// Asks for a lock. If no other operation holds the page in a mode that does not agree, it is granted, and is
-    /// the last of the locks. So a read becomes a write where the operation is the only holder. Else the answer names
+    /// the last of the locks. So a read becomes a write if the operation is the only holder. Else the answer names
     /// the smallest such holder. It is to wait for it if it is larger than the asker, as all of them are then, and
     /// otherwise to begin again. Both leave the table as it was.
     ///

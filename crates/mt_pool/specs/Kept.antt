@@ -41,9 +41,9 @@ pub record Names (ruling : MasterSlot) (pool : Pool) (log : Log) : Type 0 where
   pub start : start_of ruling ≡ area_start log
   pub end : end_of ruling ≡ area_end log
 
--- What a crash left, c, explains the pages as at the opening: the log's area holds batches, and no more, whose records are a beginning of
--- the appended ones with all durable ones, and each page is its first image in them or else what its slot has. The master slot that
--- rules names the pages and that area.
+-- What a crash left, c, explains the pages as at the opening: the log's area holds batches, and no more, whose
+-- records are a beginning of the appended ones with all durable ones, and each page is its first image in them or
+-- else what its slot has. The master slot that rules names the pages and that area.
 pub record Explains {D : Type 0} (opening : ℕ → List ℕ) (s : Store D) (c : List ℕ) : Type 0 where
   pub batches : List (List Record)
   pub held : HoldsBatches c (area_start s.log) (area_end s.log) (pages s.pool) batches
@@ -53,9 +53,9 @@ pub record Explains {D : Type 0} (opening : ℕ → List ℕ) (s : Store D) (c :
   pub rules : IsRuling c ruling
   pub names : Names ruling s.pool s.log
 
--- The log and the pool are on the device, the slots before the log's area; whatever a crash leaves, the master slot that names both
--- rules in it, and the pages are had as at the opening; and the pool knows of each page whether the log has a record of it, and the
--- last one.
+-- The log and the pool are on the device, the slots before the log's area; whatever a crash leaves, the master slot
+-- that names both rules in it, and the pages are had as at the opening; and the pool knows of each page whether the
+-- log has a record of it, and the last one.
 pub record IsKept {D : Type 0} (seen : D → List ℕ) (may_leave : D → List ℕ → Type 0) (opening : ℕ → List ℕ) (s : Store D) : Type 0 where
   pub on : IsOn seen may_leave s.log s.device
   pub sound : IsSound (pages s.pool) s.log

@@ -1,5 +1,5 @@
--- The laws by which the pages are had from whatever a crash leaves. Each is said of a type of devices, by what a crash may leave
--- of each.
+-- The laws by which the pages are had from whatever a crash leaves. Each is said of a type of devices, by what a
+-- crash may leave of each.
 use Rattle.std.specs.Prelude.{◌<◌, ◌≡◌, ◌≢◌, ℕ, ◌+◌, ◌*◌, ◌≤◌, List, [], ◌∷◌, ◌++◌, length, take, set, true, false, None, Some}
 use Rattle.mt_base.specs.declared.limits.TheConstants.{PAGE_BYTES}
 use Rattle.mt_disk.specs.Disk.{Torn, Follows, Only, Apart}
@@ -7,7 +7,8 @@ use Rattle.mt_pool.specs.Images.{Carried, has_image, page_in, slot, IsSafe, Give
 use Rattle.mt_pool.specs.Views.{IsPool, Shows, IsTied, IsImageFirst, view, pages, waits_for}
 use Rattle.mt_pool.specs.declared.pool.Pool.{Pool}
 
--- the pages as at the opening come from what a crash leaves, with all durable records, and any part of those after them
+-- the pages as at the opening come from what a crash leaves, with all durable records, and any part of those after
+-- them
 abbrev pub CrashGivesPages : {D : Type 0} → (D → List ℕ → Type 0) → Type 0
 CrashGivesPages {D} may_leave =
     (device : D) (place pages : ℕ) (opening : ℕ → List ℕ) (appended : List Carried) (durable k : ℕ) (c : List ℕ)

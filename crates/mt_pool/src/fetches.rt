@@ -1,4 +1,5 @@
-// Pages come into frames.
+// Pages come into frames, out of their slots. A page that need not be flushed leaves its frame for another.
+// Nothing is written: if each frame has a page to flush, the answer says so.
 ghost use Rattle.std.specs.Prelude.{◌≡◌, ◌<◌, ℕ, List, length, get_or, Ok, None, OnOk};
 ghost use Rattle.mt_base.specs.declared.limits.TheConstants.{PAGE_BYTES};
 ghost use Rattle.mt_disk.specs.Disk.{HasCause};
@@ -81,9 +82,9 @@ impl Pool {
         }
     }
 
-    /// Copies a page's bytes as they are, out of its frame or else out of its slot. No page comes into a frame or leaves
-    /// one, so it answers however many pages are to be flushed. It reads one page at most, writes none and takes no
-    /// memory. The only error is the device's; `bytes` may hold anything then.
+    /// Copies a page's bytes as they are, out of its frame or else out of its slot. No page comes into a frame or
+    /// leaves one, so it answers however many pages are to be flushed. It reads one page at most, writes none and
+    /// takes no memory. The only error is the device's; `bytes` may hold anything then.
     pub fn copy<D: Device>(
         &self,
         device: &mut D,

@@ -1,4 +1,5 @@
-// Pages are written back under the write-ahead rule.
+// Pages are written into their slots under the write-ahead rule: each after all of its records are durable.
+// A call writes one page at most. Who calls says how many records are durable.
 ghost use Rattle.std.specs.Prelude.{◌≡◌, ◌⊎◌, ◌<◌, ◌≤◌, ◌+◌, ◌*◌, ℕ, length, get_or, set, IsErr, Ok, Some, None, true, false};
 ghost use Rattle.mt_base.specs.declared.limits.TheConstants.{PAGE_BYTES};
 ghost use Rattle.mt_disk.specs.Disk.{Torn, Follows, HasCause};
@@ -34,7 +35,7 @@ impl Pool {
     ghost use Rattle.mt_pool.specs.declared.flushes.Flushed.TheVariants as flushed;
     ghost use Rattle.mt_pool.specs.Finds.{IsFound};
 
-    /// Looks for a page that may be written, where the area's first `durable` records are durable.
+    /// Looks for a page that may be written, if the area's first `durable` records are durable.
     fn find(&self, durable: u64) -> ToFlush
         requires pool { IsPool self.now }
         ensures { IsFound self.now durable result }

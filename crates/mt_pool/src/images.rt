@@ -1,4 +1,5 @@
-// What the pool is told of the images in an area.
+// Which pages have an image in the log's area: none as an area begins, then each whose image is noted.
+// By this a page's next record is made with an image or without.
 ghost use Rattle.std.specs.Prelude.{◌≡◌, ◌<◌, ℕ, List, get_or, false};
 ghost use Rattle.mt_pool.specs.Moves.{NotesImage};
 

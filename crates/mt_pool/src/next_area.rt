@@ -18,7 +18,7 @@ use mt_disk::Device;
 use mt_frame::{MasterSlot, Record};
 use mt_log::Log;
 
-// Tells the pool of the images with which an area begins.
+// Notes in the pool the images with which an area begins.
 fn note_images(pool: &mut Pool, images: &[Record])
     requires pool { IsPool pool.old }
     requires new { (q : ℕ) → waits_for pool.old q ≡ 0 }

@@ -78,7 +78,7 @@ impl Pool {
     ghost use Rattle.mt_pool.specs.Views.{IsPool, IsThere, view, pages};
     ghost use Rattle.mt_pool.specs.Writes.{due_image, IsEdited};
 
-    /// A copy of the page, in a frame, where the area has no image of it yet.
+    /// A copy of the page, in a frame, if the area has no image of it yet.
     pub(crate) fn due_image(&self, alloc: Global, page: PageNo) -> Result<Option<Bytes>, AllocError>
         requires pool { IsPool self.now }
         requires there { IsThere self.now page }

@@ -1,4 +1,4 @@
-// The pages of the pool, as plans read them.
+// The pages of the pool, as plans read them. A page in no frame is not at hand.
 ghost use Rattle.std.specs.Prelude.{◌≡◌, List, ℕ, IfSome, IfNone, Some, None};
 
 use crate::Pool;

@@ -64,7 +64,7 @@ impl<D: Device> Store<D> {
 
     /// A store over a device that this master slot rules, with so many pages in frames. What is on the device is
     /// synced, and then the log's area begins anew without images. So the pages as they are now are those to be had
-    /// after a crash. Refusals are [`Refusal::NoMemory`] and, where the device failed in this call,
+    /// after a crash. Refusals are [`Refusal::NoMemory`] and, if the device failed in this call,
     /// [`Refusal::DeviceFailed`]; each hands the device back. No byte outside of the area is touched in any case.
     pub fn begin(
         alloc: Global,
@@ -83,7 +83,7 @@ impl<D: Device> Store<D> {
         ensures frames { IfOk result (λ store. frames_of store.pool ≡ frames) }
         ensures cause { IfErr result (λ gone. (gone.refusal ≡ Refusal.NoMemory)
             ⊎ (gone.refusal ≡ Refusal.DeviceFailed) × (D.faults device < D.faults gone.device)) }
-        // Where memory was wanting no byte has changed.
+        // If memory was wanting no byte has changed.
         ensures memory { IfErr result (λ gone. gone.refusal ≡ Refusal.NoMemory → D.seen gone.device ≡ D.seen device) }
         // Whenever a crash comes in this call, it leaves what it might have left before, but for the area.
         ensures moments { LeavesOnly D.moment D.left_since device (device_after result)
@@ -132,7 +132,7 @@ impl<D: Device> Store<D> {
     ghost use Rattle.mt_pool.specs.declared.flushes.Flushed.TheVariants as flushed;
 
     /// A step of the log's force, as [`Log::force_step`] makes it: at most one device call, and no memory. The only
-    /// refusal is [`Refusal::DeviceFailed`], where the device failed in this call or in an earlier force; what
+    /// refusal is [`Refusal::DeviceFailed`], if the device failed in this call or in an earlier force; what
     /// is durable stays.
     pub fn force_step(&mut self) -> Result<Forced, Refusal>
         requires kept { HasOpening D.seen D.may_leave self.old }
@@ -158,7 +158,7 @@ impl<D: Device> Store<D> {
         ensures cause { IsErr result → (D.faults self.old.device < D.faults self.new.device
             ⊎ (has_failed self.old.log ≡ true)) }
         ensures quiet { IsOk result → D.faults self.new.device ≡ D.faults self.old.device }
-        // Idle tells that every record is durable.
+        // `Idle` means that every record is durable.
         ensures idle { result ≡ Ok forced.Idle → length (durable self.old.log) ≡ length (appended self.old.log) }
         ensures only_device { IfErr result (λ why. why ≡ Refusal.DeviceFailed) }
     {
@@ -225,8 +225,8 @@ impl<D: Device> Store<D> {
         self.pool.fetch(&mut self.device, page)
     }
 
-    /// Copies a page's bytes as they are, as [`Pool::copy`] does: no frame is taken, and it takes no memory. The only error
-    /// is the device's; all views stand then, and `bytes` may hold anything.
+    /// Copies a page's bytes as they are, as [`Pool::copy`] does: no frame is taken, and it takes no memory. The only
+    /// error is the device's; all views stand then, and `bytes` may hold anything.
     pub fn copy(&mut self, page: PageNo, bytes: &mut [u8; 4096]) -> Result<(), DeviceFault>
         requires kept { HasOpening D.seen D.may_leave self.old }
         requires inside { page < pages self.old.pool }
@@ -291,7 +291,7 @@ impl<D: Device> Store<D> {
     }
 
     /// Writes a change of a page that is in a frame. First comes a log record for each of its ranges, with the page's
-    /// old bytes and its new ones. The first of them has the page's image where the area has none yet. Then come the
+    /// old bytes and its new ones. The first of them has the page's image if the area has none yet. Then come the
     /// bytes in the frame. The page waits for the last of these records.
     ///
     /// The only refusal is [`Refusal::NoMemory`], and nothing is appended or written then.

@@ -10,8 +10,8 @@ use Rattle.mt_replay.specs.Told.{calls_of, op_of, Finished, losers, stands_for}
 use Rattle.mt_replay.specs.Recoverable.{IsRecoverable, pages_held}
 use Rattle.mt_replay.specs.Undoing.{UndoesAll, Finds}
 
--- Over records that are recoverable the losers' operations, undone by inverses, the latest end first, lead to good pages
--- that hold the base that the records represent.
+-- Over records that are recoverable the losers' operations, undone by inverses, the latest end first, lead to good
+-- pages that hold the base that the records represent.
 abbrev pub RestartFindsBase : Type 0
 RestartFindsBase =
     (relations counters total bytes : ℕ) (opening k : PageBytes) (records : List Record) (b : Base)

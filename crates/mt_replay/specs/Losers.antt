@@ -37,7 +37,8 @@ pub record HasEnded (batches : List Batch) (l : Loser) : Type 0 where
   pub end : Contains batch.records.items (OpEnd l.txn l.op 0 l.done)
   pub grammar : IsOperation l.done
 
--- what these records tell: the losers, the latest end first, the transactions that end, and the operations that inverses name
+-- what these records say: the losers, the latest end first, the transactions that end, and the operations that
+-- inverses name
 pub record HasTold (x : Telling) (records : List Record) : Type 0 where
   pub losers : all_finished (reverse x.losers.items) ≡ losers records
   pub ended : (t : ℕ) → contains nat_cmp x.ended t ≡ some_record (ends_txn t) records
@@ -58,8 +59,8 @@ pub record HasUndone (old : List (List ℕ)) (losers : List Loser) (new : List (
       → (k : PageBytes) × AreFirst new k × IsGood relations counters (length old) k
       × UndoesAll relations counters (length old) f (all_finished losers) k
 
--- The pass stops at the loser of this place: on the pages that the inverses of those after it leave, whatever base they
--- hold, its inverse does not find what its record says, or no free pages.
+-- The pass stops at the loser of this place: on the pages that the inverses of those after it leave, whatever base
+-- they hold, its inverse does not find what its record says, or no free pages.
 pub record StopsAt (pages : List (List ℕ)) (losers : List Loser) (at : ℕ) : Type 0 where
   pub front : List Loser
   pub loser : Loser

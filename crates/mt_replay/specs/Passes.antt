@@ -114,12 +114,13 @@ left (r ∷ rs) = filter (stays rs) (change_by r) ++ left rs
 abbrev pub AreKnown : (ℕ → Bool) → List Change → Type 0
 AreKnown known cs = AllByRecursion (λ (c : Change). known c.op ≡ true) cs
 
--- these pages, with what the records leave unfinished put back, are in memory, and the known operations that do not end there
+-- these pages, with what the records leave unfinished put back, are in memory, and the known operations that do not
+-- end there
 pub record IsBackTo (known : ℕ → Bool) (t : TakingBack) (records : List Record) (f : PageBytes) : Type 0 where
   pub pages : AreFirst t.pages.items (put_back (left records) f)
   pub open_ones : (o : ℕ) → is_some (get nat_cmp t.«open» o) ≡ (known o && not (some_record (ends_it o) records))
 
--- so with these records before the others, where the operations of what they leave unfinished are known
+-- so with these records before the others, if the operations of what they leave unfinished are known
 pub record Backs (records : List Record) (old new : TakingBack) : Type 0 where
   pub whole : AreWhole new.pages.items
   pub count : length new.pages.items ≡ length old.pages.items

@@ -1,5 +1,5 @@
--- What every beginning of a log's records has to have, so that a restart over it finds the base that it represents. It
--- speaks of the opening pages and the records alone.
+-- What every beginning of a log's records has to have, so that a restart over it finds the base that it represents.
+-- It speaks of the opening pages and the records alone.
 use Rattle.std.specs.Prelude.{◌≡◌, ◌+◌, ◌*◌, ◌<◌, ◌≤◌, ℕ, List, [], ◌∷◌, ◌++◌, length}
 use Rattle.std.specs.List.{AllByRecursion}
 use Rattle.mt_base.specs.declared.limits.TheConstants.{PAGE_BYTES}
@@ -57,7 +57,8 @@ abbrev pub inverse_images : ℕ
 inverse_images = 8 * (24 + PAGE_BYTES)
 
 -- A restart over these records finds the base that they represent, after the first base of the opening pages. In an
--- area of `bytes` bytes the images of all pages that the losers' inverses change fit into the first batch of another one.
+-- area of `bytes` bytes the images of all pages that the losers' inverses change fit into the first batch of another
+-- one.
 pub record IsRecoverable (relations counters total bytes : ℕ) (opening : PageBytes) (first : Base) (records : List Record) : Type 0 where
   pub leads : LeadsOn relations counters total opening records
   pub serial : IsSerial first records

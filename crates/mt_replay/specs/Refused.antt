@@ -76,7 +76,7 @@ pub data BreaksFormat (c : List ℕ) (at : ℕ) : Type 0 where
   in_log : BreaksLog c at → BreaksFormat c at
   behind : (slot : MasterSlot) (batches : List Batch) (held : List (List ℕ)) (list : List Loser) → AreRepeated c slot batches held list → StopsUndoing held list at → BreaksFormat c at
 
--- the cause of a refusal of these bytes, in a call in which the device failed or did not, where rules are broken so
+-- the cause of a refusal of these bytes, in a call in which the device failed or did not, if rules are broken so
 abbrev pub IsCause : (List ℕ → ℕ → Type 0) → List ℕ → Type 0 → Refusal → Type 0
 IsCause Breaks c failed NoMemory = Unit {0}
 IsCause Breaks c failed DeviceFailed = failed

@@ -19,8 +19,8 @@ use Rattle.mt_replay.specs.Memory.{AreFirst}
 use Rattle.mt_base.specs.Limits.{IsRelationCount}
 use Rattle.mt_steps.specs.Plans.{IsGood}
 
--- The ruling slot names the area; the area's batches and the page slots give each page as the area found it: its first
--- image, or its slot where there is none.
+-- The ruling slot names the area; the area's batches and the page slots give each page as the area found it: its
+-- first image, or its slot if there is none.
 pub record IsReadAs (c : List ℕ) (slot : MasterSlot) (opening : PageBytes) (batches : List (List Record)) : Type 0 where
   pub rules : IsRuling c slot
   pub held : HoldsBatches c (area_start slot) (area_end slot) slot.pages batches

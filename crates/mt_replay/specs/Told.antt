@@ -1,4 +1,4 @@
--- What the records of a log's area tell of operations and transactions, without any page.
+-- What the records of a log's area say of operations and transactions, without any page.
 use Rattle.std.specs.Prelude.{◌==◌, ◌||◌, if◌then◌else◌, not, Bool, ℕ, neg_ℤ, List, [], ◌∷◌, ◌++◌, filter, map}
 use Rattle.mt_frame.specs.declared.records.LoggedOp.{LoggedOp}
 use Rattle.mt_frame.specs.declared.records.LoggedOp.TheVariants as logged
@@ -29,7 +29,7 @@ reply_in (logged.Add c d) = Done
 abbrev pub call_of : LoggedOp → Call
 call_of done = (op_of done, reply_in done)
 
--- the operation that takes it back, and its reply where it finds what the record says
+-- the operation that takes it back, and its reply if it finds what the record says
 abbrev pub undo_of : LoggedOp → Op
 undo_of (logged.Insert r k v) = Delete r k
 undo_of (logged.Update r k v old) = Update r k old

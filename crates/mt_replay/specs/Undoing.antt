@@ -1,4 +1,5 @@
--- The last pass of a restart: the losers' operations are undone by inverses, the latest end first, and nothing is logged.
+-- The last pass of a restart: the losers' operations are undone by inverses, the latest end first, and nothing is
+-- logged.
 use Rattle.std.specs.Prelude.{◌≡◌, ◌+◌, ◌<◌, ◌≤◌, ℕ, false, List, [], ◌∷◌, length, Option, Some, None}
 use Rattle.mt_base.specs.declared.limits.TheConstants.{MAX_WRITTEN_PAGES}
 use Rattle.std.specs.List.{AllByRecursion}
@@ -26,9 +27,9 @@ abbrev pub IsRoom : ℕ → ℕ → PageBytes → Option ℕ → Type 0
 IsRoom total bytes pages (Some p) = Takes total bytes pages p
 IsRoom total bytes pages None = 1 ≤ bytes → (p : ℕ) → Takes total bytes pages p → ⊥
 
--- The inverse of what is logged is one act on these pages, which finds there what the record says. Its record goes into a
--- page of records with room, and into a new one only if no page has room. It splits no bucket, and gives the page back
--- that it leaves without a record.
+-- The inverse of what is logged is one act on these pages, which finds there what the record says. Its record goes
+-- into a page of records with room, and into a new one only if no page has room. It splits no bucket, and gives the
+-- page back that it leaves without a record.
 pub record UndoesOne (relations counters total : ℕ) (before : PageBytes) (done : LoggedOp) (after : PageBytes) : Type 0 where
   pub replies : (b : Base) → Holds before b → reply_of b (undo_of done) ≡ reply_back done
   pub base : (b : Base) → Holds before b → Holds after (base_after b (undo_of done))

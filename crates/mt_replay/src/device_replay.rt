@@ -1,4 +1,5 @@
-// From the bytes of a device to the pages that they represent.
+// From the bytes of a device to the pages that they represent: the passes of a restart, one after the other.
+// mt_restart calls it. The device is only read.
 ghost use Rattle.std.specs.Prelude.{◌≡◌, ◌⊎◌, ◌<◌, ◌≤◌, ℕ, List, ◌^◌, length, IfOk, IfErr, Err};
 ghost use Rattle.mt_base.specs.declared.limits.TheConstants.{MAX_PAGES};
 ghost use Rattle.mt_base.specs.declared.refusal.Refusal.{Refusal};
@@ -39,8 +40,8 @@ pub struct Replayed {
     pub restored: Restored,
 }
 
-/// The batches of the log area that the ruling slot names, in their order, each at its place. The device is only read,
-/// and its content is as before in any case.
+/// The batches of the log area that the ruling slot names, in their order, each at its place. The device is only
+/// read, and its content is as before in any case.
 ///
 /// Refusals are [`Refusal::NoMemory`]; [`Refusal::DeviceFailed`], if and only if the device failed in this call; and
 /// [`Refusal::BadFormat`] with the place where a batch breaks a rule, as [`scan`] says.
@@ -141,8 +142,8 @@ pub fn replay<D: Device>(alloc: Global, device: &mut D) -> Result<Replayed, Refu
 /// page is looked at.
 ///
 /// Refusals are [`Refusal::NoMemory`]; [`Refusal::DeviceFailed`], if and only if the device failed in this call;
-/// [`Refusal::NotFormatted`] and [`Refusal::BadFormat`] of a slot or a batch, as [`ruling_slot`] and [`scan`] say. The
-/// device is only read, and its content is as before in any case.
+/// [`Refusal::NotFormatted`] and [`Refusal::BadFormat`] of a slot or a batch, as [`ruling_slot`] and [`scan`] say.
+/// The device is only read, and its content is as before in any case.
 pub fn read_log<D: Device>(alloc: Global, device: &mut D) -> Result<(MasterSlot, Figures), Refusal>
     ensures log { IfOk result (λ log. IsLog (D.seen device.old) log.0 log.1) }
     ensures no_other_refusal { (relations counters : ℕ) (b : Base)

@@ -1,4 +1,4 @@
-// What the batches of an area come to, in figures.
+// How many batches, records and commits an area has. mt_restart reports them.
 ghost use Rattle.std.specs.Prelude.{◌≡◌, ◌<◌, ◌^◌, length, count_by};
 ghost use Rattle.mt_log.specs.Batch.{joined};
 ghost use Rattle.mt_log.specs.Found.{records_of};

@@ -19,7 +19,7 @@ use mt_frame::Record;
 use mt_log::Batch;
 use std::alloc::Global;
 
-// A page's image, where the record carries one.
+// A page's image, if the record carries one.
 fn lay_one(pages: &mut Vec<[u8; 4096]>, entry: &Record)
     requires whole { AreWhole pages.old.items }
     requires grammar { IsRecord entry.now }
@@ -49,7 +49,7 @@ fn lay_records(pages: &mut Vec<[u8; 4096]>, records: &[Record])
     }
 }
 
-// The first image of each page over it, where the area has one.
+// The first image of each page over it, if the area has one.
 pub(crate) fn lay_images(pages: &mut Vec<[u8; 4096]>, batches: &[Batch])
     requires whole { AreWhole pages.old.items }
     requires each { AreBatches (length pages.old.items) (records_of batches.now) }

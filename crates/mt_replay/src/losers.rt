@@ -1,4 +1,4 @@
-// What an area's records tell of transactions: the operations that a restart has to undo.
+// What an area's records say of transactions: the operations that a restart has to undo.
 ghost use Rattle.std.specs.Prelude.{◌≡◌, ◌==◌, ◌&&◌, ◌||◌, ◌∷◌, [], ℕ, reverse, Contains, IfOk, OnOk, IfErr};
 ghost use Rattle.std.specs.BTreeSet.{contains};
 ghost use Rattle.std.specs.List.{AllByRecursion};
@@ -32,8 +32,8 @@ pub struct Loser {
     pub done: LoggedOp,
 }
 
-/// What the records from a place on tell: the losers among them, the latest end first, and the transactions that end
-/// there. It tells the operations, each after its transaction, that a finished inverse names. Each record costs a
+/// What the records from a place on say: the losers among them, the latest end first, and the transactions that end
+/// there. It has the operations, each after its transaction, that a finished inverse names. Each record costs a
 /// look-up or two in ordered sets.
 #[derive(Drop)]
 pub(crate) struct Telling {
@@ -64,7 +64,7 @@ fn note_undone(set: &mut BTreeSet<(u64, u64)>, txn: TxnNo, op: u64) -> Result<()
 }
 
 impl Telling {
-    // What no records tell.
+    // What is known after the last record: nothing.
     fn new(alloc: Global) -> Telling
         ensures told { HasTold result [] }
         ensures none { result.losers.items ≡ [] }
@@ -108,7 +108,7 @@ impl Telling {
         Ok(())
     }
 
-    // The record of a batch before those that were told.
+    // The record of a batch before those that are known.
     fn tell_one(&mut self, batch: &Batch, entry: &Record) -> Result<(), Refusal>
         requires among { Contains batch.now.records.items entry.now }
         requires grammar { IsRecord entry.now }

@@ -1,4 +1,5 @@
 // Whether all pages of a device break no rule of their formats, whatever their bytes are.
+// `undo_pass` asks this before it plans over pages that a device had.
 ghost use Rattle.std.specs.Prelude.{◌≡◌, ◌⊎◌, ◌+◌, ◌*◌, ◌<◌, ◌≤◌, ℕ, length, IfOk, IfSome, MatchBool, MatchOption};
 ghost use Rattle.mt_replay.specs.declared.page_rules.TheConstants.{MAX_SLOTS};
 ghost use Rattle.mt_base.specs.declared.limits.TheConstants.{MAX_PAGES, PAGE_BYTES};

@@ -1,4 +1,5 @@
-// From the bytes of a device to the pages held.
+// From the bytes of a device to the pages held: history is repeated, and what is unfinished is put back.
+// The losers are undone afterwards, in `undo_pass`.
 ghost use Rattle.std.specs.Prelude.{◌+◌, ◌*◌, ◌≤◌, length};
 ghost use Rattle.mt_base.specs.declared.limits.TheConstants.{MASTER_BYTES, PAGE_BYTES};
 ghost use Rattle.mt_log.specs.Batch.{joined};
@@ -16,12 +17,12 @@ use std::alloc::Global;
 /// The pages held, of so many pages of a device, with the batches that a scan of its ruling area found. History is
 /// repeated over the pages as the area found them. What is unfinished is put back, the last change first.
 ///
-/// A page as the area found it is its first image there, or its slot's bytes where there is none. All records are
-/// repeated, those of transactions that will be undone among them (Mohan 1992). Each costs a look-up or two in ordered
-/// maps, however many operations have not ended.
+/// A page as the area found it is its first image there, or its slot's bytes if there is none. All records are
+/// repeated, those of transactions that will be undone among them (Mohan 1992). Each costs a look-up or two in
+/// ordered maps, however many operations have not ended.
 ///
-/// The refusals are [`Refusal::NoMemory`], and [`Refusal::DeviceFailed`] if and only if the device failed in this call.
-/// The device is only read, and its content is as before in any case.
+/// The refusals are [`Refusal::NoMemory`], and [`Refusal::DeviceFailed`] if and only if the device failed in this
+/// call. The device is only read, and its content is as before in any case.
 pub(crate) fn held_pages<D: Device>(
     alloc: Global,
     device: &mut D,

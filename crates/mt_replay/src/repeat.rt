@@ -240,8 +240,8 @@ impl Repeating {
 }
 
 impl TakingBack {
-    // The record before those that were passed. The last changes of an operation that is unfinished are those that it has
-    // not ended: no end of it stands after them.
+    // The record before those that were passed. The last changes of an operation that is unfinished are those that it
+    // has not ended: no end of it stands after them.
     fn pass_one(&mut self, entry: &Record)
         requires whole { AreWhole self.old.pages.items }
         requires grammar { IsRecord entry.now }

@@ -1,4 +1,4 @@
-// The last pass of a restart: inverses on pages in memory, which are not logged.
+// The last pass of a restart: inverses of the losers, on pages in memory. Nothing of it is logged.
 ghost use Rattle.std.specs.Prelude.{◌≡◌, ◌↔◌, ◌⊎◌, ◌<◌, ◌≤◌, ◌+◌, ◌*◌, [], ℕ, All, true, false, length, get_or, Ok, Err, IsTrue, IfOk, IfErr, OnErr};
 ghost use Rattle.std.specs.List.{AllByRecursion};
 ghost use Rattle.mt_base.specs.declared.limits.TheConstants.{MASTER_BYTES, MAX_PAGES, PAGE_BYTES};
@@ -141,7 +141,7 @@ fn make_all(pages: &mut Vec<[u8; 4096]>, changes: &Changes)
 impl Restored {
     ghost use Rattle.mt_replay.specs.Losers.{HasUndone, StopsAt};
 
-    /// Takes all pages of a device, where they break no rule of their formats and of the index. Each entry names a
+    /// Takes all pages of a device, if they break no rule of their formats and of the index. Each entry names a
     /// record of its relation and key, and each record has one entry. Each bucket page stands in the chain of its
     /// keys.
     ///
@@ -171,7 +171,7 @@ impl Restored {
         }
     }
 
-    // A page of records that takes a record of so many bytes; `None` if none does, and where there is no record.
+    // A page of records that takes a record of so many bytes; `None` if none does, and if there is no record.
     fn room_for(&self, bytes: usize) -> Option<PageNo>
         ensures { (f : PageBytes) → AreFirst self.now.pages.items f
             → IsRoom (length self.now.pages.items) bytes f result }
@@ -216,11 +216,11 @@ impl Restored {
         }
     }
 
-    /// Undoes a finished operation by its inverse, which splits no bucket of the index. Its record goes into a page of
-    /// records with room, and into a new page only if no page has room. It gives back each page that it leaves
+    /// Undoes a finished operation by its inverse, which splits no bucket of the index. Its record goes into a page
+    /// of records with room, and into a new page only if no page has room. It gives back each page that it leaves
     /// without a record, and changes eight pages at most.
     ///
-    /// `false` tells that the inverse does not find what the record says, or too few free pages. It tells too that
+    /// `false` means that the inverse does not find what the record says, or too few free pages. It means too that
     /// the relation or counter is not there. The pages, or the record, are none that a kernel left. The only refusal
     /// is [`Refusal::NoMemory`]. The pages are as before in both cases.
     pub fn undo(&mut self, alloc: Global, done: &LoggedOp) -> Result<bool, Refusal>

@@ -10,8 +10,8 @@ use Rattle.mt_space.specs.Rooms.{reserved_of}
 use Rattle.mt_steps.specs.Counters.{count_in}
 use Rattle.mt_restart.specs.declared.beside.Beside.{Beside}
 
--- It is made for these pages: a pool of so many frames, none of which holds a page; what operations keep where none is under
--- way; and the counters of the third page, to which no add is pending.
+-- It is made for these pages: a pool of so many frames, none of which holds a page; what operations keep if none is
+-- under way; and the counters of the third page, to which no add is pending.
 pub record IsBeside (items : List (List ℕ)) (frame_count : ℕ) (b : Beside) : Type 0 where
   pub pool : IsPool b.pool
   pub shows : (c : List ℕ) → MASTER_BYTES + PAGE_BYTES * length items ≤ length c → Shows b.pool c

@@ -64,7 +64,8 @@ pub record AreFirst {D : Type 0} (seen : D → List ℕ) (may_leave : D → List
   pub well : has_failed o.store.log ≡ false
   pub size : area_size o.store.log ≡ mib_in s * MIB_BYTES
 
--- Operations over a device that was formatted, and an escrow of the schema's counters: they begin on pages that hold its first base.
+-- Operations over a device that was formatted, and an escrow of the schema's counters: they begin on pages that hold
+-- its first base.
 pub record AreFresh {D : Type 0} (seen : D → List ℕ) (may_leave : D → List ℕ → Type 0) (s : Schema) (o : Operations D) (e : Escrowed) : Type 0 where
   pub device : D
   pub formatted : IsFormattedAs s (seen device)

@@ -68,8 +68,9 @@ first_slot s = record { epoch = 1; area = 0; pages = pages_in s; mib = mib_in s 
 abbrev pub empty_area : List ℕ
 empty_area = OPEN_GATE ∷ 0 ∷ 0 ∷ 0 ∷ 0 ∷ 0 ∷ []
 
--- The content of a device of this schema: master slot 0 rules, as the other one's gate is closed; log area 0 has nothing but its
--- empty first batch; and the pages, of which those after the first four are zero, hold the schema's first base.
+-- The content of a device of this schema: master slot 0 rules, as the other one's gate is closed; log area 0 has
+-- nothing but its empty first batch; and the pages, of which those after the first four are zero, hold the schema's
+-- first base.
 pub record IsFormattedAs (s : Schema) (c : List ℕ) : Type 0 where
   pub long : device_bytes s ≤ length c
   pub master : Has c 0 (slot_text (first_slot s))
@@ -112,13 +113,13 @@ pub record IsReady (s : Schema) (c : List ℕ) : Type 0 where
 abbrev pub IsFormattedOrShut : Schema → List ℕ → Type 0
 IsFormattedOrShut s c = IsShut c ⊎ IsFormattedAs s c
 
--- What a crash leaves of a device while it is formatted: one of these contents, but for the gates of the master slots; then no
--- open master slot; at last the schema's format.
+-- What a crash leaves of a device while it is formatted: one of these contents, but for the gates of the master
+-- slots; then no open master slot; at last the schema's format.
 abbrev pub FormatBegins : Schema → (List ℕ → Type 0) → List ℕ → Type 0
 FormatBegins s contents c = ButForGates contents c ⊎ IsFormattedOrShut s c
 
--- The schema's first pages and an empty log area are there, and a crash leaves them; or the device failed. No master slot opens
--- meanwhile.
+-- The schema's first pages and an empty log area are there, and a crash leaves them; or the device failed. No master
+-- slot opens meanwhile.
 pub record WritesContent {D : Type 0} (seen : D → List ℕ) (may_leave : D → List ℕ → Type 0) (moment : D → ℕ) (left_since : D → ℕ → List ℕ → Type 0) (failures : D → ℕ) {T F : Type 0} (s : Schema) (d e : D) (r : Result T F) : Type 0 where
   pub pages : OnOk r (HasFirstPages s (seen e))
   pub area : OnOk r (Has (seen e) (pages_end s) empty_area)

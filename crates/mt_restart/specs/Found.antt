@@ -23,8 +23,8 @@ use Rattle.mt_restart.specs.declared.restart_writes.Marks.{Marks}
 
 -- ---- before the first write
 
--- The ruling area holds these batches; marked are the pages with an image there, and those that are lost without one in the
--- next area.
+-- The ruling area holds these batches; marked are the pages with an image there, and those that are lost without one
+-- in the next area.
 pub record AreMarked (c : List ℕ) (ruling : MasterSlot) (items : List (List ℕ)) (batches : List (List Record)) (m : Marks) : Type 0 where
   pub rules : IsRuling c ruling
   pub held : HoldsBatches c (area_start ruling) (area_end ruling) ruling.pages batches
@@ -64,7 +64,8 @@ pub record IsNextLog {D : Type 0} (seen : D → List ℕ) (may_leave : D → Lis
   pub well : has_failed log ≡ false
   pub sound : IsSound ruling.pages log
 
--- The next area has begun with these images, beside the one that rules; the pages without an image there are in their slots.
+-- The next area has begun with these images, beside the one that rules; the pages without an image there are in their
+-- slots.
 pub record HasBegun {D : Type 0} (seen : D → List ℕ) (may_leave : D → List ℕ → Type 0) (ruling : MasterSlot) (items : List (List ℕ)) (m : Marks) (device : D) (log : Log) : Type 0 where
   pub next : IsNextLog seen may_leave ruling m.images.items device log
   pub only : Only (seen device) (may_leave device)

@@ -19,8 +19,8 @@ pub record TellsLost (bytes : List ℕ) (imaged : Bool) (c : List ℕ) (p : ℕ)
   pub lost : told ≡ true → (imaged ≡ false) × (slot MASTER_BYTES c p ≢ bytes)
   pub kept : told ≡ false → imaged ≡ false → slot MASTER_BYTES c p ≡ bytes
 
--- Marked are the pages that have no image and other bytes than their slots, or memory ran out or the device failed. The device
--- is only read.
+-- Marked are the pages that have no image and other bytes than their slots, or memory ran out or the device failed.
+-- The device is only read.
 pub record FindsLost {D : Type 0} (seen : D → List ℕ) (may_leave : D → List ℕ → Type 0) (moment : D → ℕ) (left_since : D → ℕ → List ℕ → Type 0) (failures : D → ℕ) (pages : List (List ℕ)) (imaged : List Bool) (d e : D) (r : Result (Vec Bool Global) Refusal) : Type 0 where
   pub marks : IfOk r (λ marks. MarksLost pages imaged (seen d) marks.items)
   pub reads : OnlyReads seen may_leave moment left_since d e

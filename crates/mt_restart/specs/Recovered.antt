@@ -26,8 +26,8 @@ pub record AreRestored (c : List ℕ) (items : List (List ℕ)) : Type 0 where
   pub figures : Figures
   pub replayed : IsReplayed c slot figures items
 
--- What is found in these bytes: pages that break no rule, the marks by which the log can turn over, and all that is in memory
--- beside the device, with so many frames.
+-- What is found in these bytes: pages that break no rule, the marks by which the log can turn over, and all that is
+-- in memory beside the device, with so many frames.
 pub record IsFound (c : List ℕ) (frames : ℕ) (f : Findings) : Type 0 where
   pub restored : AreRestored c f.restored.pages.items
   pub batches : List (List Record)
@@ -37,8 +37,8 @@ pub record IsFound (c : List ℕ) (frames : ℕ) (f : Findings) : Type 0 where
   pub prepared : IsPrepared f.ruling f.marks.images.items f.prepared
   pub beside : IsBeside f.restored.pages.items frames f.beside
 
--- The log cannot turn over: the ruling slot has the last epoch, or the next area has no room for the images of pages that
--- are in no slot and in no image of the ruling one.
+-- The log cannot turn over: the ruling slot has the last epoch, or the next area has no room for the images of pages
+-- that are in no slot and in no image of the ruling one.
 pub record CannotTurn (c : List ℕ) : Type 0 where
   pub ruling : MasterSlot
   pub figures : Figures
@@ -49,7 +49,8 @@ pub record CannotTurn (c : List ℕ) : Type 0 where
   pub marked : AreMarked c ruling items batches marks
   pub none : CanTurn ruling marks.images.items → ⊥
 
--- The log has turned over: the next area rules, with images of some pages and no other record, and each page is in its slot.
+-- The log has turned over: the next area rules, with images of some pages and no other record, and each page is in
+-- its slot.
 pub record IsRecovered {D : Type 0} (seen : D → List ℕ) (may_leave : D → List ℕ → Type 0) (frames : ℕ) (device : D) (r : Recovered) : Type 0 where
   pub ruling : MasterSlot
   pub next : r.ruling ≡ next_slot ruling
@@ -64,13 +65,13 @@ pub record IsRecovered {D : Type 0} (seen : D → List ℕ) (may_leave : D → L
 abbrev pub StandsStill : {D : Type 0} → (D → List ℕ → Type 0) → ℕ → ℕ → Base → D → List ℕ → Type 0
 StandsStill may_leave relations counters b device c = may_leave device c ⊎ CanRestart relations counters c b
 
--- Why these bytes are refused, in a call in which the device failed or did not: that a rule of their formats is broken, that the
--- log cannot turn over, or no reason of theirs.
+-- Why these bytes are refused, in a call in which the device failed or did not: that a rule of their formats is
+-- broken, that the log cannot turn over, or no reason of theirs.
 abbrev pub IsCauseToStop : List ℕ → Type 0 → Refusal → Type 0
 IsCauseToStop c failed why = IsCause BreaksFormat c failed why ⊎ ((why ≡ LogFull) × CannotTurn c)
 
--- What a recovery needs is found, with pages that show the base for which the bytes stand; or the cause is reported. The device is
--- only read.
+-- What a recovery needs is found, with pages that show the base for which the bytes stand; or the cause is reported.
+-- The device is only read.
 pub record FindsAll {D : Type 0} (seen : D → List ℕ) (may_leave : D → List ℕ → Type 0) (moment : D → ℕ) (left_since : D → ℕ → List ℕ → Type 0) (failures : D → ℕ) (frames : ℕ) (d e : D) (r : Result Findings Refusal) : Type 0 where
   pub found : IfOk r (IsFound (seen d) frames)
   pub shows : (relations counters : ℕ) (b : Base) → CanRestart relations counters (seen d) b → IfOk r (λ found. ShowsBase relations counters found.restored.pages.items b)
@@ -79,8 +80,8 @@ pub record FindsAll {D : Type 0} (seen : D → List ℕ) (may_leave : D → List
   pub cause : IfErr r (IsCauseToStop (seen d) (failures d < failures e))
   pub quiet : (r ≡ Err Refusal.DeviceFailed → ⊥) → failures e ≡ failures d
 
--- The log has turned over once, with pages that show the base for which the bytes stood; or the cause is reported. All memory is
--- taken before the first write. A crash leaves what represents that base.
+-- The log has turned over once, with pages that show the base for which the bytes stood; or the cause is reported.
+-- All memory is taken before the first write. A crash leaves what represents that base.
 pub record Recovers {D : Type 0} (seen : D → List ℕ) (may_leave : D → List ℕ → Type 0) (moment : D → ℕ) (left_since : D → ℕ → List ℕ → Type 0) (failures : D → ℕ) (frames : ℕ) (d e : D) (r : Result Recovered Refusal) : Type 0 where
   pub recovered : IfOk r (IsRecovered seen may_leave frames e)
   pub restored : IfOk r (λ recovered. AreRestored (seen d) recovered.restored.pages.items)

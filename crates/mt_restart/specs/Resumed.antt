@@ -23,8 +23,8 @@ pub record BeginsOn {D : Type 0} {g : Ghosts D} (seen : D → List ℕ) (may_lea
   pub opened : IsOpened seen may_leave k.relations k.counters b k
   pub same : (m : Base) → IsSame k.counters m b → IsBase m → IsOpened seen may_leave k.relations k.counters m k
 
--- It begins on the pages that a restart in memory makes of these bytes: on each base that they hold, with as many relations and counters
--- as page 2 tells.
+-- It begins on the pages that a restart in memory makes of these bytes: on each base that they hold, with as many
+-- relations and counters as page 2 names.
 pub record BeginsOnRestored {D : Type 0} {g : Ghosts D} (seen : D → List ℕ) (may_leave : D → List ℕ → Type 0) (c : List ℕ) (k : Kernel D g) : Type 0 where
   pub items : List (List ℕ)
   pub restored : AreRestored c items

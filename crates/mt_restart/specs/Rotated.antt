@@ -87,8 +87,8 @@ TellsFaultsOfTurn faults k (Err (Ended why device)) = (why ≡ refusal.DeviceFai
 abbrev pub HasTurnedOnce : {D : Type 0} {g : Ghosts D} → Kernel D g → Kernel D g → Type 0
 HasTurnedOnce k n = n.core.operations.store.ruling ≡ next_slot k.core.operations.store.ruling
 
--- A kernel goes on over its device, which a recovery made one for the next area; or the device is handed back, and why. A crash
--- leaves what represents the book of the kernel.
+-- A kernel goes on over its device, which a recovery made one for the next area; or the device is handed back, and
+-- why. A crash leaves what represents the book of the kernel.
 pub record TurnsOver {D : Type 0} {g : Ghosts D} (seen : D → List ℕ) (may_leave : D → List ℕ → Type 0) (moment : D → ℕ) (left_since : D → ℕ → List ℕ → Type 0) (failures : D → ℕ) (k : Kernel D g) (r : Result (Kernel D g) (Refusal × D)) : Type 0 where
   pub goes_on : IfOk r (GoesOver seen may_leave k)
   pub begun : IfOk r (λ n. AreImages (appended n.core.operations.store.log))

@@ -1,4 +1,5 @@
-// The log turned over to an area that begins with images, device call by device call.
+// The log turned over to an area that begins with images, device call by device call. `recovery` alone calls it,
+// with all memory taken before.
 ghost use Rattle.std.specs.Prelude.{◌≡◌, ◌<◌, ◌^◌, ℕ, List, IfOk, IfErr, OnOk};
 ghost use Rattle.std.specs.List.{AllByRecursion};
 ghost use Rattle.mt_base.specs.declared.refusal.Refusal.{Refusal};

@@ -1,4 +1,5 @@
-// What a kernel has beside its device and its log, made in memory for pages that a restart restored.
+// What a kernel has beside its device and its log: pool, escrow, and what operations keep. It is made of the pages
+// that a restart restored, before anything is written, so that nothing wants memory afterwards.
 ghost use Rattle.std.specs.Prelude.{◌≡◌, ◌≤◌, length, IfOk, IfErr};
 ghost use Rattle.mt_base.specs.declared.limits.TheConstants.{MAX_PAGES};
 ghost use Rattle.mt_base.specs.declared.refusal.Refusal.{Refusal};

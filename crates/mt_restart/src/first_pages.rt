@@ -1,4 +1,4 @@
-// The pages of a device as it is formatted.
+// The pages of a device as it is formatted. `format_calls` writes them; nothing is written here.
 ghost use Rattle.std.specs.Prelude.{◌≡◌, ◌+◌, ◌≤◌, ◌<◌, ℕ, length};
 ghost use Rattle.mt_base.specs.declared.limits.TheConstants.{MAX_COUNTERS, PAGE_BYTES};
 ghost use Rattle.mt_base.specs.Ranges.{Torn};

@@ -116,7 +116,7 @@ fn write_all<D: Device>(device: &mut D, schema: &Schema) -> Result<(), DeviceFau
 /// open master slot, or the schema's format.
 ///
 /// A device that is shorter than the schema needs is refused with [`Refusal::BadLength`], before any call of it. The
-/// only other refusal is [`Refusal::DeviceFailed`], where the device failed in this call. Of a longer device the
+/// only other refusal is [`Refusal::DeviceFailed`], if the device failed in this call. Of a longer device the
 /// bytes after those that the schema needs are as before in any case.
 pub fn format<D: Device>(device: &mut D, schema: &Schema) -> Result<(), Refusal>
     ensures formatted { OnOk result (IsFormattedAs schema.now (D.seen device.new)) }

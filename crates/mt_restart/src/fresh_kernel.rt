@@ -1,4 +1,4 @@
-// A kernel over a device that is formatted for it.
+// A kernel over a device that is formatted for it. What the device had before is lost.
 ghost use Rattle.std.specs.Prelude.{◌≡◌, ◌⊎◌, ◌<◌, length, false, IfOk, IfErr, MatchResult};
 ghost use Rattle.mt_base.specs.declared.refusal.Refusal.{Refusal};
 ghost use Rattle.mt_live.specs.Machine.{start};
@@ -15,9 +15,9 @@ use std::alloc::Global;
 /// Formats a device by the schema, and gives a kernel over it that keeps so many pages in frames. The kernel has not
 /// failed. No transaction is active, the book is empty, and the pages hold no row and each counter at its start.
 ///
-/// Refused, in this order, with the device: 1 for want of memory, 5 where the device is shorter than
-/// [`Schema::device_len`], 2 if and only if it failed. A device that is too short is not touched. After 1 or 2 another
-/// one may be formatted or not.
+/// Refused, in this order, with the device: 1 for want of memory, 5 if the device is shorter than
+/// [`Schema::device_len`], 2 if and only if it failed. A device that is too short is not touched. After 1 or 2
+/// another one may be formatted or not.
 pub fn fresh<D: Device + Drop>(
     alloc: Global,
     device: D,

@@ -1,4 +1,5 @@
-// What is begun over a device that is formatted.
+// The layers over a device that is formatted, from its log up to operations and escrow. `fresh_kernel` asks for them.
+// Memory is taken before the device is written, as far as that can be.
 ghost use Rattle.std.specs.Prelude.{◌≡◌, ◌⊎◌, ◌<◌, length, IfOk, IfErr, MatchResult};
 ghost use Rattle.mt_base.specs.declared.refusal.Refusal.{Refusal};
 ghost use Rattle.mt_disk.specs.Disk.{Only};
@@ -54,8 +55,8 @@ fn first_store<D: Device>(
     }
 }
 
-// The operations over a device as it is formatted, in so many frames: none is under way. Pages are read, and nothing is
-// written. Each refusal hands the device back.
+// The operations over a device as it is formatted, in so many frames: none is under way. Pages are read, and nothing
+// is written. Each refusal hands the device back.
 pub(crate) fn first_operations<D: Device + Drop>(
     alloc: Global,
     device: D,
@@ -81,8 +82,8 @@ pub(crate) fn first_operations<D: Device + Drop>(
     }
 }
 
-// Formats a device, and begins operations over it and an escrow of the schema's counters. What takes memory and can be
-// made before the device is written is made before. Each refusal hands the device back.
+// Formats a device, and begins operations over it and an escrow of the schema's counters. What takes memory and can
+// be made before the device is written is made before. Each refusal hands the device back.
 pub(crate) fn fresh_parts<D: Device + Drop>(
     alloc: Global,
     device: D,

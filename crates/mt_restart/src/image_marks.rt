@@ -98,7 +98,8 @@ fn is_lost<D: Device>(
 
 /// Which pages have no image and other bytes than their slots. The device is only read.
 ///
-/// The refusals are [`Refusal::NoMemory`], and [`Refusal::DeviceFailed`] if and only if the device failed in this call.
+/// The refusals are [`Refusal::NoMemory`], and [`Refusal::DeviceFailed`] if and only if the device failed in this
+/// call.
 pub(crate) fn lost_pages<D: Device>(
     alloc: Global,
     device: &mut D,

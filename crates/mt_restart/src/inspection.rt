@@ -1,4 +1,5 @@
-// What a device's bytes represent, told without a write.
+// What a device's bytes represent, found without a write. The passes of a restart are made in memory, and all pages
+// that they leave are surveyed. mt_cli asks it of a device that nothing is to change.
 ghost use Rattle.std.specs.Prelude.{◌≡◌, ◌⊎◌, ◌<◌, ◌≤◌, ◌+◌, ℕ, List, length, IfErr, IfOk, OnOk, Err};
 ghost use Rattle.mt_base.specs.declared.limits.TheConstants.{MAX_PAGES};
 ghost use Rattle.mt_base.specs.declared.refusal.Refusal.{Refusal};
@@ -84,10 +85,10 @@ fn survey_of(alloc: Global, restored: &Restored) -> Result<Survey, Refusal>
     })
 }
 
-/// Tells what the bytes of a device represent, as a restart would find it, and only reads them. A restart's passes are
-/// made in memory, as [`replay`] says, and the pages that they leave are surveyed.
+/// Answers what the bytes of a device represent, as a restart would find it, and only reads them. A restart's passes
+/// are made in memory, as [`replay`] says, and the pages that they leave are surveyed.
 ///
-/// Of bytes that a kernel left, the survey tells the base that the log's committed transactions lead to. It is then
+/// Of bytes that a kernel left, the survey has the base that the log's committed transactions lead to. It is then
 /// refused only for want of memory or a fault of the device.
 ///
 /// Any bytes are read. If they are answered, the pages break no rule, and every base that they hold is the survey's.
@@ -95,8 +96,8 @@ fn survey_of(alloc: Global, restored: &Restored) -> Result<Survey, Refusal>
 /// It is refused with:
 /// - [`Refusal::NoMemory`];
 /// - [`Refusal::DeviceFailed`], if and only if the device failed in this call;
-/// - [`Refusal::NotFormatted`], if and only if the device is shorter than 8192 bytes or no master slot is open, and no
-///   read failed;
+/// - [`Refusal::NotFormatted`], if and only if the device is shorter than 8192 bytes or no master slot is open, and
+///   no read failed;
 /// - [`Refusal::BadFormat`] with the place where a rule is broken, as [`replay`] says.
 ///
 /// The content of the device is as before in any case.

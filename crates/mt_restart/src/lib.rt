@@ -1,5 +1,5 @@
 //! How a device comes to be one of this program's: what it is formatted with, its format, and the kernel over it. It
-//! is recovered after a crash here, and what is told of its log is read.
+//! is recovered after a crash here, and its log is reported.
 //!
 //! A [`Schema`] says how many pages, relations and counters there are, and how large a log area is. After
 //! [`format`] the device's pages hold a base without rows whose counters are at their starts.

@@ -14,11 +14,11 @@ use mt_disk::Device;
 use mt_replay::read_log;
 use std::alloc::Global;
 
-/// Tells epoch and area of the master slot that rules, and how many batches, records and commits the area holds. No
+/// Reports epoch and area of the master slot that rules, and how many batches, records and commits the area holds. No
 /// page is looked at.
 ///
 /// Refusals are [`Refusal::NoMemory`], and [`Refusal::DeviceFailed`] if and only if the device failed in this call.
-/// [`Refusal::NotFormatted`] is answered where it is shorter than 8192 bytes or no master slot is open.
+/// [`Refusal::NotFormatted`] is answered if it is shorter than 8192 bytes or no master slot is open.
 /// [`Refusal::BadFormat`] has the place of a slot or a batch that breaks a rule. The device is only read: no write,
 /// no sync, and its content is as before in any case.
 pub fn report<D: Device>(alloc: Global, device: &mut D) -> Result<Report, Refusal>

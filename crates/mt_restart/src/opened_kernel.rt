@@ -1,4 +1,4 @@
-// A kernel over a device that was used before.
+// A kernel over a device that was used before, whatever a crash left of it: a recovery, and a kernel over its pages.
 ghost use Rattle.std.specs.Prelude.{◌≡◌, ◌⊎◌, ◌<◌, ℕ, List, false, IfOk, IfErr, MatchResult};
 ghost use Rattle.mt_base.specs.declared.refusal.Refusal.{Refusal};
 ghost use Rattle.mt_disk.specs.Disk.{LeavesOnly};
@@ -77,26 +77,26 @@ fn kernel_over<D: Device + Drop>(alloc: Global, device: D, recovered: Recovered)
 }
 
 /// Gives a kernel over a device that was used before, whatever a crash left of it, with so many pages in frames. No
-/// transaction lives, the book is empty, and the pages hold the base that the bytes stood for. That is what the log's
-/// committed transactions lead to, in the order of their commits.
+/// transaction lives, the book is empty, and the pages hold the base that the bytes represented. That is what the
+/// log's committed transactions lead to, in the order of their commits.
 ///
-/// The device is synced. Then a restart's passes are made in memory. The ruling area's records are repeated, unfinished
-/// operations are put back, and losers are undone by their inverses (Mohan 1992; Weikum 1991). At last the log turns
-/// over to the other area, once. Its first batch has images of the pages that are neither in the ruling area nor in
-/// their slots.
+/// The device is synced. Then a restart's passes are made in memory. The ruling area's records are repeated,
+/// unfinished operations are put back, and losers are undone by their inverses (Mohan 1992; Weikum 1991). At last the
+/// log turns over to the other area, once. Its first batch has images of the pages that are neither in the ruling
+/// area nor in their slots.
 ///
-/// Whenever a crash comes in this call, what it leaves is what it might have left before, or represents the same base.
-/// So a device may be opened again, however often that is cut off.
+/// Whenever a crash comes in this call, what it leaves is what it might have left before, or represents the same
+/// base. So a device may be opened again, however often that is cut off.
 ///
 /// Any bytes are read. If they are answered, the kernel has not failed. It begins on the pages that those passes make
 /// of them, which break no rule of their formats. Each refusal hands the device back:
 /// - [`Refusal::NoMemory`];
 /// - [`Refusal::DeviceFailed`], if and only if the device failed in this call;
 /// - [`Refusal::NotFormatted`] and [`Refusal::BadFormat`], as `replay` of mt_replay says;
-/// - [`Refusal::LogFull`], where the ruling slot has the last epoch, or the images have no room in the next area: never
+/// - [`Refusal::LogFull`], if the ruling slot has the last epoch, or the images have no room in the next area: never
 ///   as the device was formatted.
 ///
-/// Its bytes are as they were, but where it failed.
+/// Its bytes are as they were, but if it failed.
 pub fn open<D: Device + Drop>(
     alloc: Global,
     device: D,

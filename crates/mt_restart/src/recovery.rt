@@ -1,4 +1,5 @@
-// A device made one again that a kernel may begin over.
+// A recovery: whatever a crash left of a device, a kernel may begin over it afterwards. All is read and all memory is
+// taken before the first write. `opened_kernel` and `rotation` call it.
 ghost use Rattle.mt_restart.specs.Recovered.{FindsAll, Recovers};
 
 use crate::area_renewal::{prepare_next, turn};
@@ -63,13 +64,13 @@ fn find<D: Device>(alloc: Global, device: &mut D, frames: usize) -> Result<Findi
 // Makes a device one again that a kernel may begin over, with so many frames, whatever a crash left of it.
 //
 // The device is synced first. Then the passes of a restart are made in memory, as `replay` of mt_replay does, and all
-// memory is taken. At last the log turns over. Pages with an image in the ruling area are written in place, and synced.
-// The other area begins with images of the pages that are neither there nor in their slots. Its master slot comes to
-// rule, and those pages are written in place too.
+// memory is taken. At last the log turns over. Pages with an image in the ruling area are written in place, and
+// synced. The other area begins with images of the pages that are neither there nor in their slots. Its master slot
+// comes to rule, and those pages are written in place too.
 //
 // Whatever a crash leaves in this call, it is what it might have left before, or represents the base that the bytes
-// stood for. After a sync that went well it represents that base. So it may be made again, however often it is cut
-// off.
+// represented before. After a sync that went well it represents that base. So it may be made again, however often it
+// is cut off.
 pub(crate) fn recover<D: Device>(
     alloc: Global,
     device: &mut D,

@@ -1,5 +1,5 @@
-// The figures of a report.
-/// What is told of a device's log.
+// The figures of a report, which `log_report` makes.
+/// What is reported of a device's log.
 #[derive(Clone, Copy, PartialEq, Eq, Debug)]
 pub struct Report {
     /// The epoch of the master slot that rules.

@@ -1,4 +1,5 @@
-// Which pages a restart writes where.
+// Which pages a restart writes: which into their slots, and which as images into the next area.
+// They are marked here by reading alone. `area_renewal` writes them.
 ghost use Rattle.std.specs.Prelude.{◌≡◌, ◌⊎◌, ◌↔◌, ◌<◌, ℕ, List, length, IsTrue, IfOk, IfErr, Err};
 ghost use Rattle.std.specs.List.{AllByRecursion};
 ghost use Rattle.mt_base.specs.declared.refusal.Refusal.{Refusal};

@@ -1,4 +1,5 @@
-// The log of a kernel turned over.
+// Turns the log of a kernel over while no transaction is active. It is forced, the device is recovered, and a kernel
+// with the same book goes on over the other area. mt_locked, mt_alone and mt_world call it.
 ghost use Rattle.std.specs.Prelude.{◌≡◌, false, Err, IfOk, IfErr, None, OnOk, Some};
 ghost use Rattle.mt_base.specs.declared.refusal.Refusal.{Refusal};
 ghost use Rattle.mt_live.specs.Machine.{State};
@@ -19,7 +20,7 @@ use mt_replay::only_own_pages_matter;
 use mt_txn::{Kernel, KernelForced};
 use std::alloc::Global;
 
-/// What is left where a log was not turned over, and the refusal.
+/// What is left if a log was not turned over, and the refusal.
 pub enum NotRotated<D: Device> {
     /// The kernel in the state in which it was. At most its log was forced.
     Kept(Refusal, Kernel<D>),
@@ -69,16 +70,16 @@ fn turn_over<D: Device + Drop>(
 /// Turns the log of a kernel over while no transaction is active, and gives the kernel with so many pages in frames.
 /// The state that it shows goes on: its book, and the numbers of its transactions. The kernel has not failed.
 ///
-/// The log is forced, and the device recovered as [`open`](crate::open) does. It is synced, and its pages are read back
-/// and written in place where they are not. The other area begins and comes to rule, once. Whenever a crash comes in
-/// this call, a restart finds what some of the first commits lead to, with the whole book of the kernel.
+/// The log is forced, and the device recovered as [`open`](crate::open) does. It is synced, and its pages are read
+/// back and written in place if they are not. The other area begins and comes to rule, once. Whenever a crash comes
+/// in this call, a restart finds what some of the first commits lead to, with the whole book of the kernel.
 ///
 /// Refused with the kernel as it was, before anything is done:
-/// - [`Refusal::DeviceFailed`], where its device has failed;
-/// - [`Refusal::Busy`], where a transaction lives.
+/// - [`Refusal::DeviceFailed`], if its device has failed;
+/// - [`Refusal::Busy`], if a transaction lives.
 ///
 /// Then refused with the kernel, whose state is as before:
-/// - [`Refusal::DeviceFailed`], where its device fails in the force;
+/// - [`Refusal::DeviceFailed`], if its device fails in the force;
 /// - [`Refusal::NoMemory`], for the force.
 ///
 /// Then refused with the device, which represents what the book leads to unless it failed:

@@ -1,4 +1,5 @@
-// What a device is formatted with.
+// What a device is formatted with: its pages, the size of a log area, its relations and its counters.
+// A `Schema` has all of them within their limits.
 ghost use Rattle.std.specs.Prelude.{◌≡◌, ◌⊎◌, IfOk, IfErr, IsOk, All, map, length, MatchBool};
 ghost use Rattle.mt_base.specs.Limits.{IsPageCount, IsAreaSize, IsRelationCount, IsCounterCount, IsCounter};
 ghost use Rattle.mt_base.specs.declared.refusal.Refusal.{Refusal};

@@ -1,4 +1,4 @@
-// Pages that are written into their slots.
+// Pages that are written into their slots, with a sync after them or without. `area_renewal` alone calls it.
 ghost use Rattle.std.specs.Prelude.{◌≡◌, ◌+◌, ◌*◌, ◌≤◌, length};
 ghost use Rattle.mt_base.specs.declared.limits.TheConstants.{MASTER_BYTES, MAX_PAGES, PAGE_BYTES};
 ghost use Rattle.mt_restart.specs.Turned.{PutsDurably, PutsInPlace};

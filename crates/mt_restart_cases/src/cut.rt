@@ -1,5 +1,5 @@
-// Each beginning of a device, with zeros after it. An inspection answers it with a base, that there is no format, or with
-// a place where a rule is broken.
+// Each beginning of a device, with zeros after it. An inspection answers it with a base, that there is no format, or
+// with a place where a rule is broken.
 use crate::devices::{device_of, log_end, put, row_schema};
 use crate::events::{A_ROW, events_of};
 use mt_base::Refusal;
@@ -48,7 +48,8 @@ fn with_a_row(alloc: Global) -> Result<MemDevice, Refusal> {
     Ok(device_of(alloc, run.content)?)
 }
 
-// Makes the bytes from `from` on zero, the last one before `to` first, and counts what an inspection answers each time.
+// Makes the bytes from `from` on zero, the last one before `to` first, and counts what an inspection answers each
+// time.
 fn cut_down(
     alloc: Global,
     device: &mut MemDevice,
@@ -100,7 +101,7 @@ const CUTS: Tally = Tally {
     others: 0,
 };
 
-/// Only where nothing is left is no slot open.
+/// Only if nothing is left is no slot open.
 #[test]
 fn each_beginning_of_a_device_is_answered(rt: HostRuntime) -> Result<(), Fail> {
     let told = cuts(rt.alloc())?;

@@ -51,7 +51,7 @@ pub fn put(device: &mut MemDevice, at: usize, bytes: &[u8]) -> Result<(), Refusa
     Ok(())
 }
 
-// The place of the last open batch of the area that begins there, or `start` where there is none.
+// The place of the last open batch of the area that begins there, or `start` if there is none.
 fn last_batch(device: &MemDevice, start: usize) -> usize {
     let bytes = device.bytes();
     let (mut last, mut next) = (start, start);

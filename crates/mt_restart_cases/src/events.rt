@@ -1,5 +1,5 @@
-// Lists of events, as what is done in them. More steps may be made than an operation or an abort has; those are refused
-// and change nothing.
+// Lists of events, as what is done in them. More steps may be made than an operation or an abort has; those are
+// refused and change nothing.
 use mt_base::{Bytes, CtrNo, Refusal, RelNo, TxnNo};
 use mt_model::Op;
 use mt_world::Event;
@@ -69,8 +69,8 @@ pub const A_ROTATION: [Act; 8] = [
     Act::Commit(2),
 ];
 
-/// Thirty rows are committed; of as many others, between which another row is committed, none stays. Pages are written
-/// meanwhile, and a bucket splits.
+/// Thirty rows are committed; of as many others, between which another row is committed, none stays. Pages are
+/// written meanwhile, and a bucket splits.
 pub const A_SPLIT_AND_AN_ABORT: [Act; 14] = [
     Act::Begin,
     Act::Rows(1, 0, 30),
@@ -103,8 +103,8 @@ pub const A_LARGE_SPLIT: [Act; 11] = [
     Act::Force,
 ];
 
-/// Two transactions commit. One of four effects is open then, and an insert of another one is unfinished. Two pages are
-/// written into their slots.
+/// Two transactions commit. One of four effects is open then, and an insert of another one is unfinished. Two pages
+/// are written into their slots.
 pub const FOUR_TRANSACTIONS: [Act; 18] = [
     Act::Begin,
     Act::Insert(1, b"a", b"x", 20),

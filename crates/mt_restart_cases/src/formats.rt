@@ -18,7 +18,8 @@ fn holds(bytes: &[u8], at: usize, text: &[u8]) -> bool {
     }
 }
 
-/// Formats a device of 16 pages that fails at its n-th call: whether it went well, and whether the first gate is open.
+/// Formats a device of 16 pages that fails at its n-th call: whether it went well, and whether the first gate is
+/// open.
 fn failing_at(alloc: Global, n: u64) -> Result<(bool, bool), Refusal> {
     let mut device = FaultDevice::new(full_device(alloc, 8_462_336)?, n);
     let done = format(&mut device, &Schema::new(alloc, 16, 4, 1, &[])?);

@@ -1,5 +1,5 @@
-// Two transactions of 200 inserts over log areas of 64 MiB. The second is taken back, while a row of another session is
-// committed between its inserts.
+// Two transactions of 200 inserts over log areas of 64 MiB. The second is taken back, while a row of another session
+// is committed between its inserts.
 use crate::devices::device_of;
 use crate::events::{A_LARGE_SPLIT, events_of};
 use mt_base::Refusal;
@@ -15,8 +15,8 @@ fn has_key(row: Option<&Row>, key: &[u8]) -> bool {
     row.is_some_and(|row| row.key.as_slice() == key)
 }
 
-// How many commits are acknowledged and how many rows there are then. Then whether the first row is the other session's,
-// the last one is the last of the first transaction, and the directory has doubled.
+// How many commits are acknowledged and how many rows there are then. Then whether the first row is the other
+// session's, the last one is the last of the first transaction, and the directory has doubled.
 fn found(alloc: Global) -> Result<([usize; 2], [bool; 3]), Refusal> {
     let schema = Schema::new(alloc, 64, 64, 2, &[(0, 10, 5)])?;
     let events = events_of(alloc, &A_LARGE_SPLIT)?;

@@ -31,7 +31,7 @@ fn fill(alloc: Global, kernel: &mut Kernel<MemDevice>) -> Result<Told, Refusal> 
     Ok(told)
 }
 
-// Calls the insert of key 58, makes so many steps of it, and aborts it: what it told last.
+// Calls the insert of key 58, makes so many steps of it, and aborts it: what it answered last.
 fn give_up_behind(
     alloc: Global,
     kernel: &mut Kernel<MemDevice>,
@@ -75,7 +75,7 @@ fn is_as_at(kernel: &mut Kernel<MemDevice>, before: &Survey) -> Result<bool, Ref
     Ok(same && now.depth == before.depth && now.free == before.free)
 }
 
-// Gives the insert of key 58 up after no step, after one, and so on, until it has replied. It tells after how many
+// Gives the insert of key 58 up after no step, after one, and so on, until it has replied. It answers after how many
 // it has, and whether all was as before each time until then.
 fn give_up_in_turn(alloc: Global, kernel: &mut Kernel<MemDevice>) -> Result<(u8, bool), Refusal> {
     let before = kernel.survey()?;
@@ -104,7 +104,7 @@ fn a_split_is_taken_back_behind_each_step(rt: HostRuntime) -> Result<(), Fail> {
 
 const NO_MEMORY: Told = Told::Refused(Refusal::NoMemory);
 
-// Calls the insert of key 58, once more where memory was refused.
+// Calls the insert of key 58, once more if memory was refused.
 fn call_again(alloc: Global, kernel: &mut Kernel<MemDevice>, txn: TxnNo) -> Result<Told, Refusal> {
     match called(kernel, txn, insert_of(alloc, 58)?) {
         NO_MEMORY => Ok(called(kernel, txn, insert_of(alloc, 58)?)),
@@ -112,7 +112,7 @@ fn call_again(alloc: Global, kernel: &mut Kernel<MemDevice>, txn: TxnNo) -> Resu
     }
 }
 
-// Makes the insert of key 58, and goes on where memory was refused.
+// Makes the insert of key 58, and goes on if memory was refused.
 fn insert_over_refusals(alloc: Global, kernel: &mut Kernel<MemDevice>) -> Result<Told, Refusal> {
     let txn = kernel.begin(1)?;
     let mut told = call_again(alloc, kernel, txn)?;

@@ -16,8 +16,8 @@ use std::test::Fail;
 /// Pages of the device.
 const PAGES: u16 = 16;
 
-// Openings of a content, where the ruling area has so many batches and the other master slot is open. One for each of
-// its device calls, which fails, and one that goes well. docs/PROVED.md tells which calls these are.
+// Openings of a content, if the ruling area has so many batches and the other master slot is open. One for each of
+// its device calls, which fails, and one that goes well. docs/PROVED.md says which calls these are.
 const ONE_BATCH: u64 = 60;
 
 const TWO_BATCHES: u64 = 66;
@@ -26,7 +26,7 @@ const THREE_BATCHES: u64 = 72;
 
 const FOUR_BATCHES: u64 = 78;
 
-// Where the other slot is closed: its gate is not to be closed first.
+// If the other slot is closed: its gate is not to be closed first.
 const TWO_BATCHES_ALONE: u64 = 64;
 
 // ---- openings that are stopped
@@ -41,8 +41,8 @@ fn opened_until(alloc: Global, device: MemDevice, n: u64) -> Result<(bool, MemDe
     }
 }
 
-/// Stops an opening of these bytes at each call in turn: at how many, if what is left then stands each time for this base.
-/// Where nothing was written yet the device serves for the next turn.
+/// Stops an opening of these bytes at each call in turn: at how many, if what is left then stands each time for this
+/// base. If nothing was written yet the device serves for the next turn.
 pub fn stops_of(
     alloc: Global,
     bytes: &[u8],
@@ -154,7 +154,8 @@ fn each_stop(alloc: Global, run: &Run) -> Result<Tally, Refusal> {
     Ok(tally)
 }
 
-// Of a force: before its gate is open four contents of the body, one that is synced, and two of the gate; and then two.
+// Of a force: before its gate is open four contents of the body, one that is synced, and two of the gate; and then
+// two.
 const BEFORE_GATE: u64 = 7;
 
 const BEHIND_GATE: u64 = 2;
@@ -271,7 +272,8 @@ const SPLIT_BASES: [&[u8]; 3] = [
         0 k020=v;0 k021=v;0 k022=v;0 k023=v;0 k024=v;0 k025=v;0 k026=v;0 k027=v;0 k028=v;0 k029=v; 5",
 ];
 
-/// Three forces of four calls, and three pages. What was not synced before a force is left in five kinds then, not four.
+/// Three forces of four calls, and three pages. What was not synced before a force is left in five kinds then, not
+/// four.
 #[test]
 fn rows_stand_wherever_a_split_and_an_abort_stop(rt: HostRuntime) -> Result<(), Fail> {
     let run = Run {
@@ -318,7 +320,7 @@ fn a_stopped_commit_stands_once_its_gate_is_open(rt: HostRuntime) -> Result<(), 
 
 // ---- a device that fails
 
-/// What the answers of a run tell: whether each after the first refusal 2 is that, and whether there is one. Then
+/// What the answers of a run say: whether each after the first refusal 2 is that, and whether there is one. Then
 /// how many commits were acknowledged.
 #[derive(Clone, Copy)]
 struct Heard {
@@ -344,7 +346,7 @@ fn hear_all(answers: &[Answer]) -> Heard {
     heard
 }
 
-// Makes the events over a device that fails at its n-th call, reads counted too, and opens that again. It tells
+// Makes the events over a device that fails at its n-th call, reads counted too, and opens that again. It answers
 // whether all was well, and whether it ever failed; None if it failed before the first event.
 fn failing_at(alloc: Global, events: &[Event], n: u64) -> Result<Option<(bool, bool)>, Refusal> {
     let schema = row_schema(alloc, PAGES)?;

@@ -9,7 +9,7 @@ use mt_restart::{Schema, fresh};
 use mt_txn::{AbortStepped, Called, Kernel, KernelForced, Stepped};
 use std::alloc::Global;
 
-/// What a call told, values by their lengths.
+/// What a call answered, values by their lengths.
 #[derive(Clone, Copy, PartialEq, Eq)]
 pub enum Told {
     Started,
@@ -95,7 +95,7 @@ pub fn stepped<D: Device>(kernel: &mut Kernel<D>, txn: TxnNo) -> Told {
     }
 }
 
-// Writes a page into its slot, after the log's force where it waits for one. Tells `Went` where one was written.
+// Writes a page into its slot, after the log's force if it waits for one. Answers `Went` if one was written.
 fn flushed<D: Device>(kernel: &mut Kernel<D>) -> Told {
     for _step in 0..16u8 {
         match kernel.flush_step() {

@@ -15,7 +15,7 @@ module _ {L : Type 0} (text : L → List ℕ) (IsIn : L → Type 0) where
   abbrev pub SpellsIn : List ℕ → L → Type 0
   SpellsIn bytes line = (bytes ≡ text line) × IsIn line
 
-  -- a line that the bytes spell, or none where they spell none
+  -- a line that the bytes spell, or none if they spell none
   abbrev pub ReadsIn : List ℕ → Option L → Type 0
   ReadsIn bytes o = MatchOption o ((line : L) → ¬ SpellsIn bytes line) (SpellsIn bytes)
 

@@ -61,7 +61,7 @@ IsSpelled (Read c) = IsPlace c
 abbrev pub SpellsOp : List ℕ → Op → Type 0
 SpellsOp bytes op = SpellsIn op_text IsSpelled bytes op
 
--- an operation that the bytes spell, or none where they spell none
+-- an operation that the bytes spell, or none if they spell none
 abbrev pub ReadsOp : List ℕ → Option Op → Type 0
 ReadsOp bytes o = ReadsIn op_text IsSpelled bytes o
 
@@ -81,6 +81,6 @@ IsInGrammar _ = ⊤
 abbrev pub Spells : List ℕ → Line → Type 0
 Spells bytes line = SpellsIn line_text IsInGrammar bytes line
 
--- a line that the bytes spell, or none where they spell none
+-- a line that the bytes spell, or none if they spell none
 abbrev pub ReadsLine : List ℕ → Option Line → Type 0
 ReadsLine bytes o = ReadsIn line_text IsInGrammar bytes o

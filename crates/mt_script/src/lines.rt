@@ -48,7 +48,7 @@ pub fn split_at_space(bytes: &[u8]) -> Option<(&[u8], &[u8])>
 }
 
 /// The number that a word spells in decimal without leading zeros. A number is spelled so exactly
-/// where printing it gives the word again. The only error is want of memory.
+/// if printing it gives the word again. The only error is want of memory.
 pub fn number_of(alloc: Global, word: &[u8]) -> Result<Option<u64>, AllocError>
     ensures { IfOk result (λ o. MatchOption o ((n : ℕ) → n < 2 ^ 64 → word.now ≢ decimal n)
         (λ n. word.now ≡ decimal n)) }
@@ -95,7 +95,7 @@ pub fn signed_of(alloc: Global, word: &[u8]) -> Result<Option<i64>, AllocError>
     }
 }
 
-/// The negative number of this size, where there is one in 64 bits.
+/// The negative number of this size, if there is one in 64 bits.
 fn negated(size: u64) -> Option<i64>
     ensures { MatchOption result ((n : ℤ) → ¬ SpellsStep (45 ∷ decimal size) n) (SpellsStep (45 ∷ decimal size)) }
 {

@@ -132,7 +132,7 @@ impl<G: Grammar> Reading<G> {
         Ok(())
     }
 
-    /// The lines, where none is under way.
+    /// The lines, if none is under way.
     #[tactic(auto, using(crate::proofs::ScriptLemmas::are_lines))]
     fn end(self) -> Result<Vec<G::Line>, Refusal>
         ensures cause { IfErr result (λ why. (bytes : List ℕ)
@@ -157,7 +157,7 @@ impl<G: Grammar> Reading<G> {
 /// Reads lines of a grammar to the reader's end, in pieces. Each has LF after it and at most 4,096 bytes before it,
 /// and there are at most 100,000 of them. It holds no more than the lines, the one under way and one piece.
 ///
-/// `Input` where the reader fails; refused by `NoMemory`, and by `BadLine` of the first line that is not in
+/// `Input` if the reader fails; refused by `NoMemory`, and by `BadLine` of the first line that is not in
 /// the grammar.
 pub fn read_lines<G: Grammar, R: Read>(
     alloc: Global,

@@ -14,7 +14,8 @@ use Rattle.mt_replay.specs.Stands.{CanRestart}
 use Rattle.mt_restart.specs.Recovered.{IsCauseToStop}
 use Rattle.mt_steps.specs.Listed.{IsSame}
 
--- the base that these bytes represent, if they represent one: the same rows, and the same counters, as many as there are
+-- the base that these bytes represent, if they represent one: the same rows, and the same counters, as many as there
+-- are
 abbrev pub IsBaseOf : List ℕ → Base → Type 0
 IsBaseOf c first = (relations counters : ℕ) (b : model.Base) → CanRestart relations counters c b → IsSame counters (base_of first) b
 

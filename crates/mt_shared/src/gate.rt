@@ -1,3 +1,6 @@
+// The observer of sessions, and the points at which it is called: outside of the lock, so that it may hold a thread
+// back. Tests fix an order of threads by it, and mtk counts commits. It changes nothing of the kernel.
+
 /// Where a session stands in a call of what is shared.
 #[derive(Clone, Copy, PartialEq, Eq, Debug)]
 pub enum Point {
@@ -13,20 +16,21 @@ pub enum Point {
     Aborted,
 }
 
-/// Is told where sessions stand, each time outside of the lock, so that it may hold a thread back there.
+/// An observer of sessions. It is called at the points that it wants, each time outside of the lock, so that it may
+/// hold a thread back there.
 pub trait Gate {
     /// A session stands at this point.
     fn at(&self, session: u32, point: Point);
 
-    /// Whether it is to be told of this point; it is asked once, when what is shared is made. A step at whose point
-    /// nobody is told is made in one hold of the lock with the next. So are a few calls of one thread, if it wants no
+    /// Whether it is to be called at this point; it is asked once, when what is shared is made. A step whose point is
+    /// not wanted is made in one hold of the lock with the next. So are a few calls of one thread, if it wants no
     /// point before a transaction's end.
     fn wants(&self, _point: Point) -> bool {
         true
     }
 }
 
-// Which points a gate wants to be told of.
+// The points at which an observer wants to be called.
 #[derive(Clone, Copy)]
 pub(crate) struct Wanted {
     began: bool,
@@ -47,7 +51,7 @@ impl Wanted {
         }
     }
 
-    // Whether the gate wants to be told of a point before a transaction's end.
+    // Whether the observer wants to be called at a point before a transaction's end.
     pub(crate) fn has_within(self) -> bool {
         self.began || self.stepped || self.replied
     }

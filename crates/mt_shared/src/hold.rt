@@ -1,4 +1,5 @@
-// The lock of what is shared, kept from one call of a thread to its next.
+// The lock of what is shared, kept from one call of a thread to its next. So it is taken once for a few calls.
+// All others wait meanwhile: a hold ends after 17 calls, and before a thread sleeps.
 ghost use Rattle.std.specs.Prelude.{◌≡◌, ◌≢◌, ◌↔◌, None, IfOk, IfErr, OnOk, OnErr, IfSome};
 ghost use Rattle.mt_base.specs.declared.refusal.Refusal.TheVariants.{DeviceFailed, Stranger};
 ghost use Rattle.mt_model.specs.declared.operations.Reply.{Reply};
@@ -23,7 +24,7 @@ const CALLS: u8 = 17;
 /// operations is begun and run, and its commit appended, in one hold of the lock.
 ///
 /// The lock is given back after as many calls, while a call waits or a force is made, at the end of a transaction, if
-/// a call is refused, and if this is dropped. It is not kept if the gate wants to be told of a point before a
+/// a call is refused, and if this is dropped. It is not kept if the observer wants to be called at a point before a
 /// transaction's end. All others wait for it meanwhile, so who keeps it makes its next call soon, or gives it back.
 /// The calls answer what those of [`Shared`] of the same names answer.
 pub struct Hold<'a, D: Device, G: Gate + Drop, J: Naming> {
@@ -157,7 +158,7 @@ impl<'a, D: Device, G: Gate + Drop, J: Naming> Hold<'a, D, G, J> {
         ensures err { OnErr result (txn.new ≡ txn.old) }
     {
         let (number, session) = (txn.number(), txn.session());
-        // out of the token meanwhile, where it is known that there is room for one more
+        // out of the token meanwhile, if it is known that there is room for one more
         let mut calls = take_calls(txn);
         if calls.reserve(1).is_err() {
             put_calls(txn, calls);

@@ -9,8 +9,8 @@
 //! grows by exactly its own commits, each after all that it had seen. What a token was answered is what the book has
 //! at its place. A look is one load of the mark, and takes no lock.
 //!
-//! Who waits sleeps, and is woken by what may end its wait; a device that fails wakes all. No lock is poisoned: nothing
-//! here can panic.
+//! Who waits sleeps, and is woken by what may end its wait; a device that fails wakes all. No lock is poisoned:
+//! nothing here can panic.
 #![tactic(auto)]
 
 mod gate;

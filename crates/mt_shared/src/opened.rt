@@ -54,7 +54,7 @@ impl<D: Device> Model for Opened<D> {
 
 impl<D: Device> Opened<D> {
     /// A mark beside the kernel, with seats for this many passes. The history begins with the kernel's book. Of the
-    /// base that the kernel began on nothing is kept but for contracts; of the book a copy is made, and let go.
+    /// base that the kernel began on nothing is kept but for contracts; of the book a copy is made, and dropped.
     ///
     /// If memory is short, the kernel comes back as it was.
     pub fn new(
@@ -106,12 +106,12 @@ impl<D: Device> Opened<D> {
 
 impl<D: Device + Drop> Opened<D> {
     /// Opens a device with so many pages in frames, 32 to 4096. It makes the mark of its kernel, with a seat for each
-    /// of so many passes. The history is empty, and begins on the base that the bytes stood for, which a survey
-    /// tells.
+    /// of so many passes. The history is empty, and begins on the base that the bytes represented, which a survey
+    /// finds.
     ///
-    /// Refused as [`open`](mt_restart::open), and with 1 where the survey or the mark finds no memory. A refusal is 2 if
-    /// and only if the device failed in this call. The device is handed back, and represents what it stood for, unless
-    /// it failed.
+    /// Refused as [`open`](mt_restart::open), and with 1 if the survey or the mark finds no memory. A refusal is 2 if
+    /// and only if the device failed in this call. The device is handed back, and represents what it did before,
+    /// unless it failed.
     pub fn open(
         alloc: Global,
         device: D,
@@ -124,7 +124,7 @@ impl<D: Device + Drop> Opened<D> {
         ensures many { IfOk result (λ opened. opened.count ≡ count) }
         ensures refused { IfErr result (λ gone. IsUnshared (D.seen device) gone.0) }
         ensures failed { IfErr result (λ gone. gone.0 ≡ Refusal.DeviceFailed → D.faults device < D.faults gone.1) }
-        // Whatever a crash leaves of the device then, it represents what it stood for.
+        // Whatever a crash leaves of the device then, it represents what it did before.
         ensures settled { (relations counters : ℕ) (b : ModelBase) → CanRestart relations counters (D.seen device) b
             → IfErr result (λ gone. (gone.0 ≡ Refusal.DeviceFailed → ⊥) → (c : List ℕ) → D.may_leave gone.1 c
             → ∥ CanRestart relations counters c b ∥₁) }

@@ -1,4 +1,5 @@
-// What threads call of a kernel that they share, and how they sleep and are woken.
+// What threads call of a kernel that they share, and how they sleep and are woken. The lock is taken here and in
+// `hold`; what is done under it is in mt_locked.
 ghost use Rattle.std.specs.Prelude.{◌≡◌, ◌≢◌, ◌+◌, ◌↔◌, All, false, length, None, IfOk, IfErr, OnOk, OnErr, IfSome};
 ghost use mathlib.Core.List.{IsPrefix};
 ghost use Rattle.mt_base.specs.declared.refusal.Refusal.TheVariants.{DeviceFailed, Stranger};
@@ -76,14 +77,14 @@ impl<D: Device, G: Gate + Drop, J: Naming> Shared<D, G, J> {
         &self.turns[(place % TURNS as u64) as usize]
     }
 
-    // Tells the gate, if it wants to be told.
+    // Calls the observer, if it wants this point.
     pub(crate) fn tell(&self, session: u32, point: Point) {
         if self.wanted.has(point) {
             self.gate.at(session, point);
         }
     }
 
-    // A refusal that is to be answered. All that sleep are woken where the device has failed.
+    // A refusal that is to be answered. All that sleep are woken if the device has failed.
     pub(crate) fn refusing(&self, why: Refusal) -> Refusal
         ensures { result ≡ why }
     {
@@ -102,7 +103,8 @@ impl<D: Device, G: Gate + Drop, J: Naming> Shared<D, G, J> {
         }
     }
 
-    // A transaction was taken back. Wakes who waits for it, and who tends if the log is to be turned over from now on.
+    // A transaction was taken back. Wakes who waits for it, and who tends if the log is to be turned over from now
+    // on.
     pub(crate) fn taken_back(&self, mut locked: MutexGuard<'_, Locked<D, J>>) {
         let is_due = locked.stir();
         drop(locked);
@@ -128,7 +130,8 @@ impl<D: Device, G: Gate + Drop, J: Naming> Shared<D, G, J> {
         }
     }
 
-    /// The kernel, or the device that a rotation left of it, for where a close is refused. What lives is gone with it.
+    /// The kernel, or the device that a rotation left of it, for use after a close was refused. What is active is
+    /// gone with it.
     pub fn abandon(self) -> Result<Kernel<D>, D>
         ensures { IfOk result (BeganOn D.seen D.may_leave J.base) }
     {
@@ -158,7 +161,8 @@ impl<D: Device, G: Gate + Drop, J: Naming> Shared<D, G, J> {
 
     /// Begins a transaction of this pass, for a session, as [`Hold::begin`]. Nothing enters the history.
     ///
-    /// Refused, in this order: 16 if this pass has a transaction, then as [`Kernel::begin`]. Nothing has changed then.
+    /// Refused, in this order: 16 if this pass has a transaction, then as [`Kernel::begin`]. Nothing has changed
+    /// then.
     pub fn begin<R: Wait>(
         &self,
         rt: &R,
@@ -199,14 +203,14 @@ impl<D: Device, G: Gate + Drop, J: Naming> Shared<D, G, J> {
         hold.abort(rt, pass, txn)
     }
 
-    /// One step of a force. One page is flushed where there is nothing to force, or a commit waits to be durable,
+    /// One step of a force. One page is flushed if there is nothing to force, or a commit waits to be durable,
     /// which who commits forces. It waits for the lock alone.
     ///
-    /// No call of another thread needs it, and nothing calls it in the background: an operation flushes a page itself if it
-    /// finds no frame, and an opening or a turn of the log writes each page that has an image in the log. It is for who
-    /// wants all that was appended to be durable, and the frames free, before many pages are read.
+    /// No call of another thread needs it, and nothing calls it in the background: an operation flushes a page itself
+    /// if it finds no frame, and an opening or a turn of the log writes each page that has an image in the log. It is
+    /// for who wants all that was appended to be durable, and the frames free, before many pages are read.
     ///
-    /// Refused: 2 where the device has failed or fails in this call; 1 for want of memory.
+    /// Refused: 2 if the device has failed or fails in this call; 1 for want of memory.
     pub fn tend<R: Wait>(&self, rt: &R) -> Result<Tended, Refusal> {
         let mut locked = self.locked.lock(rt);
         if locked.is_committing() {
@@ -232,12 +236,12 @@ impl<D: Device, G: Gate + Drop, J: Naming> Shared<D, G, J> {
         }
     }
 
-    /// Sleeps until the log is to be turned over, and answers true; false once [`Shared::end_tending`] was called. It is
-    /// for the thread that then calls [`Shared::turn_over`].
+    /// Sleeps until the log is to be turned over, and answers true; false once [`Shared::end_tending`] was called. It
+    /// is for the thread that then calls [`Shared::turn_over`].
     ///
-    /// That is due if more than half of the log's area is in use as a transaction is taken back, or as the last durable
-    /// commit comes into the history. Once the log was turned over, or could not be, it is due after a further such
-    /// end alone. The device that fails wakes it too; then `turn_over` answers 2.
+    /// That is due if more than half of the log's area is in use as a transaction is taken back, or as the last
+    /// durable commit comes into the history. Once the log was turned over, or could not be, it is due after a
+    /// further such end alone. The device that fails wakes it too; then `turn_over` answers 2.
     pub fn await_due<R: Wait>(&self, rt: &R) -> bool {
         let mut locked = self.locked.lock(rt);
         for _ in rt.forever() {
@@ -256,7 +260,7 @@ impl<D: Device, G: Gate + Drop, J: Naming> Shared<D, G, J> {
         self.due.notify_all();
     }
 
-    /// How much of the log's area is in use; none where a rotation left no kernel. It waits for the lock alone.
+    /// How much of the log's area is in use; none if a rotation left no kernel. It waits for the lock alone.
     pub fn used<R: Wait>(&self, rt: &R) -> Option<LogUse>
         ensures { IfSome result (IsUseOn ⟦<D as Device>⟧ J.base) }
     {
@@ -269,8 +273,8 @@ impl<D: Device, G: Gate + Drop, J: Naming> Shared<D, G, J> {
         self.locked.lock(rt).is_half_used()
     }
 
-    /// Commits, and answers the place in the history, from 1, as [`Hold::commit`]. The transaction is durable then, and in
-    /// the history.
+    /// Commits, and answers the place in the history, from 1, as [`Hold::commit`]. The transaction is durable then,
+    /// and in the history.
     ///
     /// Refused: 15 if the token is of another pass, then as [`Kernel::commit_begin`], and the token comes back. It is
     /// refused with 2 if the device failed before the commit was durable, and then the token is gone.
@@ -323,7 +327,7 @@ impl<D: Device, G: Gate + Drop, J: Naming> Shared<D, G, J> {
         unreachable!()
     }
 
-    // Makes a step of a force where the commit at this place is the next to be entered. It waits for its turn before.
+    // Makes a step of a force if the commit at this place is the next to be entered. It waits for its turn before.
     fn come_nearer<'a, R: Wait>(
         &'a self,
         rt: &R,
@@ -374,11 +378,11 @@ impl<D: Device, G: Gate + Drop, J: Naming> Shared<D, G, J> {
 
     /// The kernel, once all passes are back and none of them has a transaction. Its book begins with what each pass
     /// has seen, and has no further transaction of that pass. It has as many as stood when the mark was made and the
-    /// passes have committed together, so no other. Unless it has failed, no transaction is active in it, and it holds
-    /// no lock.
+    /// passes have committed together, so no other. Unless it has failed, no transaction is active in it, and it
+    /// holds no lock.
     ///
-    /// Refused, in this order, with all that was handed in. It is 15 where a pass is missing, 16 where one of them
-    /// has a transaction, 2 where a rotation left no kernel. Then 16 where a durable transaction is not in the
+    /// Refused, in this order, with all that was handed in. It is 15 if a pass is missing, 16 if one of them
+    /// has a transaction, 2 if a rotation left no kernel. Then 16 if a durable transaction is not in the
     /// history, or one lives in a kernel that has not failed.
     pub fn close(self, passes: Vec<Pass<J>>) -> Result<Kernel<D>, Closed<D, G, J>>
         ensures seen { IfOk result (λ k.
@@ -425,7 +429,7 @@ impl<D: Device + Drop, G: Gate + Drop, J: Naming> Shared<D, G, J> {
     /// Turns the kernel's log over, while no transaction is active. It waits for the lock alone. The history goes on,
     /// and so do the passes. The kernel then has so many pages in frames.
     ///
-    /// Refused, in this order: 2 where the device has failed; 16 where a transaction lives, or one is durable and not
+    /// Refused, in this order: 2 if the device has failed; 16 if a transaction lives, or one is durable and not
     /// yet in the history. Nothing has changed then. Further as [`mt_restart::rotate`]: 1, 11, 2. If that gives the
     /// device alone, each later call is refused with 2, and the device is to be opened again.
     pub fn rotate<R: Wait>(&self, rt: &R, alloc: Global, frames: usize) -> Result<(), Refusal>
@@ -441,7 +445,7 @@ impl<D: Device + Drop, G: Gate + Drop, J: Naming> Shared<D, G, J> {
         }
     }
 
-    // New transactions go on, and this is told.
+    // Lets new transactions begin again, and answers this.
     fn let_on(
         &self,
         mut locked: MutexGuard<'_, Locked<D, J>>,

@@ -11,7 +11,7 @@ use mt_shared::{Closed, Gate, Naming, Opened, Pass, Point, Shared};
 use mt_txn::Kernel;
 use std::alloc::Global;
 
-/// Wants to be told of nothing.
+/// An observer that wants no point.
 #[derive(Drop)]
 pub struct NoGate;
 
@@ -32,7 +32,8 @@ pub fn empty_device(alloc: Global, size: u64) -> Result<MemDevice, Refusal> {
     Ok(MemDevice::new(alloc, bytes, 4200, 8_400_000)?)
 }
 
-// A kernel over a device that is formatted by this schema, which so many passes are to share, beside the schema's base.
+// A kernel over a device that is formatted by this schema, which so many passes are to share, beside the schema's
+// base.
 fn opened_over<D: Device + Drop>(
     alloc: Global,
     device: D,
@@ -95,7 +96,7 @@ pub struct Told {
     pub moved: usize,
 }
 
-// What a kernel in which no transaction is active tells. The kernel is dropped.
+// What a survey of a kernel answers in which no transaction is active. The kernel is dropped.
 fn told_of(kernel: Kernel<MemDevice>) -> Result<Told, Refusal> {
     let mut kernel = kernel;
     let commits = kernel.book().len();
@@ -110,7 +111,7 @@ fn told_of(kernel: Kernel<MemDevice>) -> Result<Told, Refusal> {
     })
 }
 
-/// What the kernel tells after a close.
+/// What a survey of the kernel answers after a close.
 pub fn told_behind<J: Naming>(shared: Memory<J>, passes: Vec<Pass<J>>) -> Result<Told, Refusal> {
     match shared.close(passes) {
         Ok(kernel) => told_of(kernel),
@@ -126,7 +127,7 @@ pub fn told_behind<J: Naming>(shared: Memory<J>, passes: Vec<Pass<J>>) -> Result
     }
 }
 
-// Lets go of what is shared.
+// Drops what is shared.
 fn give_up<J: Naming>(shared: Memory<J>) {
     if let Ok(kernel) = shared.abandon() {
         let _device = kernel.into_device();

@@ -1,7 +1,7 @@
 //! The tests of threads that share a kernel, through public calls of `mt_shared` and `mt_server`. Sixteen of them
 //! commit at once, one sees another's commit while its own transaction is open, and a pass finds what its last
-//! transaction left. Of two scripts that are served one is held while the other commits. Who tends is woken once half of
-//! the log is used.
+//! transaction left. Of two scripts that are served one is held while the other commits. Who tends is woken once half
+//! of the log is used.
 #![tactic(auto)]
 
 #[cfg(test)]

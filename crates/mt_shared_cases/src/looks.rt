@@ -45,7 +45,7 @@ fn await_commit<J: Naming, R: Clock>(rt: &R, shared: &Memory<J>, pass: &mut Pass
     false
 }
 
-// Inserts a row, tells so, looks until another has committed, and commits; its place, or 0 where it saw no commit.
+// Inserts a row, says so, looks until another has committed, and commits; its place, or 0 if it saw no commit.
 fn first<J: Naming, R: Wait + Clock>(
     rt: &R,
     alloc: Global,
@@ -111,7 +111,7 @@ fn both<J: Naming + Send + Sync, R: Threads + Wait + Clock + Sync>(
     (one.load(Ordering::SeqCst), two.load(Ordering::SeqCst))
 }
 
-// The same under a name, and what the kernel tells after it.
+// The same under a name, and what a survey of the kernel answers after it.
 fn named_looks<J: Naming + Send + Sync, R: Threads + Wait + Clock + Sync>(
     rt: &R,
     alloc: Global,

@@ -140,7 +140,7 @@ fn find<J: Naming, R: Wait>(
     Ok(is_back && is_turned && does(rt, alloc, shared, pass, 5)?)
 }
 
-// Whether all went so, under a name, and what the kernel tells after it.
+// Whether all went so, under a name, and what a survey of the kernel answers after it.
 fn named_rows<J: Naming, R: Wait>(
     rt: &R,
     alloc: Global,

@@ -24,7 +24,7 @@ pub fn take_back<J: Naming, R: Wait>(rt: &R, shared: &Memory<J>, pass: &mut Pass
     unreachable!()
 }
 
-/// Commits a transaction, and answers its place; 0 where that is refused, and the transaction is taken back.
+/// Commits a transaction, and answers its place; 0 if that is refused, and the transaction is taken back.
 pub fn end<J: Naming, R: Wait>(rt: &R, shared: &Memory<J>, pass: &mut Pass<J>, txn: Txn<J>) -> u64 {
     match shared.commit(rt, pass, txn) {
         Ok(place) => place,

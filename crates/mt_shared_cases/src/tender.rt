@@ -63,7 +63,8 @@ fn fills<J: Naming, R: Wait>(
     Ok(0)
 }
 
-// Fills half of the log. Then who tends is awake, turns the log over, and comes to its end. The commits that it took, or 0.
+// Fills half of the log. Then who tends is awake, turns the log over, and comes to its end. The commits that it took,
+// or 0.
 fn tends<J: Naming, R: Wait>(
     rt: &R,
     alloc: Global,

@@ -26,7 +26,7 @@ const ROWS: u32 = 50;
 /// Counters between which they transfer.
 const COUNTERS: u32 = 8;
 
-/// How often a transaction is begun anew where another was in the way.
+/// How often a transaction is begun anew if another was in the way.
 const TRIES: u32 = 1000;
 
 // The counter that a transfer goes by, so many on.
@@ -45,7 +45,7 @@ fn transfers<J: Naming, R: Wait>(
     shared.run(rt, txn, Op::Add(counter(number, 1), 1))
 }
 
-// What a worker does in its turn of this number: a transfer, or a row where its turns of transfers are over.
+// What a worker does in its turn of this number: a transfer, or a row if its turns of transfers are over.
 fn run_turn<J: Naming, R: Wait>(
     rt: &R,
     alloc: Global,
@@ -81,7 +81,7 @@ fn make_turn<J: Naming, R: Wait>(
     }
 }
 
-// A turn, begun anew where another was in the way.
+// A turn, begun anew if another was in the way.
 fn make_surely<J: Naming, R: Wait>(
     rt: &R,
     alloc: Global,
@@ -159,7 +159,7 @@ fn tends<J: Naming, R: Wait>(rt: &R, shared: &Memory<J>, is_over: &AtomicBool) -
     unreachable!()
 }
 
-// All of them, beside one that tends. How many turns were committed; 0 where that one failed.
+// All of them, beside one that tends. How many turns were committed; 0 if that one failed.
 fn work_tended<J: Naming + Send + Sync, R: Threads + Wait + Sync>(
     rt: &R,
     alloc: Global,
@@ -179,7 +179,7 @@ fn work_tended<J: Naming + Send + Sync, R: Threads + Wait + Sync>(
     }
 }
 
-// The same under a name, and what the kernel tells after it.
+// The same under a name, and what a survey of the kernel answers after it.
 fn named_work<J: Naming + Send + Sync, R: Threads + Wait + Sync>(
     rt: &R,
     alloc: Global,

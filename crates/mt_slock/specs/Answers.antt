@@ -1,4 +1,4 @@
--- What is answered where a lock is asked for, by the locks that were held and those that are held then.
+-- What is answered if a lock is asked for, by the locks that were held and those that are held then.
 use Rattle.std.specs.Prelude.{ℕ, ◌≡◌, ◌<◌, true, false, List, None}
 use Rattle.std.specs.Map.{lookup}
 use Rattle.mt_base.specs.declared.modes.LockMode.{LockMode}
@@ -14,7 +14,7 @@ use Rattle.mt_slock.specs.declared.locked.Standing.TheVariants.{Barred, Own, Sha
 use Rattle.mt_slock.specs.declared.table.Asked.{Asked}
 use Rattle.mt_slock.specs.declared.table.Asked.TheVariants.{Granted, Wait}
 
--- granted where nobody is in the way, with whether it was held before; else the oldest that is in the way is younger
+-- granted if nobody is in the way, with whether it was held before; else the oldest that is in the way is younger
 abbrev pub IsAsked : Held → ℕ → Object → LockMode → Asked → Held → Type 0
 IsAsked old t x m (Granted was_held) new = IsFree old t x m × (new ≡ with_lock old t x m) × (was_held ≡ old t x m)
 IsAsked old t x m (Wait h) new = IsLeastBar old t x m h × (t < h) × (new ≡ old)

@@ -18,6 +18,6 @@ abbrev pub TakingOutGivesBack : Type 0
 TakingOutGivesBack =
     (held : Held) (t : ℕ) (x : Object) (m : LockMode) → held t x m ≡ false → without_lock (with_lock held t x m) t x m ≡ held
 
--- and where it was held before, the grant changed nothing
+-- and if it was held before, the grant changed nothing
 abbrev pub GrantsOnce : Type 0
 GrantsOnce = (held : Held) (t : ℕ) (x : Object) (m : LockMode) → held t x m ≡ true → with_lock held t x m ≡ held

@@ -13,7 +13,7 @@ use Rattle.mt_slock.specs.declared.holders.Holder.{Holder}
 abbrev pub is_holder : ℕ → LockMode → Holder → Bool
 is_holder t m h = (t == h.txn) && same_mode h.mode m
 
--- the holders of an object: the first, where it still holds it, and those after it
+-- the holders of an object: the first, if it still holds it, and those after it
 abbrev pub in_order : Option Holder → List Holder → List Holder
 in_order None hs = hs
 in_order (Some h) hs = h ∷ hs

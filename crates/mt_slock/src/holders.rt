@@ -1,4 +1,4 @@
-// Who holds one object.
+// Who holds one object, in order of grant, and who of them is in the way of a lock. Nobody waits here.
 ghost use Rattle.std.specs.Prelude.{◌≡◌, ◌++◌, ◌∷◌, [], List, filter, not, OnOk, OnErr, MatchOption, IsTrue, ◌↔◌, ◌||◌};
 ghost use Rattle.std.specs.Bool.{OnTrue};
 ghost use Rattle.mt_slock.specs.Views.{is_holder, is_among, conflicts, in_order, least_of, IsUnbarred, IsOldestBar};
@@ -8,7 +8,7 @@ use mt_base::{LockMode, TxnNo};
 use std::alloc::{AllocError, Global};
 use std::marker::Model;
 
-// The older of the two, where there are two.
+// The older of the two, if there are two.
 fn older(one: Option<TxnNo>, other: TxnNo) -> TxnNo
     ensures { result ≡ least_of one other }
 {
@@ -41,7 +41,7 @@ impl Holder {
     }
 }
 
-// The first holder, where it is in the way of this transaction's lock in this mode.
+// The first holder, if it is in the way of this transaction's lock in this mode.
 fn barred_by(first: Option<Holder>, txn: TxnNo, mode: LockMode) -> Option<TxnNo>
     ensures { MatchOption result (IsUnbarred (in_order first []) txn mode) (IsOldestBar (in_order first []) txn mode) }
 {
@@ -96,7 +96,7 @@ fn without(first: Option<Holder>, txn: TxnNo, mode: LockMode) -> Option<Holder>
 /// The holders of one object, in order of grant. One alone takes no memory.
 #[derive(Debug, Drop)]
 pub(crate) struct Holders {
-    // where it still holds the object
+    // if it still holds the object
     first: Option<Holder>,
     others: Vec<Holder>,
 }
@@ -154,7 +154,8 @@ impl Holders {
         self.others.retain(|holder| !holder.is(txn, mode));
     }
 
-    /// Whether none is left without a transaction in a mode, where that stands before all others.
+    /// Whether none is left without a transaction in a mode. It looks for that as the first of them alone, so `false`
+    /// decides nothing.
     pub(crate) fn ends_without(&self, txn: TxnNo, mode: LockMode) -> bool
         ensures { OnTrue result (filter (λ h. not (is_holder txn mode h)) self.now ≡ []) }
     {

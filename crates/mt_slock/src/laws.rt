@@ -7,7 +7,7 @@ pub fn held_operations_commute()
     ensures { HeldOperationsCommute }
 {}
 
-/// A lock that is taken out after its grant gives the locks back as they were, where it was not held before. Where
+/// A lock that is taken out after its grant gives the locks back as they were, if it was not held before. If
 /// it was, the grant changed nothing.
 pub fn taking_out_gives_back()
     ensures back { TakingOutGivesBack }

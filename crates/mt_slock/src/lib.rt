@@ -1,5 +1,5 @@
 //! The semantic locks that transactions hold on keys and counters (Weikum 1991). With them is the rule by which a
-//! transaction waits or dies where another is in its way.
+//! transaction waits or dies if another is in its way.
 //!
 //! A table keeps each locked object with its holders in order of grant, and of each transaction the locks it holds.
 //! So asking looks at the holders of one object, and a release at the locks of one transaction. Contracts see which

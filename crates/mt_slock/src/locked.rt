@@ -1,4 +1,4 @@
-// Which objects are locked.
+// Which objects are locked, each with its holders. `table` changes it and `notes` together.
 ghost use Rattle.std.specs.Prelude.{◌≡◌, IfSome, OnOk, OnErr, None, true};
 ghost use Rattle.std.specs.Map.{lookup};
 ghost use Rattle.mt_model.specs.Model.{same_object};
@@ -115,7 +115,7 @@ impl LockedObjects {
         Ok(())
     }
 
-    /// One lock more, on an object that nobody holds where `alone` is set. The only error is want of memory.
+    /// One lock more, on an object that nobody holds if `alone` is set. The only error is want of memory.
     pub(crate) fn put(
         &mut self,
         txn: TxnNo,

@@ -15,7 +15,7 @@ use mt_model::Object;
 use std::alloc::Global;
 use std::marker::Model;
 
-/// What is answered where a lock is asked for and nothing is refused.
+/// What is answered if a lock is asked for and nothing is refused.
 #[derive(Clone, Copy, PartialEq, Eq, Debug)]
 pub enum Asked {
     /// The transaction holds the lock now. If it held it before, nothing has changed.
@@ -53,7 +53,7 @@ impl Model for LockTable {
     } };
 }
 
-// What is answered where this transaction is the oldest that is in the way.
+// What is answered if this transaction is the oldest that is in the way.
 fn barred(txn: TxnNo, holder: TxnNo) -> Result<Asked, Refusal>
     ensures asked { IfOk result (λ told. (txn ≤ holder) × (told ≡ asked.Wait holder)) }
     ensures cause { IfErr result (λ why. (holder < txn) × (why ≡ Refusal.Die holder)) }
@@ -80,11 +80,11 @@ impl LockTable {
     /// Asks for a lock on an object for a transaction. It is granted if and only if no other transaction holds the
     /// object in a mode that conflicts. What the transaction holds itself is never in its way. Then the transaction
     /// holds it until [`LockTable::release`]; asking for what it holds changes nothing and takes no memory. The
-    /// answer tells the two apart, for a call that a later test refuses.
+    /// answer keeps the two apart, for a call that a later test refuses.
     ///
     /// Else the transactions' ages decide (wait-die). If the oldest holder in the way is younger than the asker,
     /// the answer is to wait for it. If it is older, the call is refused with 14, and the asker is to abort.
-    /// Refused with 1 where the lock would be granted and a growth of memory was refused. Nothing is kept of a lock
+    /// Refused with 1 if the lock would be granted and a growth of memory was refused. Nothing is kept of a lock
     /// that is not granted.
     ///
     /// It takes time in proportion to the holders of the object.
@@ -102,7 +102,7 @@ impl LockTable {
         }
     }
 
-    // One lock more, which nobody is in the way of and the transaction does not hold. Nobody holds the object where
+    // One lock more, which nobody is in the way of and the transaction does not hold. Nobody holds the object if
     // `alone` is set.
     fn grant(
         &mut self,
@@ -139,7 +139,7 @@ impl LockTable {
 
     /// Takes a lock back that was just granted and not held before, for a call that a later test refused. That
     /// lock alone goes, so that the locks are as before [`LockTable::ask`], by [`laws`](crate::laws); nothing
-    /// changes where it was not held. It takes no memory, and time in proportion to the holders of the
+    /// changes if it was not held. It takes no memory, and time in proportion to the holders of the
     /// object.
     pub fn take_out(&mut self, txn: TxnNo, object: &Object, mode: LockMode)
         ensures taken { held_of self.new ≡ without_lock (held_of self.old) txn object.now mode }

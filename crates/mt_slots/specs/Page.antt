@@ -111,7 +111,7 @@ row_length r = 4 + length r.key + length r.value
 abbrev pub Opens : List ℕ → ℕ → ℕ → Type 0
 Opens page i n = ((i < count page) × (size page i ≡ 0) × (n ≡ count page)) ⊎ ((i ≡ count page) × (n ≡ i + 1))
 
--- the lowest empty slot, or a new one where there is none, takes a record
+-- the lowest empty slot, or a new one if there is none, takes a record
 pub record Inserted (old new : List ℕ) (i : ℕ) (r : Row) : Type 0 where
   pub first : (j : ℕ) → j < i → size old j ≢ 0
   pub sets : (n : ℕ) × Opens old i n × Sets old new i (Some r) n

@@ -1,4 +1,4 @@
-// What a page holds.
+// What a page of records has: the record of a slot, how many slots have one, and its free bytes. Nothing is written.
 ghost use Rattle.std.specs.Prelude.{◌≡◌, ◌+◌, ◌*◌, ◌<◌, ◌≤◌, length, Some, None, IfSome, IfNone};
 ghost use Rattle.mt_slots.specs.Page.{IsShaped, count, slot as held, row_size, row_at, live_slots, room_of};
 ghost use Rattle.mt_slots.specs.Parts.{Surveyed};
@@ -52,7 +52,7 @@ pub(crate) fn walk(page: &[u8]) -> Survey
 }
 
 /// The bytes of the page that are neither its head nor a slot nor a record: 4,088 at most. A record fits
-/// where it takes no more of them than there are, 4 more counted where it needs a new slot.
+/// if it takes no more of them than there are, 4 more counted if it needs a new slot.
 #[tactic(auto, unfolding(crate::specs::Page::room_of))]
 pub fn room(page: &[u8]) -> u16
     requires shaped { IsShaped page.now }

@@ -1,4 +1,4 @@
-// The page's own head and those of its slots.
+// The page's own head and those of its slots: where each record begins, and how long it is.
 ghost use Rattle.std.specs.Prelude.{◌≡◌, ◌+◌, ◌*◌, ◌<◌, ◌≤◌, length};
 ghost use Rattle.mt_base.specs.Ranges.{Torn};
 ghost use Rattle.mt_slots.specs.Page.{count, offset, size};
@@ -20,7 +20,7 @@ pub(crate) fn slot_count(page: &[u8]) -> usize
     usize::from(u16_at(page, 0))
 }
 
-// Where the record of slot i begins; 0 where it is empty.
+// Where the record of slot i begins; 0 if it is empty.
 #[tactic(auto, unfolding(crate::specs::Page::offset))]
 pub(crate) fn offset_of(page: &[u8], i: usize) -> usize
     requires { 12 + 4 * i ≤ length page.now }
@@ -30,7 +30,7 @@ pub(crate) fn offset_of(page: &[u8], i: usize) -> usize
     usize::from(u16_at(page, PAGE_HEAD_BYTES + SLOT_BYTES * i))
 }
 
-// How many bytes the record of slot i has; 0 where it is empty.
+// How many bytes the record of slot i has; 0 if it is empty.
 #[tactic(auto, unfolding(crate::specs::Page::size))]
 pub(crate) fn size_of(page: &[u8], i: usize) -> usize
     requires { 12 + 4 * i ≤ length page.now }

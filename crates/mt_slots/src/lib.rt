@@ -2,7 +2,7 @@
 //! Contracts see a page as the list of its slots, each empty or a record. Each call is an operation of that list,
 //! which keeps the number and the record of every other slot.
 //!
-//! A record lies right below the lowest one where there is room, else in the first gap that takes it. Only where no
+//! A record lies right below the lowest one if there is room, else in the first gap that takes it. Only if no
 //! gap does are the records packed at the page's end first. So an insert changes three short ranges: the slots'
 //! count, one slot's head, and the record's own bytes.
 #![tactic(auto)]

@@ -1,4 +1,4 @@
-// Putting a record where there is room for it.
+// Where in its page a record's bytes go: below all others, into a gap, or after the others are packed.
 ghost use Rattle.std.specs.Prelude.{◌≡◌, ◌≢◌, ◌+◌, ◌*◌, ◌<◌, ◌≤◌, ℕ, length, IfSome, IfNone};
 ghost use Rattle.mt_base.specs.declared.limits.TheConstants.{PAGE_BYTES};
 ghost use Rattle.mt_base.specs.Ranges.{Wrote};
@@ -103,7 +103,7 @@ fn gap(page: &[u8], i: usize, low: usize, bytes: usize) -> Option<usize>
 }
 
 // Puts a record into slot i, for which there is room: below all records, into a gap, or after a
-// compaction where there is none.
+// compaction if there is none.
 pub(crate) fn settle(
     page: &mut [u8],
     i: usize,

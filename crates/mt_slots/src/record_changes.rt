@@ -1,4 +1,5 @@
-// The operations of a page of records.
+// Puts, takes out and replaces records of one page in place. A slot's number stays, since the index names it.
+// Plans of mt_file call this on copies of pages. Neither log nor lock is known here.
 ghost use Rattle.std.specs.Prelude.{◌≡◌, ◌≢◌, ◌+◌, ◌*◌, ◌<◌, ◌≤◌, ℕ, length, set, Some, None, IsSome, IfSome, IfNone};
 ghost use Rattle.std.specs.Bool.{OnTrue, OnFalse};
 ghost use Rattle.mt_base.specs.declared.limits.TheConstants.{PAGE_BYTES};
@@ -22,9 +23,9 @@ pub fn empty(page: &mut [u8])
     put(page, 0, &[0u8; PAGE_HEAD_BYTES]);
 }
 
-/// Puts a record into the lowest empty slot, or into a new one where there is none, and answers which. The other
+/// Puts a record into the lowest empty slot, or into a new one if there is none, and answers which. The other
 /// records stay where they are, unless no place of the page takes it; then all are packed at the page's end. `None`
-/// where it does not fit, however the records lie, and the page is as before then. In a page a relation has one byte,
+/// if it does not fit, however the records lie, and the page is as before then. In a page a relation has one byte,
 /// as has a key's length, and no value is longer than the page. A schema's limits are narrower.
 pub fn insert(page: &mut [u8], relation: RelNo, key: &[u8], value: &[u8]) -> Option<u16>
     requires shaped { IsShaped page.old }
@@ -76,7 +77,7 @@ fn clear(page: &mut [u8], i: usize)
 
 /// Gives the record in a slot another value, in that slot, and answers true. If its new length is more
 /// than the page's room and its old length, it answers false, and the page is as before. The record's bytes
-/// stay in place where they can.
+/// stay in place if they can.
 pub fn replace(page: &mut [u8], slot: u16, value: &[u8]) -> bool
     requires shaped { IsShaped page.old }
     requires live { IsSome (held page.old slot) }

@@ -44,7 +44,7 @@ pub record IsFirstIn (pages : List Bool) (group page : ℕ) : Type 0 where
   pub first : (p : ℕ) → GROUP_PAGES * group ≤ p → p < page → get_or pages p false ≡ false
 
 -- What a space keeps: the number of free pages, of which those reserved are a part, and a flag for each
--- group of 64 pages, which is set where one of them is free.
+-- group of 64 pages, which is set if one of them is free.
 pub record IsKept (pages groups : List Bool) (free reserved : ℕ) : Type 0 where
   pub few : length pages ≤ MAX_PAGES
   pub grouped : length pages ≤ GROUP_PAGES * length groups

@@ -34,7 +34,7 @@ impl Changes {
     }
 
     /// Notes what changes in a page that no earlier change names, in ranges as short as a log wants them.
-    /// Where no byte differs nothing is noted. The only error is want of memory.
+    /// If no byte differs nothing is noted. The only error is want of memory.
     pub fn note(&mut self, page: PageNo, old: &[u8], new: &[u8]) -> Result<(), AllocError>
         requires old_whole { length old.now ≡ PAGE_BYTES }
         requires new_whole { length new.now ≡ PAGE_BYTES }

@@ -1,4 +1,4 @@
-//! The pages of a device: how they are read and what changes in them. Some of them are fixed, and the space map tells
+//! The pages of a device: how they are read and what changes in them. Some of them are fixed, and the space map says
 //! which are free. Of the free ones some are reserved for operations under way and their inverses.
 //!
 //! A reservation names no page: it says that so many free pages are kept for who asked. Reserved pages are

@@ -1,4 +1,4 @@
-// The space map by its bytes.
+// The space map by its bytes: its smallest free page. Plans ask for it; claims are counted in `space`.
 ghost use Rattle.std.specs.Prelude.{◌≡◌, ℕ, length, get_or, false, IfSome, IfNone};
 ghost use Rattle.mt_base.specs.declared.limits.TheConstants.{PAGE_BYTES};
 ghost use Rattle.mt_space.specs.Rooms.{mapped, IsFirstFree};

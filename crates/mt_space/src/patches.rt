@@ -1,4 +1,4 @@
-// A change of one page, made in its bytes.
+// A change of one page, made in its bytes: in a frame, in a copy or in a page that a restart has in memory.
 ghost use Rattle.std.specs.Prelude.{◌≡◌, ◌≤◌, ◌+◌, length, All};
 ghost use Rattle.mt_base.specs.declared.limits.TheConstants.{PAGE_BYTES};
 ghost use Rattle.mt_base.specs.Edits.{patched};

@@ -1,4 +1,4 @@
-// Which pages are free, and how many of them are claimed.
+// Which pages are free, and how many of them are claimed. It is kept beside the space map, and changes no page.
 ghost use Rattle.std.specs.Prelude.{◌≡◌, ◌==◌, map, ◌≤◌, ◌<◌, ◌+◌, ◌*◌, ◌-◌, ℕ, length, get_or, IfOk, IfErr, OnOk, OnErr, MatchOption, slice_set, true, false};
 ghost use Rattle.mt_space.specs.declared.space.TheConstants.{GROUP_PAGES};
 ghost use Rattle.mt_base.specs.declared.limits.TheConstants.{MAX_PAGES, PAGE_BYTES};

@@ -12,7 +12,7 @@ pub trait Pages {
     /// How many pages there are: their numbers are below this.
     ghost total: { Self → ℕ };
 
-    /// The bytes of the page, where it is at hand.
+    /// The bytes of the page, if it is at hand.
     ghost at_hand: { Self → ℕ → Option (List ℕ) };
 
     /// A page that is at hand is whole.

@@ -35,11 +35,12 @@ IsFound at_hand total r k = (name : RecordName) × IsNamedBy at_hand total r k n
 abbrev pub IsAlone : PageBytes → ℕ → List ℕ → Type 0
 IsAlone pages r k = (p s : ℕ) × (v : List ℕ) × (record_in pages p s ≡ Some (record { relation = r; key = k; value = v })) × ((t : ℕ) → t ≢ s → record_in pages p t ≡ None)
 
--- A delete asks for the key's bucket, and to write for the page of its record; for the map where that page is given back.
+-- A delete asks for the key's bucket, and to write for the page of its record; for the map if that page is given
+-- back.
 abbrev pub IsForDelete : ℕ → List ℕ → PageBytes → ℕ → Mode → Type 0
 IsForDelete r k pages p mode = IsInBucket k ToWrite pages p mode ⊎ ((mode ≡ ToWrite) × (HasStood pages p r k ⊎ ((p ≡ 0) × IsAlone pages r k)))
 
--- An update asks to write for the page of its record. Only where that has no room for the new value it asks for the page
+-- An update asks to write for the page of its record. Only if that has no room for the new value it asks for the page
 -- to move to, which is the one that is named, or else the smallest free one after the map; and for the key's bucket.
 abbrev pub IsForUpdate : Option ℕ → ℕ → ℕ → List ℕ → List ℕ → PageBytes → ℕ → Mode → Type 0
 IsForUpdate room total r k v pages p mode =
@@ -50,8 +51,8 @@ IsForUpdate room total r k v pages p mode =
 abbrev pub HasPut : Option ℕ → ℕ → Row → PageBytes → PageBytes → Type 0
 HasPut room total row pages next = (name : RecordName) × IsChosen room total pages name.page × Adds pages next name.page name.slot row
 
--- An insert asks to write for the page for its record, as an update that moves; and once the record is put, for what its
--- entry needs.
+-- An insert asks to write for the page for its record, as an update that moves; and once the record is put, for what
+-- its entry needs.
 abbrev pub IsForInsert : Option ℕ → ℕ → Bool → Row → PageBytes → ℕ → Mode → Type 0
 IsForInsert room total split row pages p mode =
     ((mode ≡ ToWrite) × IsLooked room total pages p)
@@ -63,8 +64,8 @@ IsForInsert room total split row pages p mode =
 abbrev pub InRows : (ℕ → Option (List ℕ)) → Option ℕ → ℕ → (PageBytes → Type 0) → Type 0
 InRows at_hand room total P = (relations : ℕ) → InRoomy at_hand room relations total (λ pages m. P pages)
 
--- An operation on a row looks for its key; and only once what is at hand shows what the key has, it asks for the record's
--- page, or for what it changes. An operation on a counter asks for page 2.
+-- An operation on a row looks for its key; and only once what is at hand shows what the key has, it asks for the
+-- record's page, or for what it changes. An operation on a counter asks for page 2.
 abbrev pub AsksFor : (ℕ → Option (List ℕ)) → Option ℕ → ℕ → Bool → Op → ℕ → Mode → Type 0
 AsksFor at_hand room total split (Get r k) p mode =
     LooksFor at_hand total k ToRead p mode ⊎ ((s : ℕ) × IsNamedBy at_hand total r k (record { page = p; slot = s }) × (mode ≡ ToRead))

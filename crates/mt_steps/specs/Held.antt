@@ -20,7 +20,7 @@ pub record HoldsRows (pages : PageBytes) (b : Base) : Type 0 where
   pub found : (r : ℕ) (k v : List ℕ) → b.rows r k ≡ Some v → IsThere pages r k v
   pub there : (r : ℕ) (k v : List ℕ) → IsThere pages r k v → b.rows r k ≡ Some v
 
--- the counters are those of page 2, as many as it tells; what lies after the last one is open
+-- the counters are those of page 2, as many as it says; what lies after the last one is open
 abbrev pub HoldsCounts : PageBytes → Base → Type 0
 HoldsCounts pages b = (c : ℕ) → c < get_or (pages 2) 1 0 → b.counts c ≡ count_in (pages 2) c
 
@@ -34,7 +34,8 @@ pub record AreNamed (pages : PageBytes) (m : Map) : Type 0 where
   pub names : (r : ℕ) (k : List ℕ) (n : RecordName) → m r k ≡ Some n → (v : List ℕ) × (record_in pages n.page n.slot ≡ Some (record { relation = r; key = k; value = v }))
   pub named : (p s : ℕ) (row : Row) → record_in pages p s ≡ Some row → m row.relation row.key ≡ Some (record { page = p; slot = s })
 
--- the records and their index, in pages of a schema of so many relations and pages; each bucket page stands in a chain
+-- the records and their index, in pages of a schema of so many relations and pages; each bucket page stands in a
+-- chain
 pub record AreRows (relations total : ℕ) (pages : PageBytes) (m : Map) : Type 0 where
   pub file : IsFile pages
   pub within : AreWithin relations MAX_VALUE_BYTES pages

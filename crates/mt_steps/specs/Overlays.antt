@@ -17,7 +17,7 @@ abbrev pub or_below : Option (List ℕ) → Option (List ℕ) → Option (List �
 or_below (Some copy) below = Some copy
 or_below None below = below
 
--- what is at hand where copies lie over other pages
+-- what is at hand if copies lie over other pages
 abbrev pub shown : List PageCopy → (ℕ → Option (List ℕ)) → ℕ → Option (List ℕ)
 shown copies below p = or_below (copied copies p) (below p)
 
@@ -60,7 +60,7 @@ Keeps p bytes old new = (q : ℕ) → copied new q ≡ (if p == q then Some byte
 abbrev pub AreAtHand : (ℕ → Option (List ℕ)) → List PageChange → Type 0
 AreAtHand at_hand changes = All (λ c. IsSome (at_hand c.page)) changes
 
--- these changes are made in an overlay, or a first part of them where memory was refused
+-- these changes are made in an overlay, or a first part of them if memory was refused
 pub record MakesChanges {V T E : Type 0} (at_hand : ℕ → Option (List ℕ)) (was now : V) (old new : List PageCopy) (changes : List PageChange) (r : Result T E) : Type 0 where
   pub copies : AreCopies at_hand new
   pub views : now ≡ was
@@ -80,7 +80,7 @@ pub record ComeTo (below : ℕ → Option (List ℕ)) (copies : List PageCopy) (
 unfoldable pub names_page : List PageChange → ℕ → Bool
 names_page changes p = list_any (λ (c : PageChange). c.page == p) changes
 
--- a page that is at hand is whole, where those below are
+-- a page that is at hand is whole, if those below are
 pub shown_whole : (copies : List PageCopy) (below : ℕ → Option (List ℕ)) → AreCopies below copies → ((p : ℕ) (bytes : List ℕ) → below p ≡ Some bytes → length bytes ≡ PAGE_BYTES) → (p : ℕ) (bytes : List ℕ) → shown copies below p ≡ Some bytes → length bytes ≡ PAGE_BYTES
 shown_whole copies below sound whole p bytes is = either (copied copies p) is (sound.whole p)
   where

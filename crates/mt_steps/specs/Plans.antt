@@ -37,7 +37,7 @@ IsReading (Get r k) = Unit {0}
 IsReading (Read c) = Unit {0}
 IsReading _ = ⊥
 
--- free pages that an operation may take for itself, where an insert may split a bucket or may not
+-- free pages that an operation may take for itself; an insert may split a bucket or may not
 abbrev pub own_needs : Op → Bool → ℕ
 own_needs (Insert r k v) split = cond split 3 2
 own_needs (Update r k v) split = 1
@@ -80,12 +80,12 @@ IsGivenBack old new = (new ≡ old) ⊎ ((old ≡ 3) × (new ≡ 0))
 abbrev pub HasStood : PageBytes → ℕ → ℕ → List ℕ → Type 0
 HasStood pages p r k = (s : ℕ) × (v : List ℕ) × (record_in pages p s ≡ Some (record { relation = r; key = k; value = v }))
 
--- the page for a record: the named one, or one that was free where none is named
+-- the page for a record: the named one, or one that was free if none is named
 abbrev pub IsInto : Option ℕ → PageBytes → ℕ → Type 0
 IsInto (Some q) pages p = p ≡ q
 IsInto None pages p = kind pages p ≡ 0
 
--- a record that needs a place: of an insert, or of an update where its page has no room for it
+-- a record that needs a place: of an insert, or of an update if its page has no room for it
 abbrev pub NeedsPlace : Op → PageBytes → Type 0
 NeedsPlace (Insert r k v) pages = Unit {0}
 NeedsPlace (Update r k v) pages = (p s : ℕ) (old : List ℕ) → record_in pages p s ≡ Some (record { relation = r; key = k; value = old })
@@ -102,14 +102,14 @@ NeedsEntry (Insert r k v) pages = IsCrowded k pages
 NeedsEntry _ pages = ⊥
 
 -- Each record stands in a page where its key's record stood, or, if it needs a place, in the page for it. A free page
--- is taken only for a record that needs a place, where no page is named, or for an entry that needs a page. Of the other
+-- is taken only for a record that needs a place, if no page is named, or for an entry that needs a page. Of the other
 -- pages, only one of records is given back, and each keeps its kind else.
 pub record TakesPages (room : Option ℕ) (op : Op) (pages pages2 : PageBytes) : Type 0 where
   pub stands : (p s : ℕ) (row : Row) → record_in pages2 p s ≡ Some row → (IsInto room pages p × NeedsPlace op pages) ⊎ HasStood pages p row.relation row.key
   pub taken : (p : ℕ) → kind pages p ≡ 0 → kind pages2 p ≢ 0 → ((kind pages2 p ≡ 3) × (room ≡ None) × NeedsPlace op pages) ⊎ ((kind pages2 p ≡ 2) × NeedsEntry op pages)
   pub given : (p : ℕ) → kind pages p ≢ 0 → IsGivenBack (kind pages p) (kind pages2 p)
 
--- A page that is not at hand keeps its kind, at most so many free pages are taken, and where none may be, pages of
+-- A page that is not at hand keeps its kind, at most so many free pages are taken, and if none may be, pages of
 -- records are given back and no other changes its kind; the directory changes only if a bucket may split, and no page
 -- is left without a record that had one.
 pub record IsModest (at_hand : ℕ → Option (List ℕ)) (total needs : ℕ) (split : Bool) (pages pages2 : PageBytes) : Type 0 where

@@ -91,7 +91,7 @@ pub record IsRepeated (r : Repeated) : Type 0 where
   pub apart : (o : ℕ) → StandsAlone o r.unfinished
   pub leads : (p : ℕ) → redo r.unfinished (held r) p ≡ r.pages p
 
--- the changes that an operation's edits of one page come to, a range each, where the page is `old` before and `new`
+-- the changes that an operation's edits of one page come to, a range each, if the page is `old` before and `new`
 -- after them all
 abbrev pub ranges_of : ℕ → ℕ → List ℕ → List ℕ → List Edit → List Change
 ranges_of op p old new [] = []

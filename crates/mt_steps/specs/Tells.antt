@@ -20,8 +20,8 @@ use Rattle.mt_steps.specs.Acts.{IsAct, IsPlaced, IsTaken, IsMoved}
 use Rattle.mt_steps.specs.Plans.{IsGivenBack, HasStood, NeedsEntry, IsModest}
 use Rattle.mt_steps.specs.Logged.{logged_of}
 
--- an answer by cases: a page that is not at hand and is asked for so, changes and a reply of which this holds, or that this is
--- why it is full
+-- an answer by cases: a page that is not at hand and is asked for so, changes and a reply of which this holds, or
+-- that this is why it is full
 abbrev pub Tells : (ℕ → Option (List ℕ)) → ℕ → (ℕ → Mode → Type 0) → (List PageChange → Reply → Type 0) → Type 0 → Act → Type 0
 Tells at_hand total Asks Does TooFull (Lock p mode) = (at_hand p ≡ None) × (p < total) × Asks p mode
 Tells at_hand total Asks Does TooFull (Made changes reply) = Does changes.list.items reply

@@ -1,10 +1,10 @@
-// What the plan of an operation answers.
+// What the plan of an operation answers: a page that it needs first, or the changes and the reply.
 use mt_base::{Mode, PageNo};
 use mt_model::Reply;
 use mt_space::Changes;
 
 /// The answer of an operation's plan over the pages that are at hand. A plan changes no page itself, whatever it
-/// answers; where memory is refused there is no plan, and it can be made again.
+/// answers; if memory is refused there is no plan, and it can be made again.
 #[derive(Debug, Drop)]
 pub enum Act {
     /// This page has to be locked first, in this mode, and shown. Then the plan is made anew.

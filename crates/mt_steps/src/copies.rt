@@ -1,4 +1,5 @@
-// Pages of which only copies are at hand.
+// Copies of the pages that one operation has looked at: its plan reads these, and no other page is at hand.
+// Their memory goes to a later operation.
 ghost use Rattle.std.specs.Prelude.{◌≡◌, ◌<◌, ◌++◌, ◌∷◌, [], OnOk};
 ghost use Rattle.std.specs.Vec.{vec_len, vec_capacity};
 ghost use Rattle.mt_base.specs.declared.limits.TheConstants.{PAGE_BYTES};
@@ -39,7 +40,7 @@ impl SpareCopies {
         }
     }
 
-    /// Keeps the memory of these copies, which are done with. It does so where there is more of it than is kept so
+    /// Keeps the memory of these copies, which are done with. It does so if there is more of it than is kept so
     /// far, and not more than most operations want.
     pub fn keep(&mut self, copies: Copies) {
         let Copies { total: _, mut list } = copies;

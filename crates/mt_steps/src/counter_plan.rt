@@ -1,4 +1,4 @@
-// Operations on counters.
+// The plans of an add and of a read. Both look at the counters page alone.
 ghost use Rattle.std.specs.Prelude.{◌<◌, ℕ, None};
 ghost use Rattle.mt_base.specs.declared.limits.TheConstants.{MAX_COUNTERS};
 ghost use Rattle.mt_base.specs.Limits.{IsStep};
@@ -14,7 +14,7 @@ use mt_space::pages::COUNTERS;
 use mt_space::{Changes, Pages};
 use std::alloc::{AllocError, Global};
 
-/// Plans to add a step to a counter, where the sum lies in the counter's bounds; else nothing changes, which
+/// Plans to add a step to a counter, if the sum lies in the counter's bounds; else nothing changes, which
 /// escrow rules out before. The counters page is needed for write.
 pub(crate) fn add_to<V: Pages>(
     alloc: Global,

@@ -37,7 +37,7 @@ pub struct SchemaSizes {
     pub counters: u16,
 }
 
-/// The sizes that the page tells.
+/// How many relations and counters the page says there are.
 pub fn sizes(page: &[u8]) -> SchemaSizes
     requires whole { length page.now ≡ PAGE_BYTES }
     ensures relations { result.relations ≡ get_or page.now 0 0 }
@@ -85,7 +85,7 @@ fn sum_of(count: &Count, step: i64) -> i64
     count.number + step
 }
 
-/// Adds a step to a counter where the sum lies in the counter's bounds, and answers whether it does; else
+/// Adds a step to a counter if the sum lies in the counter's bounds, and answers whether it does; else
 /// the page is as before. All other counters stay.
 pub fn add(page: &mut [u8], number: CtrNo, step: i64) -> bool
     requires whole { length page.old ≡ PAGE_BYTES }
@@ -108,7 +108,7 @@ pub fn add(page: &mut [u8], number: CtrNo, step: i64) -> bool
     true
 }
 
-/// Whether these 4,096 bytes are the counters page of a schema of so many relations and counters. It tells both
+/// Whether these 4,096 bytes are the counters page of a schema of so many relations and counters. It says both
 /// numbers and has zeros after them. Each counter's number lies in its bounds, which lie within 10^15 of zero. The
 /// bytes after the last counter are open.
 pub fn check(page: &[u8], relations: u16, counters: u16) -> bool

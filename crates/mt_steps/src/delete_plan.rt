@@ -1,4 +1,4 @@
-// A row less.
+// The plan of a delete: the record goes, and its entry in the index. Pages at hand are read, and none is written.
 ghost use Rattle.std.specs.Prelude.{◌≡◌, ◌≤◌, ◌<◌, ℕ, length, Some, IfOk, IsSome, false};
 ghost use Rattle.mt_base.specs.declared.limits.TheConstants.{MAX_KEY_BYTES};
 ghost use Rattle.mt_base.specs.declared.modes.Mode.TheVariants.{Write as ToWrite};
@@ -19,8 +19,8 @@ use mt_model::Reply;
 use mt_space::{Changes, Pages};
 use std::alloc::{AllocError, Global};
 
-/// Plans to take away the value under a key. That is its record, whose page is given back where it was the last
-/// there, and its entry in the index. Where the key has no value nothing changes. Pages that may change are needed
+/// Plans to take away the value under a key. That is its record, whose page is given back if it was the last
+/// there, and its entry in the index. If the key has no value nothing changes. Pages that may change are needed
 /// for write, the directory for read.
 pub(crate) fn delete<V: Pages>(
     alloc: Global,

@@ -1,4 +1,4 @@
-// A read of a row.
+// The plan of a get: the index names the record, and its page has the value. Nothing changes.
 ghost use Rattle.std.specs.Prelude.{◌≤◌, ◌<◌, ℕ, length};
 ghost use Rattle.mt_base.specs.declared.limits.TheConstants.{MAX_KEY_BYTES};
 ghost use Rattle.mt_steps.specs.Acts.{HasGood};

@@ -1,4 +1,4 @@
-// A row more.
+// The plan of an insert: a record more, and its entry in the index. Pages at hand are read, and none is written.
 ghost use Rattle.std.specs.Prelude.{◌≡◌, ◌⊎◌, ◌≤◌, ◌<◌, ℕ, List, Option, length, None, IfOk, IsSome, cond};
 ghost use Rattle.mt_base.specs.declared.limits.TheConstants.{MAX_KEY_BYTES};
 ghost use Rattle.mt_base.specs.Limits.{IsKey, IsValue};
@@ -25,8 +25,8 @@ use mt_space::{Changes, Pages};
 use std::alloc::{AllocError, Global};
 
 /// Plans to put a value under a key that has none. The record goes into the page `room`, which holds records, or into
-/// a new page where none is named. Its entry goes into the index, which splits a bucket at most where `split` is set.
-/// Where the key has a value nothing changes. Pages that may change are needed for write, the directory for read as
+/// a new page if none is named. Its entry goes into the index, which splits a bucket at most if `split` is set.
+/// If the key has a value nothing changes. Pages that may change are needed for write, the directory for read as
 /// long as no split is due.
 pub(crate) fn insert<V: Pages>(
     alloc: Global,

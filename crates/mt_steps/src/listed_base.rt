@@ -1,4 +1,4 @@
-// The base that pages hold, listed in order.
+// The base that pages hold, listed in order. Surveys and inspections read it off page 2 and the pages of records.
 ghost use Rattle.std.specs.Prelude.{◌≡◌, ◌+◌, ◌<◌, ◌≤◌, ℕ, ℤ, List, length, get_or, None, IfOk, OnOk, IfErr};
 ghost use Rattle.mt_base.specs.declared.limits.TheConstants.{MAX_RELATIONS, MAX_VALUE_BYTES};
 ghost use Rattle.mt_file.specs.File.{record_in};
@@ -31,7 +31,7 @@ fn bounds_in(alloc: Global, page: &[u8], counters: u16) -> Result<Vec<(i64, i64,
     Ok(bounds)
 }
 
-/// A base without rows, of the relations and counters that a counters page tells. The only error is want of memory.
+/// A base without rows, of the relations and counters that a counters page names. The only error is want of memory.
 pub fn base_without_rows(alloc: Global, page: &[u8]) -> Result<Base, AllocError>
     requires few { get_or page.now 0 0 ≤ MAX_RELATIONS }
     requires counted { AreCounters (get_or page.now 0 0) (get_or page.now 1 0) page.now }
@@ -65,9 +65,9 @@ fn list_row(alloc: Global, base: &mut Base, row: RecordView<'_>) -> Result<(), R
     Ok(())
 }
 
-/// Lists the records of a page of records as rows of a base. Records of one relation and key have one value, as where
-/// the pages hold a base; so no row is replaced. The only refusal is [`Refusal::NoMemory`]; the base has then some of
-/// the rows.
+/// Lists the records of a page of records as rows of a base. Records of one relation and key have one value, as they
+/// do if the pages hold a base; so no row is replaced. The only refusal is [`Refusal::NoMemory`]; the base has then
+/// some of the rows.
 pub fn list_rows(alloc: Global, base: &mut Base, page: &[u8]) -> Result<(), Refusal>
     requires page { IsPage (relations_of base.old) MAX_VALUE_BYTES page.now }
     ensures listed { (pages : PageBytes) (p : ℕ) (held : ModelBase) → pages p ≡ page.now → kind pages p ≡ 3

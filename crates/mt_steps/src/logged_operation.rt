@@ -1,4 +1,4 @@
-// What is logged of an operation.
+// What is logged of an operation at its end: all that its inverse needs, and nothing if it has no effect.
 ghost use Rattle.std.specs.Prelude.{◌≡◌, ◌≤◌, ℕ, IfOk, IfErr, IfSome};
 ghost use Rattle.mt_base.specs.declared.limits.TheConstants.{MAX_COUNTERS, MAX_RELATIONS};
 ghost use Rattle.mt_base.specs.declared.refusal.Refusal.{Refusal};
@@ -10,7 +10,7 @@ use mt_base::Refusal;
 use mt_frame::LoggedOp;
 use mt_model::{Op, Reply};
 
-/// What is logged of an operation that replied this: nothing where it did nothing.
+/// What is logged of an operation that replied this: nothing if it did nothing.
 pub fn logged(op: &Op, reply: &Reply) -> Result<Option<LoggedOp>, Refusal>
     ensures logged { IfOk result (λ done. done ≡ logged_of op.now reply.now) }
     ensures operation { (relations counters : ℕ) → relations ≤ MAX_RELATIONS → counters ≤ MAX_COUNTERS →

@@ -30,17 +30,17 @@ use std::alloc::{AllocError, Global};
 /// shown first; then the plan is made anew. [`Act::Made`] says what changes, in pages that are all at hand, and the
 /// operation's reply. An operation that only reads changes nothing, and asks for no page but for read. One that is
 /// not logged changes nothing. [`Act::Full`] says that the operation cannot be done without more free pages, or
-/// without another page for its record than `room`. Of pages that break no rule it is never told that they do
+/// without another page for its record than `room`. Of pages that break no rule it is never answered that they do
 /// ([`Act::Broken`]).
 ///
 /// A row's operation asks for the directory and for the pages of its key's bucket, until it is known what the key
 /// has. Then a get asks to read the record's page. A delete asks to write it, and for the map only if the page is
 /// given back. An update asks to write it, and for another page, the map and the bucket only if it has no room for
-/// the new value. An insert asks to write the page for its record, with the map where none is named. It asks for the
+/// the new value. An insert asks to write the page for its record, with the map if none is named. It asks for the
 /// map, the directory to write and further pages only if the bucket has no room for the entry.
 ///
-/// A record goes into the page `room`, which holds records, or into a new page where none is named. An insert splits
-/// a bucket of the index at most where `split` is set. No operation takes more free pages than [`pages_for`] says of it.
+/// A record goes into the page `room`, which holds records, or into a new page if none is named. An insert splits
+/// a bucket of the index at most if `split` is set. No operation takes more free pages than [`pages_for`] says of it.
 /// The only error is want of memory, and there is no plan then.
 pub fn plan<V: Pages>(
     alloc: Global,
@@ -100,7 +100,7 @@ pub fn plan<V: Pages>(
     }
 }
 
-/// How many free pages an operation may take for itself. An insert takes one more where it may split a bucket of the
+/// How many free pages an operation may take for itself. An insert takes one more if it may split a bucket of the
 /// index.
 pub fn pages_for(op: &Op, split: bool) -> u16
     ensures { result ≡ own_needs op.now split }

@@ -1,4 +1,5 @@
-// Pages as they will be once some changes are made.
+// Pages as they will be once some changes are made: copies of those that change, over all pages as they are.
+// An operation that plans twice makes its second plan over it.
 ghost use Rattle.std.specs.Prelude.{◌≡◌, ◌+◌, ◌≤◌, ℕ, List, [], All, length, IfSome, IfNone, IfOk, OnOk, OnErr, IsSome, Some, None};
 ghost use Rattle.mt_base.specs.declared.limits.TheConstants.{PAGE_BYTES};
 ghost use Rattle.mt_base.specs.Edits.{patched};
@@ -9,7 +10,7 @@ use mt_base::PageNo;
 use mt_space::{Changes, PageChange, Pages, patch};
 use std::alloc::{AllocError, Global};
 
-// A page's bytes as they will be. They stand before its number, so that they are copied once where a copy is put into
+// A page's bytes as they will be. They stand before its number, so that they are copied once when a copy is put into
 // a list. A store of the number first would have them copied aside.
 #[derive(Drop)]
 pub(crate) struct PageCopy {

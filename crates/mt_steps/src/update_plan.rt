@@ -1,4 +1,5 @@
-// Another value in a row.
+// The plan of an update: the record gets the value in its page, or moves, and then its entry names it anew.
+// Pages at hand are read, and none is written.
 ghost use Rattle.std.specs.Prelude.{◌≡◌, ◌≢◌, ◌⊎◌, ◌≤◌, ◌<◌, ℕ, List, Option, length, Some, IfOk, IsSome, MatchBool, false};
 ghost use Rattle.mt_base.specs.declared.limits.TheConstants.{MAX_KEY_BYTES};
 ghost use Rattle.mt_base.specs.Limits.{IsValue};
@@ -23,10 +24,10 @@ use mt_model::Reply;
 use mt_space::{Changes, Pages};
 use std::alloc::{AllocError, Global};
 
-/// Plans to replace the value under a key that has one. The record stays under its name where its page has room for
-/// it. Else it moves into the page `room`, which holds records, or into a new page where none is named; then its
-/// entry names it anew. If the key has no value nothing changes, nor where it has this one. The directory and the
-/// key's bucket are needed for read, and for write where the record moves; pages of records for write.
+/// Plans to replace the value under a key that has one. The record stays under its name if its page has room for
+/// it. Else it moves into the page `room`, which holds records, or into a new page if none is named; then its
+/// entry names it anew. If the key has no value nothing changes, nor if it has this one. The directory and the
+/// key's bucket are needed for read, and for write if the record moves; pages of records for write.
 pub(crate) fn update<V: Pages>(
     alloc: Global,
     views: &V,

@@ -15,7 +15,7 @@ use std::marker::Brand;
 use std::sync::Wait;
 use std::thread::{self, Threads};
 
-/// Wants to be told of nothing.
+/// An observer that wants no point.
 #[derive(Drop)]
 struct NoGate;
 

@@ -1,4 +1,4 @@
--- What a step of an abort does, where nothing forbids it.
+-- What a step of an abort does, if nothing forbids it.
 use Rattle.std.specs.Prelude.{ℕ, ◌≡◌, ◌≢◌, IfErr, IfOk, List, None, OnErr, Result, Ok, Err, true}
 use Rattle.mt_base.specs.declared.refusal.Refusal.{Refusal}
 use Rattle.mt_base.specs.declared.refusal.Refusal.TheVariants.{DeviceFailed, NoMemory}

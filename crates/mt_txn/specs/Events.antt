@@ -55,15 +55,16 @@ HasForced seen may_leave first s (Ok forced.Idle) n = Shows seen may_leave first
 HasForced seen may_leave first s (Ok (forced.Durable names)) n = Shows seen may_leave first (booked_each s names.items) n
 HasForced seen may_leave first s (Err why) n = Shows seen may_leave first s n
 
--- What a step of a force did to the log and to the commits under way. Those that it names are durable now: their records lie up to
--- where the log is durable; and no other commit left.
+-- What a step of a force did to the log and to the commits under way. Those that it names are durable now: their
+-- records lie up to where the log is durable; and no other commit left.
 abbrev pub IsForcedBy : Log → List Commit → KernelForced → Log → List Commit → Type 0
 IsForcedBy old cs forced.More new ds = IsStep old log.More new × (ds ≡ cs)
 IsForcedBy old cs forced.Idle new ds = IsStep old log.Idle new × (ds ≡ cs)
 IsForcedBy old cs (forced.Durable names) new ds = (place : ℕ) × IsStep old (log.Durable place) new × (names.items ≡ durable_txns cs place) × (ds ≡ drop (durable_count cs place) cs)
 
--- What a step of an abort that goes on may lead to: the state as it was; what its transaction runs dropped; or the last effect of its
--- transaction undone by the inverse of that. With either goes the add, where it was one, and no other.
+-- What a step of an abort that goes on may lead to: the state as it was; what its transaction runs dropped; or the
+-- last effect of its transaction undone by the inverse of that. With either goes the add, if it was one, and no
+-- other.
 pub data IsBack (s : State) (t : ℕ) : State → Type 0 where
   stands : IsBack s t s
   drops : (op : Op) (ps : List Pending) → s.running t ≡ Some op → GivesBack t op s.pending ps → IsBack s t (dropped s t ps)

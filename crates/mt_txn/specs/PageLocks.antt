@@ -34,8 +34,8 @@ StepsLocks k n r (Ok step.Again) = BeginsAnew k n r
 StepsLocks k n r (Ok step.Flush) = KeepsPageLocks k n r (Ok (GoingOn going.Flush))
 StepsLocks k n r (Err why) = KeepsPageLocks k n r (Err why)
 
--- What a step of an abort does to them, where an operation is under way: it gets one that the plan of its inverse wants next, and no
--- other; or its own go, and no other's; or they stay.
+-- What a step of an abort does to them, if an operation is under way: it gets one that the plan of its inverse wants
+-- next, and no other; or its own go, and no other's; or they stay.
 abbrev pub AbortsLocks : {D : Type 0} → Core D → Core D → Running → Result AbortStepped Refusal → Type 0
 AbortsLocks k n r (Ok abort.More) = KeepsPageLocks k n r (Ok (GoingOn going.Went)) ⊎ (n.operations.locks ≡ locks_without r.scope.number k.operations.locks)
 AbortsLocks k n r (Ok (abort.Wait other)) = WaitsFor k n r other

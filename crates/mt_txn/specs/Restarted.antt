@@ -15,8 +15,8 @@ use Rattle.mt_replay.specs.Told.{tells}
 abbrev pub all_commits : {D : Type 0} → Core D → List Committed
 all_commits k = k.book.items ++ in_turn (session_in k.live.members) (txns_of k.commits.items) k.live.standing
 
--- A restart finds what some of the first commits lead to. Each that was acknowledged is in the book and one of them, and so is each whose
--- record is durable.
+-- A restart finds what some of the first commits lead to. Each that was acknowledged is in the book and one of them,
+-- and so is each whose record is durable.
 pub record FindsCommits {D : Type 0} (relations counters : ℕ) (first : Base) (k : Core D) (c : List ℕ) : Type 0 where
   pub base : Base
   pub found : CanRestart relations counters c base
@@ -25,8 +25,8 @@ pub record FindsCommits {D : Type 0} (relations counters : ℕ) (first : Base) (
   pub durable : length (tells (durable k.operations.store.log)).books ≤ count
   pub is : base ≡ after first (take count (all_commits k))
 
--- Whenever a crash comes until the device of k is this one, a restart finds in what it leaves what some of the first commits of k lead to,
--- with all that were in its book then, and all whose records were durable.
+-- Whenever a crash comes until the device of k is this one, a restart finds in what it leaves what some of the first
+-- commits of k lead to, with all that were in its book then, and all whose records were durable.
 pub record FindsMeanwhile {D : Type 0} (moment : D → ℕ) (left_since : D → ℕ → List ℕ → Type 0) (relations counters : ℕ) (first : Base) (k : Core D) (device : D) : Type 0 where
   pub later : moment k.operations.store.device ≤ moment device
   pub each : (c : List ℕ) → left_since device (moment k.operations.store.device) c → ∥ FindsCommits relations counters first k c ∥₁

@@ -42,7 +42,8 @@ Restarts seen may_leave first k = RestartsFrom seen may_leave k.relations k.coun
 abbrev pub StaysRestarting : {D : Type 0} → {g : Ghosts D} → (D → List ℕ) → (D → List ℕ → Type 0) → Kernel D g → Kernel D g → Type 0
 StaysRestarting seen may_leave k n = (first : Base) → Restarts seen may_leave first k → Restarts seen may_leave first n
 
--- Whenever a crash comes between k and n, a restart finds in what it leaves what some of the first commits of k lead to.
+-- Whenever a crash comes between k and n, a restart finds in what it leaves what some of the first commits of k lead
+-- to.
 abbrev pub LeavesFound : {D : Type 0} → {g : Ghosts D} → (D → List ℕ) → (D → List ℕ → Type 0) → (D → ℕ) → (D → ℕ → List ℕ → Type 0) → Kernel D g → Kernel D g → Type 0
 LeavesFound seen may_leave moment left_since k n = (first : Base) → Restarts seen may_leave first k → IsRelationCount k.relations
     → FindsMeanwhile moment left_since k.relations k.counters first k.core n.core.operations.store.device

@@ -16,7 +16,8 @@ pub record TellsBase (relations counters : ℕ) (base : Base) (survey : Survey) 
   pub counters_told : length (counters_of survey.base) ≡ counters
   pub same : IsSame counters (base_of survey.base) base
 
--- It has the depth of the directory on page 1, and counts the free pages by the map on page 0, as pages and frames have them.
+-- It has the depth of the directory on page 1, and counts the free pages by the map on page 0, as pages and frames
+-- have them.
 pub record TellsPages {D : Type 0} {g : Ghosts D} (seen : D → List ℕ) (k : Kernel D g) (survey : Survey) : Type 0 where
   pub depth : survey.depth ≡ depth_in (view k.core.operations.store.pool (seen k.core.operations.store.device) 1)
   pub free : survey.free ≡ free_pages (pages k.core.operations.store.pool) (λ p. view k.core.operations.store.pool (seen k.core.operations.store.device) p)

@@ -28,8 +28,8 @@ pub record IsRestOf {D : Type 0} {g : Ghosts D} (k : Kernel D g) (r : KernelRest
   pub relations : r.relations ≡ k.relations
   pub counters : r.counters ≡ k.counters
 
--- No transaction is active in parts that can be restarted. This is their rest, and operations and an escrow are opened
--- on what their book leads to.
+-- No transaction is active in parts that can be restarted. This is their rest, and operations and an escrow are
+-- opened on what their book leads to.
 pub record GoesOn {D : Type 0} (seen : D → List ℕ) (may_leave : D → List ℕ → Type 0) (first : Base) (k : Core D) (rest : KernelRest) (operations : Operations D) (escrow : Escrowed) : Type 0 where
   pub is : parts.IsRestOf k rest.rest
   pub nobody : length k.live.members ≡ 0

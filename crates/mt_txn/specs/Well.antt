@@ -26,7 +26,8 @@ abbrev pub ShowsIn : {D : Type 0} → (D → List ℕ) → (D → List ℕ → T
 ShowsIn seen may_leave relations counters first s k =
     ∥ ((origin : Origin) × (base : Base) × IsOrigin relations counters first origin × IsIn seen may_leave origin base s k) ∥₁
 
--- what a kernel begins on: its book begins with the log's area, the pages hold the first base, and the escrow has its counters
+-- what a kernel begins on: its book begins with the log's area, the pages hold the first base, and the escrow has its
+-- counters
 pub record IsOpening {D : Type 0} (seen : D → List ℕ) (may_leave : D → List ℕ → Type 0) (origin : Origin) (o : Operations D) (e : Escrowed) : Type 0 where
   pub schema : IsSchema origin
   pub area : IsFirstArea origin

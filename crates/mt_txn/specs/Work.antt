@@ -12,8 +12,8 @@ use Rattle.mt_txn.specs.declared.answers.AbortStepped.TheVariants as abort
 use Rattle.mt_txn.specs.declared.answers.Stepped.{Stepped}
 use Rattle.mt_txn.specs.declared.answers.Stepped.TheVariants as step
 
--- What a step answers of an operation that goes on. It names the transaction whose operation holds the page; where none has that
--- operation, it is asked again.
+-- What a step answers of an operation that goes on. It names the transaction whose operation holds the page; if none
+-- has that operation, it is asked again.
 abbrev pub IsToldAs : List Running → Going → Stepped → Type 0
 IsToldAs rs g (step.Replied reply) = ⊥
 IsToldAs rs g step.Went = g ≡ going.Went
@@ -53,8 +53,8 @@ IsAbortForOther ms t abort.Ended = ⊤
 
 -- ---- the steps that are left
 
--- What a step that answered this leaves of a transaction's steps, over so many pages: going on and ending lower them, beginning anew
--- raises them by two a page at most, and a step that waits or is refused leaves no more.
+-- What a step that answered this leaves of a transaction's steps, over so many pages: going on and ending lower them,
+-- beginning anew raises them by two a page at most, and a step that waits or is refused leaves no more.
 abbrev pub LowersSteps : ℕ → Result Stepped Refusal → ℕ → ℕ → Type 0
 LowersSteps pages (Ok (step.Replied reply)) before now = (0 < before) × (now ≡ 0)
 LowersSteps pages (Ok step.Went) before now = now < before
@@ -63,8 +63,8 @@ LowersSteps pages (Ok step.Again) before now = now ≤ before + 2 * pages
 LowersSteps pages (Ok step.Flush) before now = now ≤ before
 LowersSteps pages (Err why) before now = now ≤ before
 
--- A step of an abort that went on leaves fewer of its steps, and the end comes where none are left. One that begins anew may leave more,
--- by two a page at most; every other, and one that is refused, leaves no more.
+-- A step of an abort that went on leaves fewer of its steps, and the end comes if none are left. One that begins anew
+-- may leave more, by two a page at most; every other, and one that is refused, leaves no more.
 abbrev pub LowersAbort : ℕ → Result AbortStepped Refusal → ℕ → ℕ → Type 0
 LowersAbort pages (Ok abort.More) before now = now < before
 LowersAbort pages (Ok (abort.Wait other)) before now = now ≤ before

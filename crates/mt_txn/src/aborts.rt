@@ -1,4 +1,5 @@
-// Aborts, by the inverses of what was done.
+// Aborts: an operation under way is taken back, and each effect is undone by its inverse, the last one first.
+// A call makes one step of it, by the core.
 ghost use Rattle.std.specs.Prelude.{◌≡◌, ◌≢◌, ◌⊎◌, ◌<◌, ◌≤◌, length, All, Ok, IfOk, IfErr, OnOk, OnErr, None, Some, Err, true, false};
 ghost use Rattle.mt_base.specs.declared.refusal.Refusal.{Refusal};
 ghost use Rattle.mt_live.specs.Machine.{State};
@@ -31,7 +32,7 @@ impl<D: Device> Kernel<D> {
     /// its end. If nobody is in the way, over n pages, they have a bound. They are at most 2 n + 10 for each
     /// operation of it that stands or is under way, and the end. It takes no memory, and makes no call of the device.
     ///
-    /// Refused, in this order: 2 where the device has failed, 15 where the transaction is not open. Nothing has
+    /// Refused, in this order: 2 if the device has failed, 15 if the transaction is not open. Nothing has
     /// changed then.
     pub fn abort_begin(&mut self, txn: TxnNo) -> Result<(), Refusal>
         ensures may { OnOk result (open_cause (is_failed self.old) self.old.core txn ≡ None) }
@@ -96,7 +97,7 @@ impl<D: Device> Kernel<D> {
         }
     }
 
-    // What a step of an abort answers where its inverse goes on.
+    // What a step of an abort answers if its inverse goes on.
     fn going(&self, going: Going) -> AbortStepped
         ensures { IsAbortToldAs self.now.core.running.items going result }
     {
@@ -132,11 +133,11 @@ impl<D: Device> Kernel<D> {
     /// for another transaction that lives. It locks no page but one that the plan of an inverse asks for next, and
     /// gives no other operation's page locks back. It makes no record of the log durable.
     ///
-    /// How many steps: each that answers [`AbortStepped::More`] lowers what the abort has left, and the end comes where
+    /// How many steps: each that answers [`AbortStepped::More`] lowers what the abort has left, and the end comes if
     /// nothing is left. [`AbortStepped::Again`] adds two steps a page at most.
     ///
-    /// Refused, in this order: 2 where the device has failed, 15 where the transaction is not being undone, 1 for
-    /// want of memory. It is refused with 2, too, where the device fails in this step, so no fault is passed over. The
+    /// Refused, in this order: 2 if the device has failed, 15 if the transaction is not being undone, 1 for
+    /// want of memory. It is refused with 2, too, if the device fails in this step, so no fault is passed over. The
     /// step may be asked again after 1.
     pub fn abort_step(&mut self, txn: TxnNo) -> Result<AbortStepped, Refusal>
         ensures may { OnOk result (abort_cause (is_failed self.old) self.old.core txn ≡ None) }

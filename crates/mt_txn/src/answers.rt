@@ -1,4 +1,4 @@
-// What the kernel's calls answer where they are not refused.
+// What the kernel's calls answer if they are not refused.
 use mt_base::TxnNo;
 use mt_model::Reply;
 

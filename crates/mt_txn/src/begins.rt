@@ -1,4 +1,4 @@
-// Transactions that begin.
+// The begin of a transaction: its tests, and then the core's begin.
 ghost use Rattle.std.specs.Prelude.{◌≡◌, ◌≢◌, ◌+◌, ◌^◌, IfOk, IfErr, OnOk, OnErr, None, Some};
 ghost use Rattle.mt_base.specs.declared.refusal.Refusal.{Refusal};
 ghost use Rattle.mt_live.specs.Machine.{State, begun};
@@ -18,8 +18,8 @@ impl<D: Device> Kernel<D> {
     /// Begins a transaction of this session, and answers its number. It keeps the log bytes of its end and logs
     /// nothing. It makes no call of the device.
     ///
-    /// Refused, in this order: 2 where the device has failed, 13 where 64 transactions live. Then 12 where the book's
-    /// commits and those that live make 1,000,000, or 2^40 were begun. Then 11 where the log has too few bytes left,
+    /// Refused, in this order: 2 if the device has failed, 13 if 64 transactions live. Then 12 if the book's
+    /// commits and those that live make 1,000,000, or 2^40 were begun. Then 11 if the log has too few bytes left,
     /// and 1 for want of memory. Nothing has changed then.
     pub fn begin(&mut self, session: u32) -> Result<TxnNo, Refusal>
         ensures number { IfOk result (λ txn. txn ≡ self.old.core.live.begun + 1) }

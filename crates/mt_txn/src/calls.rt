@@ -19,15 +19,15 @@ use mt_model::Op;
 
 impl<D: Device> Kernel<D> {
     /// Calls an operation in an open transaction; [`Kernel::step`] brings it to its end. It takes the operation's
-    /// lock, escrow's leave where it is an add, and pages and log bytes for the operation and for its inverse.
+    /// lock, escrow's leave if it is an add, and pages and log bytes for the operation and for its inverse.
     ///
-    /// Refused, in this order: 2 where the device has failed, 15 where the transaction is not open, 16 where an
-    /// operation of it is unfinished. Then 17 where 256 operations of it have ended or 2^40 were called by all. Then
-    /// 6 or 7 where the relation or the counter is not there. Then 5 or 8 where a key, a value or a step is past its
-    /// limits. Then 14 where an older transaction holds a lock in the way, 9 where some choice of the pending adds
-    /// would leave the counter's bounds. Then 10 where too few pages are free and not claimed, 11 where the log has
+    /// Refused, in this order: 2 if the device has failed, 15 if the transaction is not open, 16 if an
+    /// operation of it is unfinished. Then 17 if 256 operations of it have ended or 2^40 were called by all. Then
+    /// 6 or 7 if the relation or the counter is not there. Then 5 or 8 if a key, a value or a step is past its
+    /// limits. Then 14 if an older transaction holds a lock in the way, 9 if some choice of the pending adds
+    /// would leave the counter's bounds. Then 10 if too few pages are free and not claimed, 11 if the log has
     /// too few bytes left. If a younger transaction is in the way, it answers [`Called::Wait`]. Refusal 1 is for
-    /// want of memory, at the point where it is wanted. In each of these cases nothing of the call is kept.
+    /// want of memory, at the point if it is wanted. In each of these cases nothing of the call is kept.
     pub fn call(&mut self, txn: TxnNo, op: Op) -> Result<Called, Refusal>
         ensures early { (why : Refusal)
             → call_cause self.old.relations self.old.counters (is_failed self.old) self.old.core txn op ≡ Some why

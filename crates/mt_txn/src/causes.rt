@@ -1,4 +1,4 @@
-// Why calls are refused, before they ask locks, escrow, pages and log.
+// Why calls are refused before the core is asked for locks, adds, pages and log bytes. Nothing changes here.
 ghost use Rattle.std.specs.Prelude.{◌≡◌, ◌≢◌, ◌<◌, ◌^◌, All, IfNone, None, Some, false, true};
 ghost use Rattle.mt_base.specs.declared.limits.TheConstants.{MAX_BEGUN};
 ghost use Rattle.mt_core.specs.Runs.{state_in};

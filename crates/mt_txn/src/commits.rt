@@ -25,10 +25,10 @@ use mt_pool::Flushed;
 
 impl<D: Device> Kernel<D> {
     /// Begins the commit of an open transaction: its Commit is appended, and the force steps that follow make it
-    /// durable. Until then the transaction lives with its locks, and nothing else can be asked of it. Answers its place
-    /// in this opening's order of commits, from 1. It makes no call of the device.
+    /// durable. Until then the transaction lives with its locks, and nothing else can be asked of it. Answers its
+    /// place in this opening's order of commits, from 1. It makes no call of the device.
     ///
-    /// Refused, in this order: 2 where the device has failed, 15 where the transaction is not open, 16 where an
+    /// Refused, in this order: 2 if the device has failed, 15 if the transaction is not open, 16 if an
     /// operation of it is unfinished. Then 1 for want of memory. The state is as before.
     pub fn commit_begin(&mut self, txn: TxnNo) -> Result<u64, Refusal>
         ensures may { OnOk result (commit_cause (is_failed self.old) self.old.core txn ≡ None) }
@@ -73,7 +73,7 @@ impl<D: Device> Kernel<D> {
     /// with its last, which answers the transactions whose commits are durable now. They are in the book then, in the
     /// order of their commits, and live no more.
     ///
-    /// Refused, in this order: 2 where the device has failed, 1 for want of memory, 2 where the device fails in this
+    /// Refused, in this order: 2 if the device has failed, 1 for want of memory, 2 if the device fails in this
     /// call. So no fault is passed over. The state is as before.
     pub fn force_step(&mut self) -> Result<KernelForced, Refusal>
         ensures cause { IfErr result (λ why. why ≢ Refusal.NoMemory
@@ -114,11 +114,11 @@ impl<D: Device> Kernel<D> {
         }
     }
 
-    /// Writes a page into its slot, where one waits for no record that is not durable. Else it answers
-    /// [`Flushed::Force`] where a force step has to come first, and [`Flushed::Clean`] where no page is to be
+    /// Writes a page into its slot, if one waits for no record that is not durable. Else it answers
+    /// [`Flushed::Force`] if a force step has to come first, and [`Flushed::Clean`] if no page is to be
     /// written.
     ///
-    /// Refused with 2 where the device has failed or fails in this call, so no fault is passed over. The state is as
+    /// Refused with 2 if the device has failed or fails in this call, so no fault is passed over. The state is as
     /// before.
     pub fn flush_step(&mut self) -> Result<Flushed, Refusal>
         ensures cause { IfErr result (IsFailure D.faults (is_failed self.old) self.old.core self.new.core) }

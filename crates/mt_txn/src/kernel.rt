@@ -1,4 +1,5 @@
-// A kernel over pages.
+// A kernel over pages: its type, how it is put together, and laws of whatever state it shows.
+// Its calls are in the other files. Each tests for refusals first, and then calls the core.
 ghost use Rattle.std.specs.Prelude.{◌≡◌, ◌≢◌, ◌↔◌, ℕ, List, [], None, Some, Err, IsTrue, true, false, is_some};
 ghost use Rattle.mt_base.specs.declared.refusal.Refusal.{Refusal};
 ghost use Rattle.mt_live.specs.Machine.{State, start, IsKept, is_live};
@@ -54,8 +55,8 @@ impl<D: Device> Kernel<D> {
     ghost use Rattle.mt_txn.specs.Shown.{Restarts, Shows, is_failed};
 
     /// A kernel without transactions, over operations of a log area without records but the images that it began
-    /// with. Their pages hold a base, which is the first of its history. The escrow has that base's counters. It takes
-    /// no memory.
+    /// with. Their pages hold a base, which is the first of its history. The escrow has that base's counters. It
+    /// takes no memory.
     pub fn assemble(
         alloc: Global,
         operations: Operations<D>,
@@ -84,8 +85,8 @@ impl<D: Device> Kernel<D> {
         }
     }
 
-    /// Whether the device has failed in a call of this kernel. Each later call is refused with 2 then, and the device is to
-    /// be opened again.
+    /// Whether the device has failed in a call of this kernel. Each later call is refused with 2 then, and the device
+    /// is to be opened again.
     pub fn has_failed(&self) -> bool
         ensures { result ≡ is_failed self.now }
     {
@@ -120,8 +121,8 @@ impl<D: Device> Kernel<D> {
             → ∥ FindsCommits self.now.relations self.now.counters first self.now.core c ∥₁ }
     {}
 
-    /// Whatever state a kernel shows tells who lives, and who runs an operation; and where nobody commits, no commit is
-    /// under way.
+    /// Whatever state a kernel shows has the transactions that are active, and those that run an operation. If none
+    /// commits, no commit is under way.
     pub fn shows_who_lives(&self)
         ensures lives { (first : Base) (s : State) → Shows D.seen D.may_leave first s self.now
             → (t : ℕ) → is_live s t ≡ is_some (state_in self.now.core.live.members t) }

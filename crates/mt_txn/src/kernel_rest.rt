@@ -1,4 +1,4 @@
-// What outlasts an area of the log.
+// What outlasts an area of the log: the book, and the last numbers given. A rotation hands it to the next kernel.
 ghost use Rattle.mt_base.specs.Limits.{IsRelationCount};
 
 use mt_core::Rest;

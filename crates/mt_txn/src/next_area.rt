@@ -1,4 +1,5 @@
-// A kernel that goes on over the other area of its log.
+// A kernel that goes on over the other area of its log: it is taken apart, and joined to other operations.
+// mt_restart calls it in a rotation, in which the book and the numbers go on.
 ghost use Rattle.std.specs.Prelude.{◌≡◌, ◌↔◌, ℕ, List, IsTrue};
 ghost use Rattle.mt_core.specs.Consistent.{IsFresh};
 ghost use Rattle.mt_log.specs.Words.{area_size, has_failed, used};
@@ -38,17 +39,17 @@ impl<D: Device> Kernel<D> {
         self.core.log().area_size()
     }
 
-    /// If no transaction is active and all that was appended is durable, a restart finds what the whole book leads to,
-    /// whatever a crash leaves.
+    /// If no transaction is active and all that was appended is durable, a restart finds what the whole book leads
+    /// to, whatever a crash leaves.
     pub fn rests_on_its_book(&self)
         ensures { (first : Base) (c : List ℕ) → Restarts D.seen D.may_leave first self.now → HasNobody self.now
             → IsForced self.now → D.may_leave self.now.core.operations.store.device c
             → ∥ CanRestart self.now.relations self.now.counters c (after first self.now.core.book.items) ∥₁ }
     {}
 
-    /// The kernel goes on over other operations and another escrow, which have what its book leads to: the laws see nothing
-    /// of it. The operations are those of a log area without records but the images that it began with. It takes no
-    /// memory.
+    /// The kernel goes on over other operations and another escrow, which have what its book leads to: the laws see
+    /// nothing of it. The operations are those of a log area without records but the images that it began with. It
+    /// takes no memory.
     pub fn join(rest: KernelRest, operations: Operations<D>, escrow: Escrow) -> Kernel<D>
         requires fresh { IsFresh operations escrow }
         requires goes_on { CanGoOn D.seen D.may_leave rest operations escrow }

@@ -1,4 +1,5 @@
-// Steps of operations.
+// A step of the operation of an open transaction: its tests, and then the core's step.
+// The answer names the transaction that is in the way, if one is.
 ghost use Rattle.std.specs.Prelude.{◌≡◌, ◌≢◌, ◌⊎◌, Ok, IfOk, IfErr, OnOk, None, Some};
 ghost use Rattle.mt_base.specs.declared.refusal.Refusal.{Refusal};
 ghost use Rattle.mt_live.specs.Machine.{State};
@@ -32,8 +33,8 @@ impl<D: Device> Kernel<D> {
     /// own page locks back to begin anew. They are given back at its end, too; other operations' locks stay. It makes
     /// no record of the log durable.
     ///
-    /// Refused, in this order, with 2 where the device has failed. Then 15 where the transaction is not open or has
-    /// no operation under way, and 1 for want of memory. It is refused with 2, too, where the device fails in this
+    /// Refused, in this order, with 2 if the device has failed. Then 15 if the transaction is not open or has
+    /// no operation under way, and 1 for want of memory. It is refused with 2, too, if the device fails in this
     /// step, so no fault is passed over. The state is as before.
     pub fn step(&mut self, txn: TxnNo) -> Result<Stepped, Refusal>
         ensures may { OnOk result (step_cause (is_failed self.old) self.old.core txn ≡ None) }
@@ -75,7 +76,7 @@ impl<D: Device> Kernel<D> {
         }
     }
 
-    // What a step answers where its operation goes on.
+    // What a step answers if its operation goes on.
     fn stepped(&self, going: Going) -> Stepped
         ensures { IsToldAs self.now.core.running.items going result }
     {

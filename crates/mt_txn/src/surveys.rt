@@ -1,4 +1,4 @@
-// What the pages of a kernel come to.
+// What the pages of a kernel come to while no transaction is active: a base and some figures. No page changes.
 ghost use Rattle.std.specs.Prelude.{◌≡◌, ◌≢◌, ◌⊎◌, IfOk, IfErr, OnOk, None, Some};
 ghost use Rattle.mt_base.specs.declared.refusal.Refusal.{Refusal};
 ghost use Rattle.mt_core.specs.Consistent.{OnlyOperations};
@@ -15,12 +15,13 @@ use mt_disk::Device;
 use mt_op::Survey;
 
 impl<D: Device> Kernel<D> {
-    /// Tells what the pages come to while no transaction is active. That is the depth of the index's directory, how
-    /// many pages are free, and the base, row by row, read from their bytes. So the base that [`Kernel::step`] acts on
-    /// is the one that the pages hold. It reads each page of records once, writes nothing, and needs no free frame.
+    /// Answers what the pages come to while no transaction is active. That is the depth of the index's directory, how
+    /// many pages are free, and the base, row by row, read from their bytes. So the base that [`Kernel::step`] acts
+    /// on is the one that the pages hold. It reads each page of records once, writes nothing, and needs no free
+    /// frame.
     ///
-    /// Refused, in this order: 2 where the device has failed, 16 where a transaction lives. Then 1 for want of memory
-    /// and 2 where the device fails in this call, so no fault is passed over. The state is as before in any case.
+    /// Refused, in this order: 2 if the device has failed, 16 if a transaction lives. Then 1 for want of memory
+    /// and 2 if the device fails in this call, so no fault is passed over. The state is as before in any case.
     pub fn survey(&mut self) -> Result<Survey, Refusal>
         ensures may { OnOk result (survey_cause (is_failed self.old) self.old.core ≡ None) }
         ensures cause { IfErr result (λ why. why ≢ Refusal.NoMemory

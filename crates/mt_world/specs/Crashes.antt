@@ -1,4 +1,4 @@
--- What a restart finds where a crash comes while events are made.
+-- What a restart finds if a crash comes while events are made.
 use Rattle.std.specs.Prelude.{ℕ, ◌≡◌, ◌⊎◌, ◌<◌, ◌≤◌, ◌+◌, List, get_or, length, take, IfErr, IfOk, Result}
 use Rattle.mt_base.specs.declared.refusal.Refusal.{Refusal}
 use Rattle.mt_disk.specs.Disk.{LeavesOnly}
@@ -22,15 +22,17 @@ use Rattle.mt_world.specs.declared.kernel_or_device.Standing.TheVariants.{Stands
 abbrev pub device_under : {D : Type 0} → {g : Ghosts D} → Kernel D g → D
 device_under k = k.core.operations.store.device
 
--- A restart finds in these bytes what some of the first commits of a kernel lead to. All that were acknowledged by then are among them, for they
--- are its book; and all whose records were durable. At least so many events were made by then, and at most so many.
+-- A restart finds in these bytes what some of the first commits of a kernel lead to. All that were acknowledged by
+-- then are among them, for they are its book; and all whose records were durable. At least so many events were made
+-- by then, and at most so many.
 pub record FindsBetween {D : Type 0} {g : Ghosts D} (first : Base) (behind : ℕ → Kernel D g) (least most : ℕ) (c : List ℕ) : Type 0 where
   pub made : ℕ
   pub past : least ≤ made
   pub within : made ≤ most
   pub finds : FindsCommits (behind made).relations (behind made).counters first (behind made).core c
 
--- Whatever a crash left since the device of a kernel was this one, a restart finds in it what some of the first commits of the kernel lead to.
+-- Whatever a crash left since the device of a kernel was this one, a restart finds in it what some of the first
+-- commits of the kernel lead to.
 pub record FindsSince {D : Type 0} {g : Ghosts D} (moment : D → ℕ) (left_since : D → ℕ → List ℕ → Type 0) (since : D) (first : Base) (k : Kernel D g) : Type 0 where
   pub later : moment since ≤ moment (device_under k)
   pub each : (c : List ℕ) → left_since (device_under k) (moment since) c → ∥ FindsCommits k.relations k.counters first k.core c ∥₁
@@ -38,9 +40,10 @@ pub record FindsSince {D : Type 0} {g : Ghosts D} (moment : D → ℕ) (left_sin
   pub before : (t : ℕ) (c : List ℕ) → t ≤ moment since → left_since (device_under k) t c
       → ∥ left_since since t c ⊎ FindsCommits k.relations k.counters first k.core c ∥₁
 
--- The events led from kernel to kernel, the last of which is k, until the device is this one. Whatever a crash leaves since one of these
--- kernels stood, a restart finds in it what some of the first commits of that one, or of a later one, lead to. And so it does in what a crash
--- leaves since the device was another one, before the first kernel stood.
+-- The events led from kernel to kernel, the last of which is k, until the device is this one. Whatever a crash leaves
+-- since one of these kernels stood, a restart finds in it what some of the first commits of that one, or of a later
+-- one, lead to. And so it does in what a crash leaves since the device was another one, before the first kernel
+-- stood.
 pub record FoundUntil {D : Type 0} {g : Ghosts D} (seen : D → List ℕ) (may_leave : D → List ℕ → Type 0) (moment : D → ℕ) (left_since : D → ℕ → List ℕ → Type 0) (faults : D → ℕ)
     (since : D) (first : Base) (events : List Event) (answers : List Answer) (k : Kernel D g) (device : D) : Type 0 where
   -- the kernel after so many events
@@ -60,7 +63,7 @@ pub record FoundUntil {D : Type 0} {g : Ghosts D} (seen : D → List ℕ) (may_l
   pub before : (t : ℕ) (c : List ℕ) → t ≤ moment since → left_since device t c
       → ∥ left_since since t c ⊎ FindsBetween first behind 0 (length events) c ∥₁
 
--- where a rotation has ended the kernel, until the device is the one that it left
+-- the same once a rotation has ended the kernel, until the device is the one that it left
 pub record FoundUntilEnd {D : Type 0} (g : Ghosts D) (seen : D → List ℕ) (may_leave : D → List ℕ → Type 0) (moment : D → ℕ) (left_since : D → ℕ → List ℕ → Type 0) (faults : D → ℕ)
     (relations counters : ℕ) (since : D) (first : Base) (events : List Event) (answers : List Answer) (device : D) : Type 0 where
   pub ended : HasEnded g seen may_leave moment left_since faults relations counters first events answers device
@@ -102,8 +105,8 @@ pub record BeginsOn {D : Type 0} {g : Ghosts D} (seen : D → List ℕ) (may_lea
   pub cause : IfErr r (λ gone. (gone.0 ≡ Refusal.NoMemory) ⊎ ((gone.0 ≡ Refusal.BadLength) × (length (seen device) < device_bytes s) ⊎ (gone.0 ≡ Refusal.DeviceFailed) × (faults device < faults gone.1)))
   pub short : IfErr r (λ gone. gone.0 ≡ Refusal.BadLength → gone.1 ≡ device)
 
--- A device was formatted, a kernel was opened on it, and then the events were made. Whenever a crash comes from the format on, a restart finds
--- what some of the first commits lead to, beginning with the schema's first base.
+-- A device was formatted, a kernel was opened on it, and then the events were made. Whenever a crash comes from the
+-- format on, a restart finds what some of the first commits lead to, beginning with the schema's first base.
 pub record FoundFromFormat {D : Type 0} {g : Ghosts D} (seen : D → List ℕ) (may_leave : D → List ℕ → Type 0) (moment : D → ℕ) (left_since : D → ℕ → List ℕ → Type 0) (faults : D → ℕ)
     (s : Schema) (device : D) (events : List Event) (answers : List Answer) (standing : Standing D g) : Type 0 where
   -- the device after its format

@@ -37,7 +37,7 @@ abbrev pub IsCaused : Option Refusal → Refusal → Type 0
 IsCaused cause why = (why ≡ refusal.NoMemory) ⊎ (cause ≡ Some why)
 
 module _ {D : Type 0} {g : Ghosts D} where
-  -- a step of an operation has fewer left after it where it went on; it waits for another's, or lacks a frame
+  -- a step of an operation has fewer left after it if it went on; it waits for another's, or lacks a frame
   pub record IsStepped (k : Kernel D g) (t : ℕ) (told : StepTold) (n : Kernel D g) : Type 0 where
     pub may : step_cause (is_failed k) k.core t ≡ None
     pub work : LowersSteps (pages k.core.operations.store.pool) (Ok told) (steps_in k.core.running.items t) (steps_in n.core.running.items t)
@@ -63,8 +63,8 @@ module _ {D : Type 0} {g : Ghosts D} where
     pub fresh : AreImages (appended n.core.operations.store.log)
 
 module _ {D : Type 0} {g : Ghosts D} (seen : D → List ℕ) (may_leave : D → List ℕ → Type 0) (faults : D → ℕ) where
-  -- The answer is due to the kernel: a refusal has its cause, or memory was wanting, or the device failed in the call; what is not
-  -- refused had no cause to be, and tells what was done.
+  -- The answer is due to the kernel: a refusal has its cause, or memory was wanting, or the device failed in the
+  -- call; what is not refused had no cause to be, and answers what was done.
   abbrev pub IsDue : Kernel D g → Event → Answer → Kernel D g → Type 0
   IsDue k (Begin session) (Refused why) n = IsCaused (begin_cause (is_failed k) k.core) why
   IsDue k (Begin session) answer n = begin_cause (is_failed k) k.core ≡ None

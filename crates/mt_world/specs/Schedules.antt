@@ -24,8 +24,8 @@ use Rattle.mt_world.specs.declared.events.Event.TheVariants.{Rotate}
 use Rattle.mt_world.specs.declared.kernel_or_device.Standing.{Standing}
 use Rattle.mt_world.specs.declared.kernel_or_device.Standing.TheVariants.{Stands, Ended}
 
--- An event led a kernel to another, whatever state it showed; and whenever a crash came in it, a restart finds what some of the first
--- commits of the kernel lead to.
+-- An event led a kernel to another, whatever state it showed; and whenever a crash came in it, a restart finds what
+-- some of the first commits of the kernel lead to.
 pub record HasMade {D : Type 0} {g : Ghosts D} (seen : D → List ℕ) (may_leave : D → List ℕ → Type 0) (moment : D → ℕ) (left_since : D → ℕ → List ℕ → Type 0) (faults : D → ℕ) (k : Kernel D g) (event : Event) (answer : Answer) (n : Kernel D g) : Type 0 where
   pub leads : (first : Base) (s : State) → Restarts seen may_leave first k → Shows seen may_leave first s k
       → ∥ ((acts : List Act) × (z : State) × Moves s event answer acts z × Shows seen may_leave first z n) ∥₁
@@ -48,18 +48,20 @@ module _ {D : Type 0} {g : Ghosts D} (seen : D → List ℕ) (may_leave : D → 
     pub schema : SameSchema k n
     pub shows : Shows seen may_leave first z n
 
-  -- One after the other, from a kernel on this base without transactions on: what ended, the state that is shown then, and the kernel.
+  -- One after the other, from a kernel on this base without transactions on: what ended, the state that is shown
+  -- then, and the kernel.
   pub data Makes (first : Base) : List Event → List Answer → List Act → State → Kernel D g → Type 0 where
     starts : (k : Kernel D g) → Shows seen may_leave first (start first) k → Makes first [] [] [] (start first) k
     goes_on : (events : List Event) (answers : List Answer) (acts more : List Act) (s z : State) (k n : Kernel D g) (event : Event) (answer : Answer)
         → Makes first events answers acts s k → IsMade first s k event answer more z n
         → Makes first (events ++ event ∷ []) (answers ++ answer ∷ []) (acts ++ more) z n
 
-  -- What ended replied as the model does, one operation after the other, and leads to the base that the pages hold. The book has the
-  -- acknowledged commits in their order, each with the replies that its session was given; and they are what its transactions do alone, one
-  -- after the other. What stands of the others is explained, whoever of them is struck out. After the first refusal 2 each answer is that.
-  -- The book, and after it the commits under way, are all commits that have begun, in the order in which they did. And whatever a crash
-  -- leaves of the kernel can be restarted from.
+  -- What ended replied as the model does, one operation after the other, and leads to the base that the pages hold.
+  -- The book has the acknowledged commits in their order, each with the replies that its session was given; and they
+  -- are what its transactions do alone, one after the other. What stands of the others is explained, whoever of them
+  -- is struck out. After the first refusal 2 each answer is that. The book, and after it the commits under way, are
+  -- all commits that have begun, in the order in which they did. And whatever a crash leaves of the kernel can be
+  -- restarted from.
   pub record HasRun (first : Base) (events : List Event) (answers : List Answer) (n : Kernel D g) : Type 0 where
     pub acts : List Act
     pub state : State
@@ -76,8 +78,8 @@ module _ {D : Type 0} {g : Ghosts D} (seen : D → List ℕ) (may_leave : D → 
     pub broken : StayBroken answers
     pub restarts : Restarts seen may_leave first n
 
--- The first of the events ran, and then a rotation was refused and left the device; each later event was refused with 2. The
--- device represents what the book leads to, unless it failed.
+-- The first of the events ran, and then a rotation was refused and left the device; each later event was refused with
+-- 2. The device represents what the book leads to, unless it failed.
 pub record HasEnded {D : Type 0} (g : Ghosts D) (seen : D → List ℕ) (may_leave : D → List ℕ → Type 0) (moment : D → ℕ) (left_since : D → ℕ → List ℕ → Type 0) (faults : D → ℕ)
     (relations counters : ℕ) (first : Base) (events : List Event) (answers : List Answer) (device : D) : Type 0 where
   pub done : List Event

@@ -22,15 +22,16 @@ use Rattle.mt_world.specs.declared.events.Event.{Event}
 use Rattle.mt_world.specs.declared.kernel_or_device.Standing.{Standing}
 use Rattle.mt_world.specs.declared.stopping_device.StoppingDevice.{StoppingDevice}
 
--- A restart finds in these bytes what some of the first of these commits lead to from the schema's first base, and so many of them at least.
+-- A restart finds in these bytes what some of the first of these commits lead to from the schema's first base, and so
+-- many of them at least.
 pub record FindsFirst (s : Schema) (least : ℕ) (order : List Committed) (c : List ℕ) : Type 0 where
   pub count : ℕ
   pub past : least ≤ count
   pub within : count ≤ length order
   pub finds : CanRestart (relations_in s) (length (counters_in s)) c (after (schema_base s) (take count order))
 
--- The events were made, as their answers tell, over a device that takes so many writes and syncs. A crash may leave this content of the
--- device in memory below it, and does where each write since the last sync leaves what `fill` says.
+-- The events were made, as their answers say, over a device that takes so many writes and syncs. A crash may leave
+-- this content of the device in memory below it, and does if each write since the last sync leaves what `fill` says.
 pub record IsStoppedRun (g : Ghosts (StoppingDevice MemDevice)) (s : Schema) (events : List Event) (limit : ℕ) (fill : Fill) (run : CrashRun) : Type 0 where
   pub answers : List Answer
   pub standing : Standing (StoppingDevice MemDevice) g
@@ -51,7 +52,8 @@ pub record BeginsWithin (g : Ghosts (StoppingDevice MemDevice)) (s : Schema) (ca
   pub begun : HasBegun g.may_leave g.moment g.left_since s device kernel
   pub took : taken_by (device_under kernel) ≡ calls
 
--- So it was with a device that takes so many calls more than a format and an opening took; no device takes more than 64 bits count.
+-- So it was with a device that takes so many calls more than a format and an opening took; no device takes more than
+-- 64 bits count.
 pub record IsCrashRun (g : Ghosts (StoppingDevice MemDevice)) (s : Schema) (events : List Event) (calls : ℕ) (fill : Fill) (run : CrashRun) : Type 0 where
   pub before : ℕ
   pub begins : BeginsWithin g s before

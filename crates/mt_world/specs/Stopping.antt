@@ -25,14 +25,14 @@ pub record SameCount {D : Type 0} (old new : StoppingDevice D) : Type 0 where
   pub taken : taken_by new ≡ taken_by old
   pub failures : own_failures new ≡ own_failures old
 
--- A write or a sync is counted and reaches the device below, whose failures are `before` and `now`; or it is one too many, fails, and
--- does not.
+-- A write or a sync is counted and reaches the device below, whose failures are `before` and `now`; or it is one too
+-- many, fails, and does not.
 pub record TakesTurn {D T E : Type 0} (old new : StoppingDevice D) (before now : ℕ) (result : Result T E) : Type 0 where
   pub limit : limit_of new ≡ limit_of old
   pub passed : taken_by old < limit_of old → (taken_by new ≡ taken_by old + 1) × HasCause before now result
   pub stopped : taken_by old ≡ limit_of old → IsErr result × (below new ≡ below old) × (taken_by new ≡ taken_by old)
 
--- It has taken so many writes and syncs at most, and just so many where it was asked for one more.
+-- It has taken so many writes and syncs at most, and just so many if it was asked for one more.
 pub record StopsAt {D : Type 0} (limit : ℕ) (f : StoppingDevice D) : Type 0 where
   pub within : taken_by f ≤ limit
   pub just : 0 < own_failures f → taken_by f ≡ limit

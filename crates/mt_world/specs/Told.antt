@@ -1,4 +1,4 @@
--- What events and their answers tell of a transaction, and which commits they acknowledge.
+-- What events and their answers say of a transaction, and which commits they acknowledge.
 use Rattle.std.specs.Prelude.{ℕ, ◌==◌, cond, List, [], ◌∷◌, ◌++◌, map, Option, Some, None}
 use Rattle.mt_core.specs.declared.calls.Called.TheVariants as call
 use Rattle.mt_model.specs.History.{Call as Replied}

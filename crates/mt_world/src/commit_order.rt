@@ -1,4 +1,4 @@
-// The commits that events have begun, as their answers tell them.
+// The commits that events have begun, read off the events and their answers.
 ghost use Rattle.std.specs.Prelude.{◌≡◌, ◌∷◌, ◌++◌, [], Some, None, length, map, IfErr, IfOk, MatchOption, OnOk};
 ghost use Rattle.mt_base.specs.declared.refusal.Refusal.{Refusal};
 ghost use Rattle.mt_world.specs.Heard.{told_by};
@@ -10,7 +10,7 @@ use mt_model::{Calls, Committed, Op, Reply};
 use mt_txn::{Called, KernelForced, Stepped};
 use std::alloc::{AllocError, Global};
 
-// What a transaction was told: whose it is, what it has called last, and the operations that it had a reply to.
+// What a transaction was answered: whose it is, what it has called last, and the operations that it had a reply to.
 #[derive(Drop)]
 struct Heard {
     session: u32,
@@ -18,7 +18,7 @@ struct Heard {
     calls: Calls,
 }
 
-// A transaction of this session, to which nothing was told.
+// A transaction of this session that was answered nothing yet.
 fn heard_nothing(alloc: Global, session: u32) -> Heard
     ensures { told_by result ≡ record { session = session; started = None; calls = [] } }
 {
@@ -54,7 +54,7 @@ fn hear_reply(heard: &mut Heard, reply: &Reply) -> Result<(), AllocError>
     }
 }
 
-// Hears what one more event with its answer tells of a transaction.
+// Hears what one more event with its answer says of a transaction.
 fn hear(
     alloc: Global,
     heard: &mut Heard,
@@ -87,7 +87,7 @@ fn hear(
     }
 }
 
-// What the events and their answers tell of a transaction, as of one that commits. The only refusal is want of memory.
+// What the events and their answers say of a transaction, as of one that commits. The only refusal is want of memory.
 fn commit_told(
     alloc: Global,
     events: &[Event],
@@ -142,8 +142,8 @@ fn add_started(
     Ok(())
 }
 
-/// The commits that have begun, in the order in which they did: each session's, with the operations that it had a reply
-/// to. The only refusal is want of memory.
+/// The commits that have begun, in the order in which they did: each session's, with the operations that it had a
+/// reply to. The only refusal is want of memory.
 pub(crate) fn commits_told(
     alloc: Global,
     events: &[Event],
@@ -170,7 +170,8 @@ fn add_named(all: &mut Vec<TxnNo>, answer: &Answer) -> Result<(), AllocError>
     Ok(())
 }
 
-/// The transactions whose commits were acknowledged, in the order in which they were. The only refusal is want of memory.
+/// The transactions whose commits were acknowledged, in the order in which they were. The only refusal is want of
+/// memory.
 pub(crate) fn acknowledged_in(alloc: Global, answers: &[Answer]) -> Result<Vec<TxnNo>, Refusal>
     ensures names { IfOk result (λ all. all.items ≡ acknowledged answers.now) }
     ensures only_memory { IfErr result (λ why. why ≡ Refusal.NoMemory) }

@@ -1,4 +1,5 @@
-// A run that is stopped, and what a crash leaves then.
+// A run over a device in memory that is stopped after so many calls, and what a crash leaves of the device then.
+// Tests open what is left, and compare the base.
 ghost use Rattle.std.specs.Prelude.{◌≡◌, ◌⊎◌, ◌≤◌, ◌+◌, ◌-◌, ◌^◌, min, length, IfErr, IfOk};
 ghost use Rattle.mt_base.specs.declared.refusal.Refusal.{Refusal};
 ghost use Rattle.mt_disk.specs.Memory.{content};
@@ -77,7 +78,7 @@ fn stopped_run(
         Err((refusal, _device)) => return Err(refusal),
     };
     let stopped = standing.into_device();
-    // That a kernel leaves its device's limit as it was is told by no contract of a kernel, so it is looked at.
+    // No contract of a kernel says that it leaves its device's limit as it was, so it is looked at.
     if stopped.limit() != limit {
         return Err(Refusal::DeviceFailed);
     }
@@ -100,9 +101,10 @@ fn stopped_run(
 ///
 /// The calls before the first event are those that the format and the opening of such another device took.
 ///
-/// A restart finds in that content what some of the first commits of `order` lead to, with all that were acknowledged.
+/// A restart finds in that content what some of the first commits of `order` lead to, with all that were
+/// acknowledged.
 ///
-/// Refused with 1 for want of memory, and with 2 where the device failed before the first event. It has room for 8192
+/// Refused with 1 for want of memory, and with 2 if the device failed before the first event. It has room for 8192
 /// writes without a sync. It has room for as many bytes in them as the device has, which is enough to format it.
 pub fn crash_run(
     alloc: Global,

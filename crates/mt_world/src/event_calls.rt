@@ -109,8 +109,8 @@ fn flush<D: Device>(kernel: &mut Kernel<D>) -> Answer
     }
 }
 
-// Makes an event by the kernel's call of its name, and gives what that answers; nothing for a rotation, which takes the
-// kernel itself.
+// Makes an event by the kernel's call of its name, and gives what that answers; nothing for a rotation, which takes
+// the kernel itself.
 fn make_in_place<D: Device>(kernel: &mut Kernel<D>, event: &Event) -> Option<Answer>
     ensures { IsMadeInPlace D.seen D.may_leave D.moment D.left_since D.faults kernel.old event.now result kernel.new }
 {
@@ -127,7 +127,7 @@ fn make_in_place<D: Device>(kernel: &mut Kernel<D>, event: &Event) -> Option<Ans
     }
 }
 
-// What stands where a rotation was refused, and its answer.
+// What stands if a rotation was refused, and its answer.
 fn refused<D: Device>(left: NotRotated<D>) -> (Standing<D>, Answer)
     ensures { IsLeftAs left result.0 result.1 }
 {
@@ -175,8 +175,8 @@ fn make_on<D: Device + Drop>(
     }
 }
 
-/// Makes an event on what stands, and gives what stands then with the answer. Once a rotation has ended the kernel, each
-/// event is refused with 2.
+/// Makes an event on what stands, and gives what stands then with the answer. Once a rotation has ended the kernel,
+/// each event is refused with 2.
 pub(crate) fn make<D: Device + Drop>(
     alloc: Global,
     standing: Standing<D>,

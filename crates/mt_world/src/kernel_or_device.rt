@@ -1,4 +1,4 @@
-// What stands after events.
+// What is there after events: a kernel, or the device alone if a rotation has ended it.
 use mt_disk::Device;
 use mt_txn::Kernel;
 

@@ -1,4 +1,5 @@
-//! Whatever the schedule: events are made in any order, each by the kernel's call of its name, or by a rotation of its log.
+//! Whatever the schedule: events are made in any order, each by the kernel's call of its name, or by a rotation of
+//! its log.
 //!
 //! [`run_schedule`] is what the other crates come to. Its clause `ran` says of every list of events: each operation
 //! that ended acted once on the model, in the order of the ends. The book is what its transactions do alone, one

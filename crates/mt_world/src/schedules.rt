@@ -1,4 +1,4 @@
-// Any list of events, one after the other.
+// Any list of events, made one after the other on a kernel over a device that is formatted for it.
 ghost use Rattle.std.specs.Prelude.{◌≡◌, ◌⊎◌, ◌<◌, ◌≤◌, ◌+◌, [], length, vec_len, IfOk, IfErr};
 ghost use Rattle.std.specs.Vec.{vec_capacity};
 ghost use Rattle.mt_base.specs.declared.refusal.Refusal.{Refusal};
@@ -75,8 +75,8 @@ pub(crate) fn begin_on<D: Device + Drop>(
 /// restarted from. A restart finds what some of the first commits lead to, with all that were acknowledged by then.
 /// Before the first commit that is the schema's first base.
 ///
-/// Refused, in this order, with the device, before any event. It is 1 for want of memory, 5 where it is shorter than
-/// [`Schema::device_len`], 2 where it failed. After 5 nothing is written. After 1 and 2 a crash leaves what one
+/// Refused, in this order, with the device, before any event. It is 1 for want of memory, 5 if it is shorter than
+/// [`Schema::device_len`], 2 if it failed. After 5 nothing is written. After 1 and 2 a crash leaves what one
 /// leaves while a device is formatted, or the schema's first base.
 pub fn run_schedule<D: Device + Drop>(
     alloc: Global,

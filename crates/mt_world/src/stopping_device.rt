@@ -1,4 +1,4 @@
-// A device that is stopped after so many calls.
+// A device that takes so many writes and syncs and fails at each later one. `crash` puts it over a device in memory.
 ghost use Rattle.std.specs.Prelude.{◌≡◌, ℕ, List, ◌+◌, ◌<◌, ◌≤◌, length, IsTrue, ◌↔◌, OnOk, if◌then◌else◌};
 ghost use Rattle.mt_disk.specs.Disk.{Has, Only, Follows, Torn, Wrote, Elapses, HasCause};
 
@@ -34,8 +34,8 @@ impl Meter {
     }
 }
 
-/// A device that takes so many writes and syncs, and fails at each later one, which does not reach the device below. Reads
-/// are not counted, and always do.
+/// A device that takes so many writes and syncs, and fails at each later one, which does not reach the device below.
+/// Reads are not counted, and always do.
 #[derive(Drop)]
 pub(crate) struct StoppingDevice<D: Device> {
     device: D,
@@ -62,7 +62,7 @@ impl<D: Device> StoppingDevice<D> {
         }
     }
 
-    /// How many writes and syncs it takes. It has taken no more, and just so many where it was asked for one more.
+    /// How many writes and syncs it takes. It has taken no more, and just so many if it was asked for one more.
     pub(crate) fn limit(&self) -> u64
         ensures limit { result ≡ limit_of self.now }
         ensures stops { StopsAt result self.now }

@@ -28,7 +28,7 @@ pub data AreToldOf (scripts : List (List Line)) (book : List Committed) : List T
 abbrev pub AreHeard : List (List Line) → PassSeen → List Told → Type 0
 AreHeard scripts pass told = AreToldOf scripts (dones pass.seen) told (own pass.number pass.seen)
 
--- nothing is reported where one of them found no memory
+-- nothing is reported if one of them found no memory
 abbrev pub HasDone : List (List Line) → PassSeen → Result (Vec Told Global) AllocError → Type 0
 HasDone scripts pass done = IfOk done (λ told. AreHeard scripts pass told.items)
 

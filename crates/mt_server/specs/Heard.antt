@@ -34,8 +34,9 @@ abbrev pub LetsLive : Refusal → Type 0
 LetsLive (refusal.Die holder) = ⊥
 LetsLive why = LetsGoOn why
 
--- A line may be refused so, and the session goes on: by 15 what is not a begin, and by nothing else, where no transaction is open; by 16 a
--- begin where one is. An abort is not refused. Nor is anything by 2; and an operation by 14 only if its transaction is gone then.
+-- A line may be refused so, and the session goes on: by 15 what is not a begin, and by nothing else, if no
+-- transaction is open; by 16 a begin if one is. An abort is not refused. Nor is anything by 2; and an operation by 14
+-- only if its transaction is gone then.
 abbrev pub IsRefusable : Option (List Call) → Line → Refusal → Type 0
 IsRefusable None line.Begin why = LetsGoOn why
 IsRefusable None (line.Call op) why = why ≡ refusal.Stranger
@@ -58,7 +59,8 @@ pub data Hears (h : Heard) : Line → Answer → Heard → Type 0 where
       → Hears h (line.Call op) (Refused (refusal.Die holder)) (record h { under_way = None })
   refuses : (line : Line) (why : Refusal) → IsRefusable h.under_way line why → Hears h line (Refused why) h
 
--- what stands after the answers: that the open transaction is aborted, where the script is at its end; or that the device failed, if it has
+-- what stands after the answers: that the open transaction is aborted, if the script is at its end; or that the
+-- device failed, if it has
 pub data IsEnd (failed : Bool) (u : Option (List Call)) : List Line → List Answer → Type 0 where
   ends : IsEnd failed u [] (last_line u)
   fails : (rest : List Line) → failed ≡ true → IsEnd failed u rest (Refused refusal.DeviceFailed ∷ [])
@@ -77,8 +79,9 @@ pub data Rise : List (ℕ × List Call) → ℕ → Type 0 where
   nowhere : Rise [] 0
   higher : (booked : List (ℕ × List Call)) (last place : ℕ) (calls : List Call) → Rise booked last → last < place → Rise (booked ++ (place, calls) ∷ []) place
 
--- The transcript of a session: the text of what its lines were answered. These are the commits that it tells, each with its place and the calls
--- that were replied to; each has that place in this book, and the places rise. It ends with 2 only if the device has failed.
+-- The transcript of a session: the text of what its lines were answered. These are the commits that it reports, each
+-- with its place and the calls that were replied to; each has that place in this book, and the places rise. It ends
+-- with 2 only if the device has failed.
 pub record IsTold (failed : Bool) (session : ℕ) (lines : List Line) (text : List ℕ) (booked : List (ℕ × List Call)) (book : List Committed) : Type 0 where
   pub before : List Line
   pub rest : List Line
@@ -98,7 +101,8 @@ abbrev pub all_booked : List (List (ℕ × List Call)) → ℕ
 all_booked [] = 0
 all_booked (booked ∷ more) = length booked + all_booked more
 
--- There is one for each script, in their order, of which the first is session 1. The book has no commit but those that they tell.
+-- There is one for each script, in their order, of which the first is session 1. The book has no commit but those
+-- that they tell.
 pub record AreTold (failed : Bool) (scripts : List (List Line)) (texts : List (List ℕ)) (book : List Committed) : Type 0 where
   pub count : length texts ≡ length scripts
   pub booked : List (List (ℕ × List Call))

@@ -78,7 +78,8 @@ pub record IsTurned (b : Base) (session : ℕ) (start : Place) (line : Line) (wa
   pub turns : Turns b session start line answer end
   pub text : now ≡ was ++ transcript_text (answer ∷ [])
 
--- or it was not: the transaction died, and is taken back; the device failed, and that is reported; or the answer found no memory
+-- or it was not: the transaction died, and is taken back; the device failed, and that is reported; or the answer
+-- found no memory
 abbrev pub IsStopped : PassSeen → List ℕ → List ℕ → PassSeen → Stop → Type 0
 IsStopped pass was now new stop.Died = (new ≡ pass) × IsPrefix was now
 IsStopped pass was now new stop.Failed = (new ≡ pass) × (now ≡ was ++ transcript_text (Refused refusal.DeviceFailed ∷ []))
@@ -88,7 +89,7 @@ abbrev pub Turning : Base → Entry → PassSeen → Line → List ℕ → List 
 Turning b txn pass line was now new (Ok token) = (booked : List (ℕ × List Call)) → IsTurned b txn.done.session (within booked txn.done.calls pass) line was now token new
 Turning b txn pass line was now new (Err stop) = IsStopped pass was now new stop
 
--- what a line may come to where it only has an answer, and the transaction goes on
+-- what a line may come to if it only has an answer, and the transaction goes on
 abbrev pub Telling : Entry → PassSeen → List ℕ → List ℕ → PassSeen → Answer → Result (Option Entry) Stop → Type 0
 Telling txn pass was now new answer (Ok token) = (token ≡ Some txn) × (new ≡ pass) × (now ≡ was ++ transcript_text (answer ∷ []))
 Telling txn pass was now new answer (Err stop) = IsStopped pass was now new stop

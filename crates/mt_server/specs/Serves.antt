@@ -12,7 +12,8 @@ use Rattle.mt_locked.specs.Began.{BeganOn}
 use Rattle.mt_shared.specs.Opens.{IsBaseOf}
 use Rattle.mt_txn.specs.declared.kernel.Kernel.{Kernel}
 
--- It was opened on the base of these bytes; of its book each commit replied what it replies alone, in the order of the book.
+-- It was opened on the base of these bytes; of its book each commit replied what it replies alone, in the order of
+-- the book.
 pub record IsServedOn {D : Type 0} {g : Ghosts D} (seen : D → List ℕ) (may_leave : D → List ℕ → Type 0) (c : List ℕ) (k : Kernel D g) : Type 0 where
   pub first : Base
   pub is : IsBaseOf c first

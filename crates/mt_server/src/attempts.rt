@@ -29,7 +29,7 @@ pub enum Ran {
     AtEnd,
 }
 
-/// Takes back what is open at the script's end, and tells that.
+/// Takes back what is open at the script's end, and writes that.
 fn end<D: Device, G: Gate + Drop, J: Naming, R: Wait>(
     rt: &R,
     hold: &mut Hold<'_, D, G, J>,
@@ -46,7 +46,7 @@ fn end<D: Device, G: Gate + Drop, J: Naming, R: Wait>(
     Ok(Ran::AtEnd)
 }
 
-/// Answers the lines behind a begin until the transaction has ended. The begin is not counted.
+/// Answers the lines after a begin until the transaction has ended. The begin is not counted.
 fn go_on<D: Device, G: Gate + Drop, J: Naming, R: Wait>(
     rt: &R,
     hold: &mut Hold<'_, D, G, J>,
@@ -85,7 +85,7 @@ fn and_begin(told: Result<Ran, Stop>) -> Result<Ran, Stop>
     }
 }
 
-/// Answers a begin that was refused. The session goes on behind it, unless the device failed.
+/// Answers a begin that was refused. The session goes on after it, unless the device failed.
 fn unbegun(out: &mut Vec<u8>, why: Refusal) -> Result<Ran, Stop>
     ensures runs { (b : Base) (session : ℕ) (booked : List (ℕ × List Call)) (pass : PassSeen) (lines : List Line)
         → Running b session (between booked pass) (line.Begin ∷ lines) out.old.items out.new.items pass result }
@@ -100,7 +100,7 @@ fn unbegun(out: &mut Vec<u8>, why: Refusal) -> Result<Ran, Stop>
     }
 }
 
-/// Runs a transaction once. The lines are those behind its begin.
+/// Runs a transaction once. The lines are those after its begin.
 fn run_once<D: Device, G: Gate + Drop, J: Naming, R: Wait>(
     rt: &R,
     alloc: Global,
@@ -135,7 +135,7 @@ fn back_off(run: u32) {
     }
 }
 
-/// Runs a transaction. Where it dies, its answers are dropped, and it is run again, a hundred times at most.
+/// Runs a transaction. If it dies, its answers are dropped, and it is run again, a hundred times at most.
 pub(crate) fn run_surely<D: Device, G: Gate + Drop, J: Naming, R: Wait>(
     rt: &R,
     alloc: Global,

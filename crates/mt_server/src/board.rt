@@ -49,7 +49,7 @@ pub(crate) fn blank(alloc: Global, count: usize) -> Result<Board, AllocError>
 }
 
 impl Board {
-    /// Puts a transcript in its place, where that is empty; whether it was.
+    /// Puts a transcript in its place, if that is empty; whether it was.
     fn place(&mut self, told: Told) -> bool
         ensures { IsTrue result → (scripts : List (List Line)) (book : List Committed) (booked : List (ℕ × List Call))
             (count : ℕ) → IsToldOf scripts book told booked → IsBoard scripts self.old book count

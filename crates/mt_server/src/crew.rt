@@ -21,7 +21,7 @@ use std::sync::Wait;
 use std::thread;
 use std::thread::{Threads, join};
 
-/// What a worker gives back: its pass, and the transcripts of the scripts that it took. There are none where one of them
+/// What a worker gives back: its pass, and the transcripts of the scripts that it took. There are none if one of them
 /// found no memory.
 pub(crate) type Done<J> = (Pass<J>, Result<Vec<Told>, AllocError>);
 
@@ -81,8 +81,8 @@ fn work<D: Device, G: Gate + Drop, J: Naming, R: Wait>(
     unreachable!()
 }
 
-/// Tends a shared kernel until that is ended, or the device has failed. It sleeps until more than half of the log's area
-/// is in use, and then turns the log over. It forces no log otherwise and flushes no page.
+/// Tends a shared kernel until that is ended, or the device has failed. It sleeps until more than half of the log's
+/// area is in use, and then turns the log over. It forces no log otherwise and flushes no page.
 fn tend<D: Device + Drop, G: Gate + Drop, J: Naming, R: Wait>(
     rt: &R,
     alloc: Global,
@@ -101,7 +101,7 @@ fn tend<D: Device + Drop, G: Gate + Drop, J: Naming, R: Wait>(
     unreachable!()
 }
 
-/// Each pass serves scripts in a thread of its own, where one can be started.
+/// Each pass serves scripts in a thread of its own, if one can be started.
 fn work_all<
     D: Device + Send,
     G: Gate + Drop + Send + Sync,
@@ -146,8 +146,8 @@ fn queue_of<R: Wait>(
     Ok(queue)
 }
 
-/// The scripts are served by as many workers as there are passes, while one more thread tends the kernel. Where that cannot
-/// be started, it is tended once they are served.
+/// The scripts are served by as many workers as there are passes, while one more thread tends the kernel. If that
+/// cannot be started, it is tended once they are served.
 pub(crate) fn crew<
     D: Device + Drop + Send,
     G: Gate + Drop + Send + Sync,
@@ -183,8 +183,8 @@ pub(crate) fn crew<
     done
 }
 
-/// The passes of the workers. Their transcripts are put in their places, each of which has to be empty. There is an error
-/// too where a worker found no memory for a transcript.
+/// The passes of the workers. Their transcripts are put in their places, each of which has to be empty. There is an
+/// error too if a worker found no memory for a transcript.
 pub(crate) fn gather<J: Naming>(
     alloc: Global,
     scripts: &[Script],

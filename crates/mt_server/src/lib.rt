@@ -1,6 +1,6 @@
-//! Scripts served at once, by threads that share a kernel. Each script is a session of its own, with a transcript that
-//! is true of the one history. A transaction that has to die is taken back, its answers are dropped, and it is run again.
-//! A refusal is an answer, and the script goes on.
+//! Scripts served at once, by threads that share a kernel. Each script is a session of its own, with a transcript
+//! that is true of the one history. A transaction that has to die is taken back, its answers are dropped, and it is
+//! run again. A refusal is an answer, and the script goes on.
 //!
 //! Begin at [`serve`]. What runs scripts one after the other is of `mt_alone`, and is passed on.
 #![tactic(auto)]

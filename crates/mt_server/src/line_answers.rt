@@ -107,7 +107,7 @@ pub(crate) fn take_back<D: Device, G: Gate + Drop, J: Naming, R: Wait>(
     unreachable!()
 }
 
-/// Refuses a line, and the transaction goes on. Where there is no memory for that, it is taken back.
+/// Refuses a line, and the transaction goes on. If there is no memory for that, it is taken back.
 fn refused<D: Device, G: Gate + Drop, J: Naming, R: Wait>(
     rt: &R,
     hold: &mut Hold<'_, D, G, J>,
@@ -154,7 +154,7 @@ fn replied<D: Device, G: Gate + Drop, J: Naming, R: Wait>(
     }
 }
 
-/// Ends a transaction that died: it is taken back. Where that may not be told by running it again, it is the answer.
+/// Ends a transaction that died: it is taken back. If it may not be run again, that is the answer.
 fn died<D: Device, G: Gate + Drop, J: Naming, R: Wait>(
     rt: &R,
     hold: &mut Hold<'_, D, G, J>,
@@ -251,7 +251,7 @@ fn commit<D: Device, G: Gate + Drop, J: Naming, R: Wait>(
     }
 }
 
-/// Takes a transaction back where its script asks for it.
+/// Takes a transaction back if its script asks for it.
 fn abort<D: Device, G: Gate + Drop, J: Naming, R: Wait>(
     rt: &R,
     hold: &mut Hold<'_, D, G, J>,
@@ -272,7 +272,7 @@ fn abort<D: Device, G: Gate + Drop, J: Naming, R: Wait>(
 
 /// Answers a line within a transaction. Gives its token back, unless it has ended.
 ///
-/// Where the transaction dies, its line is answered so only if it may not die to be run again.
+/// If the transaction dies, its line is answered so only if it may not die to be run again.
 pub(crate) fn turn<D: Device, G: Gate + Drop, J: Naming, R: Wait>(
     rt: &R,
     hold: &mut Hold<'_, D, G, J>,

@@ -27,13 +27,13 @@ use std::marker::Brand;
 use std::sync::Wait;
 use std::thread::Threads;
 
-/// The kernel behind all sessions, and the transcript of each script, in the order of the scripts.
+/// The kernel under all sessions, and the transcript of each script, in the order of the scripts.
 pub struct Served<D: Device> {
     pub kernel: Kernel<D>,
     pub transcripts: Vec<Transcript>,
 }
 
-/// Lets go of what is shared, with its device.
+/// Drops what is shared, with its device.
 fn give_up<D: Device + Drop, G: Gate + Drop, J: Naming>(shared: Shared<D, G, J>) {
     match shared.abandon() {
         Ok(kernel) => drop(kernel.into_device()),
@@ -144,17 +144,17 @@ fn serve_named<
 ///
 /// A transaction that has to die is taken back, its answers are dropped, and it is run again from its begin. In its
 /// hundredth run the line that makes it die is answered so, and the transaction is aborted. One that is open at its
-/// script's end is aborted, with the line `aborted`. Where the device fails, that is the last line of each session.
+/// script's end is aborted, with the line `aborted`. If the device fails, that is the last line of each session.
 ///
-/// Where more than half of the log's area is in use, who tends turns the log over. New transactions wait until none
+/// If more than half of the log's area is in use, who tends turns the log over. New transactions wait until none
 /// lives, and then go on. So the log of many short transactions does not fill. Nothing else is forced or flushed in the
 /// background: a commit makes its force, and an operation that finds no frame flushes a page.
 ///
-/// There are as many workers as are asked for, of 1 to 64. At each point that the gate wants to be told of, it is.
+/// There are as many workers as are asked for, of 1 to 64. The gate is called at each point that it wants to see.
 ///
 /// Refused, in this order: 5 if and only if there are more than [`MAX_SESSIONS`] scripts, then as
-/// [`open`](mt_restart::open). After that 1 where a transcript found no memory, and what was committed stands; and 2 where
-/// a rotation left no kernel. Where the kernel cannot be closed, that refusal. A refusal lets the device go.
+/// [`open`](mt_restart::open). After that 1 if a transcript found no memory, and what was committed stands; and 2 if
+/// a rotation left no kernel. If the kernel cannot be closed, that refusal. The device is dropped then.
 pub fn serve<D: Device + Drop + Send, G: Gate + Drop + Send + Sync, R: Threads + Wait + Sync>(
     rt: &R,
     alloc: Global,

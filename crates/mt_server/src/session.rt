@@ -46,8 +46,8 @@ fn go_from<D: Device, G: Gate + Drop, J: Naming, R: Wait>(
     Ok(Ran::Ended(1))
 }
 
-/// Runs a session: its script's lines in their order, each with its answer. Answers its transcript, and whether the device
-/// has failed, which is its last answer then.
+/// Runs a session: its script's lines in their order, each with its answer. Answers its transcript, and whether the
+/// device has failed, which is its last answer then.
 ///
 /// The only error is that an answer found no memory. What is committed stands, and nothing is open then.
 pub(crate) fn run_session<D: Device, G: Gate + Drop, J: Naming, R: Wait>(

@@ -24,7 +24,7 @@ impl Transcript {
         Transcript { text }
     }
 
-    /// The lines, each with the line feed behind it.
+    /// The lines, each with the line feed after it.
     pub fn as_bytes(&self) -> &[u8]
         ensures { result.now ≡ self.now }
     {

@@ -8,4 +8,5 @@ pub mod RunLemmas
 pub mod LeftLemmas
 pub mod TurnoverLemmas
 pub mod SessionLemmas
+pub mod StopLemmas
 pub mod TranscriptLemmas

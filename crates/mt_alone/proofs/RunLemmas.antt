@@ -1,5 +1,5 @@
 -- Lines that ran, one behind the other, and how a run ends.
-use Rattle.std.proofs.Common.{◌≡◌, ◌<◌, inl, inr, suc, ℕ, List, [], ◌∷◌, ◌++◌, Option, Some, None, length, take, drop, get_or, refl, ap, sym, subst, ◌∙◌, append_assoc, append-nil, take-append-drop}
+use Rattle.std.proofs.Common.{◌≡◌, ◌<◌, inl, inr, suc, ℕ, Bool, false, List, [], ◌∷◌, ◌++◌, Option, Some, None, length, take, drop, get_or, refl, ap, sym, subst, ◌∙◌, append_assoc, append-nil, take-append-drop}
 use Rattle.std.specs.Io.KnownBytes.{Appends}
 use Rattle.std.proofs.KnownBytes.{Appends-nil, Appends-trans}
 use Rattle.std.proofs.Math.Seq.{take-suc, drop-cons}
@@ -20,7 +20,9 @@ use Rattle.mt_txn.specs.Shown.{SameSchema}
 use Rattle.mt_alone.specs.Driven.{IsBeside, IsDueTo, IsGivenUp, IsResting}
 use Rattle.mt_alone.specs.Plays.{Play, IsTurn, acts, refuses, Runs, starts, goes_on, after_at, put_off}
 use Rattle.mt_alone.specs.Runs.{HasRun, HasRunLines, HasTurned, IsAnswered, IsCut, IsCutAtEnd, IsCutShort, IsEnded, IsEndedFor, nothing, aborted, failed, IsLeftFor, IsStopped, IsToldFor, IsUnheard, failure_line, last_line}
+use Rattle.mt_alone.specs.Stops.{Ends}
 use Rattle.mt_script.proofs.TextLemmas.{front_then}
+use Rattle.mt_alone.proofs.StopLemmas.{ends_more, ends_none}
 use Rattle.mt_alone.proofs.TranscriptLemmas.{runs_then, text_joined, text_one}
 
 -- ---- texts
@@ -100,12 +102,13 @@ module _ {D : Type 0} {g : Ghosts D} (seen : D → List ℕ) (may_leave : D → 
       → Turned (p, k) (l ∷ []) (a ∷ []) (q, n)
   turned l a live q n at turn schema = goes_on [] [] (p, k) (q, n) l a starts (record { live = live; beside = at; turn = turn; schema = schema })
 
-  pub line_told : (l : Line) (told : Answer × Option ℕ) (live : Option ℕ) (was now : Option (List ℕ)) (n : Kernel D g) → IsBeside seen may_leave p live k → SameSchema k n → IsAnswered seen may_leave p k live l told n → Appends was now (answer_text told.0 ++ 10 ∷ [])
-      → HasRunLines seen may_leave p k (l ∷ []) was now told.1 n
-  line_told l told live was now n at schema (q, turn, beside) text = record {
+  pub line_told : (stop : Bool) (why : Option Refusal) (l : Line) (told : Answer × Option ℕ) (live : Option ℕ) (was now : Option (List ℕ)) (n : Kernel D g) → Ends stop why (told.0 ∷ []) → IsBeside seen may_leave p live k → SameSchema k n → IsAnswered seen may_leave p k live l told n → Appends was now (answer_text told.0 ++ 10 ∷ [])
+      → HasRunLines seen may_leave stop why p k (l ∷ []) was now told.1 n
+  line_told stop why l told live was now n ends at schema (q, turn, beside) text = record {
     answers = told.0 ∷ [];
     play = q;
     ran = turned l told.0 live q n at turn schema;
+    ends = ends;
     told = subst (Appends was now) (sym (text_one told.0)) text;
     beside = beside;
   }
@@ -148,26 +151,27 @@ module _ {D : Type 0} {g : Ghosts D} (seen : D → List ℕ) (may_leave : D → 
 
   -- ---- lines
 
-  pub no_lines : (a : Option (List ℕ)) → IsBeside seen may_leave p None k → HasRunLines seen may_leave p k [] a a None k
-  no_lines a beside = record { answers = []; play = p; ran = starts; told = text_none a; beside = beside }
+  pub no_lines : (stop : Bool) (a : Option (List ℕ)) → IsBeside seen may_leave p None k → HasRunLines seen may_leave stop None p k [] a a None k
+  no_lines stop a beside = record { answers = []; play = p; ran = starts; ends = ends_none stop; told = text_none a; beside = beside }
 
-  pub line_more : (session : ℕ) (lines : List Line) (i : ℕ) (l : Line) (live now : Option ℕ) (a b c : Option (List ℕ)) (m n : Kernel D g) → p.session ≡ session → i < length lines → l ≡ get_or lines i l
-      → HasRunLines seen may_leave p k (take i lines) a b live m
-      → ((q : Play) → q.session ≡ session → IsBeside seen may_leave q live m → HasRunLines seen may_leave q m (l ∷ []) b c now n) → HasRunLines seen may_leave p k (take (suc i) lines) a c now n
-  line_more session lines i l live now a b c m n own lt is ran next =
+  pub line_more : (stop : Bool) (why : Option Refusal) (session : ℕ) (lines : List Line) (i : ℕ) (l : Line) (live now : Option ℕ) (a b c : Option (List ℕ)) (m n : Kernel D g) → p.session ≡ session → i < length lines → l ≡ get_or lines i l
+      → HasRunLines seen may_leave stop None p k (take i lines) a b live m
+      → ((q : Play) → q.session ≡ session → IsBeside seen may_leave q live m → HasRunLines seen may_leave stop why q m (l ∷ []) b c now n) → HasRunLines seen may_leave stop why p k (take (suc i) lines) a c now n
+  line_more stop why session lines i l live now a b c m n own lt is ran next =
       let x = next ran.play (runs_session (p, k) (ran.play, m) (take i lines) ran.answers ran.ran ∙ own) ran.beside in
       let all : take i lines ++ l ∷ [] ≡ take (suc i) lines = ap (λ (y : Line). take i lines ++ y ∷ []) is ∙ sym (take-suc lines i l lt) in
       record {
         answers = ran.answers ++ x.answers;
         play = x.play;
         ran = subst (λ (ls : List Line). Turned (p, k) ls (ran.answers ++ x.answers) (x.play, n)) all (runs_then (p, k) (ran.play, m) (x.play, n) (take i lines) (l ∷ []) ran.answers x.answers ran.ran x.ran);
+        ends = ends_more stop why ran.answers x.answers ran.ends x.ends;
         told = appends_all a b c ran.answers x.answers ran.told x.told;
         beside = x.beside;
       }
 
-  cut_behind : (Left : Play → Type 0) (ls ms rest lines : List Line) (live : Option ℕ) (a b c : Option (List ℕ)) (m : Kernel D g) (why : RunFault) → lines ≡ ls ++ (ms ++ rest) → (ran : HasRunLines seen may_leave p k ls a b live m)
+  cut_behind : (stop : Bool) (Left : Play → Type 0) (ls ms rest lines : List Line) (live : Option ℕ) (a b c : Option (List ℕ)) (m : Kernel D g) (why : RunFault) → lines ≡ ls ++ (ms ++ rest) → (ran : HasRunLines seen may_leave stop None p k ls a b live m)
       → IsCut seen may_leave Left ran.play m ms b c why → IsCut seen may_leave Left p k lines a c why
-  cut_behind Left ls ms rest lines live a b c m why whole ran x = record {
+  cut_behind stop Left ls ms rest lines live a b c m why whole ran x = record {
     before = ls ++ x.before;
     rest = x.rest ++ rest;
     split = whole ∙ ap (λ (t : List Line). ls ++ (t ++ rest)) x.split ∙ ap (λ (t : List Line). ls ++ t) (append_assoc x.before x.rest rest) ∙ sym (append_assoc ls x.before (x.rest ++ rest));
@@ -179,45 +183,65 @@ module _ {D : Type 0} {g : Ghosts D} (seen : D → List ℕ) (may_leave : D → 
     left = x.left;
   }
 
-  pub line_cut : (session : ℕ) (lines : List Line) (i : ℕ) (l : Line) (live : Option ℕ) (a b c : Option (List ℕ)) (m n : Kernel D g) (why : RunFault) → p.session ≡ session → i < length lines → l ≡ get_or lines i l
-      → HasRunLines seen may_leave p k (take i lines) a b live m
+  pub line_cut : (stop : Bool) (session : ℕ) (lines : List Line) (i : ℕ) (l : Line) (live : Option ℕ) (a b c : Option (List ℕ)) (m n : Kernel D g) (why : RunFault) → p.session ≡ session → i < length lines → l ≡ get_or lines i l
+      → HasRunLines seen may_leave stop None p k (take i lines) a b live m
       → ((q : Play) → q.session ≡ session → IsBeside seen may_leave q live m → IsCutShort seen may_leave faults q m (l ∷ []) b c n why) → IsCutShort seen may_leave faults p k lines a c n why
-  line_cut session lines i l live a b c m n why own lt is ran cut =
+  line_cut stop session lines i l live a b c m n why own lt is ran cut =
       let x = cut ran.play (runs_session (p, k) (ran.play, m) (take i lines) ran.answers ran.ran ∙ own) ran.beside in
       let whole : lines ≡ take i lines ++ (l ∷ [] ++ drop (suc i) lines) =
       sym (take-append-drop i lines) ∙ ap (λ (t : List Line). take i lines ++ t) (drop-cons lines i l lt) ∙ ap (λ (y : Line). take i lines ++ y ∷ drop (suc i) lines) (sym is) in
-      cut_behind (λ q. IsLeftFor seen may_leave faults q n why) (take i lines) (l ∷ []) (drop (suc i) lines) lines live a b c m why whole ran x
+      cut_behind stop (λ q. IsLeftFor seen may_leave faults q n why) (take i lines) (l ∷ []) (drop (suc i) lines) lines live a b c m why whole ran x
+
+  -- no line stops a run that is not to stop
+  pub unstopped : (why : Option Refusal) (lines : List Line) (a b : Option (List ℕ)) (live : Option ℕ) (n : Kernel D g) → HasRunLines seen may_leave false why p k lines a b live n → HasRunLines seen may_leave false None p k lines a b live n
+  unstopped why lines a b live n ran = record { answers = ran.answers; play = ran.play; ran = ran.ran; ends = refl; told = ran.told; beside = ran.beside }
+
+  -- what cuts a beginning of lines short cuts them short
+  pub front_cut : (Left : Play → Type 0) (front rest lines : List Line) (a b : Option (List ℕ)) (why : RunFault) → lines ≡ front ++ rest → IsCut seen may_leave Left p k front a b why → IsCut seen may_leave Left p k lines a b why
+  front_cut Left front rest lines a b why whole x = record {
+    before = x.before;
+    rest = x.rest ++ rest;
+    split = whole ∙ ap (λ (t : List Line). t ++ rest) x.split ∙ append_assoc x.before x.rest rest;
+    answers = x.answers;
+    play = x.play;
+    last = x.last;
+    ran = x.ran;
+    told = x.told;
+    left = x.left;
+  }
 
   -- ---- the script's end
 
-  pub closed_run : (lines : List Line) (a b : Option (List ℕ)) (n : Kernel D g) → HasRunLines seen may_leave p k lines a b None n → HasRun seen may_leave p k lines a b n
-  closed_run lines a b n ran = record {
+  pub closed_run : (stop : Bool) (why : Option Refusal) (lines : List Line) (a b : Option (List ℕ)) (n : Kernel D g) → HasRunLines seen may_leave stop why p k lines a b None n → HasRun seen may_leave stop why p k lines a b n
+  closed_run stop why lines a b n ran = record {
     answers = ran.answers;
     play = ran.play;
     last = n;
     ran = ran.ran;
+    ends = ran.ends;
     told =
         let none : ran.answers ++ last_line ran.play.under_way ≡ ran.answers = ap (λ (u : Option (List Call)). ran.answers ++ last_line u) ran.beside.nothing ∙ append-nil ran.answers in
         subst (λ (t : List Answer). Appends a b (transcript_text t)) (sym none) ran.told;
     beside = record { shown = ∥∥₁_map ran.beside.shown (λ (first, s, shows, (played, nobody)). (first, s, shows, (record { first_is = played.first_is; book = played.book; base = played.base }, nobody))); nothing = refl };
   }
 
-  pub ended_run : (lines : List Line) (t : ℕ) (a b c : Option (List ℕ)) (m n : Kernel D g) → HasRunLines seen may_leave p k lines a b (Some t) m → ((q : Play) → IsBeside seen may_leave q (Some t) m → IsEnded seen may_leave q b c n)
-      → HasRun seen may_leave p k lines a c n
-  ended_run lines t a b c m n ran ended =
+  pub ended_run : (stop : Bool) (why : Option Refusal) (lines : List Line) (t : ℕ) (a b c : Option (List ℕ)) (m n : Kernel D g) → HasRunLines seen may_leave stop why p k lines a b (Some t) m → ((q : Play) → IsBeside seen may_leave q (Some t) m → IsEnded seen may_leave q b c n)
+      → HasRun seen may_leave stop why p k lines a c n
+  ended_run stop why lines t a b c m n ran ended =
       let e = ended ran.play ran.beside in
       record {
         answers = ran.answers;
         play = ran.play;
         last = m;
         ran = ran.ran;
+        ends = ran.ends;
         told = subst (λ (u : Option (List Call)). Appends a c (transcript_text (ran.answers ++ last_line u))) (sym ran.beside.1) (appends_all a b c ran.answers (Aborted ∷ []) ran.told e.told);
         beside = e.beside;
       }
 
-  pub end_cut : (lines : List Line) (t : ℕ) (a b c : Option (List ℕ)) (m n : Kernel D g) (why : RunFault) → HasRunLines seen may_leave p k lines a b (Some t) m
+  pub end_cut : (stop : Bool) (stopped : Option Refusal) (lines : List Line) (t : ℕ) (a b c : Option (List ℕ)) (m n : Kernel D g) (why : RunFault) → HasRunLines seen may_leave stop stopped p k lines a b (Some t) m
       → ((q : Play) → IsBeside seen may_leave q (Some t) m → IsCutAtEnd seen may_leave faults q b c n why) → IsCutShort seen may_leave faults p k lines a c n why
-  end_cut lines t a b c m n why ran cut =
+  end_cut stop stopped lines t a b c m n why ran cut =
       let e = cut ran.play ran.beside in
       record {
         before = lines;

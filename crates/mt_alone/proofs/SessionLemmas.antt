@@ -1,5 +1,5 @@
 -- Sessions that were served, one behind the other, and how they end early.
-use Rattle.std.proofs.Common.{◌≡◌, ◌<◌, ◌+◌, suc, ℕ, List, [], ◌∷◌, ◌++◌, Option, None, Result, Ok, Err, IfOk, arith, length, take, drop, get_or, map, refl, ap, sym, subst, ◌∙◌, append_assoc, append-nil, length-append, take-append-drop}
+use Rattle.std.proofs.Common.{◌≡◌, ◌<◌, ◌+◌, suc, ℕ, Bool, List, [], ◌∷◌, ◌++◌, Option, None, Result, Ok, Err, IfOk, arith, Some, length, take, drop, get_or, map, refl, ap, sym, subst, ◌∙◌, append_assoc, append-nil, length-append, take-append-drop}
 use Rattle.std.specs.Io.KnownBytes.{Appends}
 use Rattle.std.proofs.KnownBytes.{Appends-nil, Appends-trans}
 use Rattle.std.proofs.Math.Seq.{drop-cons}
@@ -18,8 +18,11 @@ use Rattle.mt_alone.specs.Driven.{IsBeside}
 use Rattle.mt_alone.specs.Plays.{Play, put_off}
 use Rattle.mt_alone.specs.Runs.{last_line}
 use Rattle.mt_alone.specs.Turnovers.{BesideFrom, HasRunOut}
+use Rattle.mt_alone.specs.Stops.{IsStopAmong, IsStopIn, lines_to, scripts_to, why_stopped}
+use Rattle.mt_alone.specs.declared.stops.Stop.{Stop}
+use Rattle.mt_alone.proofs.StopLemmas.{more_close, none_close, one_closes, scripts_at_stop, stop_among}
 use Rattle.mt_alone.proofs.TurnoverLemmas.{runs_first}
-use Rattle.mt_alone.specs.Sessions.{AreCutShort, HaveServed, IsCutWithin, IsServed, Serves, StandsEach, no_script, then_script, in_session, lines_in, session_line, sessions_from, sessions_text}
+use Rattle.mt_alone.specs.Sessions.{AreCutShort, HasServed, HaveServed, IsCutWithin, IsServed, Serves, StandsEach, no_script, then_script, in_session, lines_in, session_line, sessions_from, sessions_text}
 
 -- ---- texts
 
@@ -54,9 +57,9 @@ module _ {D : Type 0} {g : Ghosts D} (seen : D → List ℕ) (may_leave : D → 
   pub beside_session : (i : ℕ) → IsBeside seen may_leave p None k → IsBeside seen may_leave (in_session p i) None k
   beside_session i r = record { shown = ∥∥₁_map r.shown (λ (first, s, shows, (played, nobody)). (first, s, shows, (record { first_is = played.first_is; book = played.book; base = played.base }, nobody))); nothing = r.nothing }
 
-  pub session_served : (i : ℕ) (lines : List Line) (a b c : Option (List ℕ)) (n : Kernel D g) → Appends a b (session_line i) → SameSchema k n → Restarts seen may_leave p.first n → HasRunOut seen may_leave (in_session p i) k lines b c n
-      → IsServed seen may_leave p k i lines a c n
-  session_served i lines a b c n heading schema restarts (begun, over, ran) = record {
+  pub session_served : (stop : Bool) (ending : Option Stop) (i : ℕ) (lines : List Line) (a b c : Option (List ℕ)) (n : Kernel D g) → Appends a b (session_line i) → SameSchema k n → Restarts seen may_leave p.first n
+      → HasRunOut seen may_leave stop ending (in_session p i) k lines b c n → IsServed seen may_leave stop ending p k i lines a c n
+  session_served stop ending i lines a b c n heading schema restarts (begun, over, ran) = record {
     transcript = ran.answers ++ last_line ran.play.under_way;
     end = put_off ran.play;
     served = record {
@@ -69,26 +72,30 @@ module _ {D : Type 0} {g : Ghosts D} (seen : D → List ℕ) (may_leave : D → 
       told_is = refl;
       end_is = refl;
       beside = ran.beside;
-      restarts = subst (λ (x : Base). Restarts seen may_leave x n) (sym (runs_first seen may_leave (in_session p i, begun) (ran.play, ran.last) lines ran.answers ran.ran)) restarts;
+      restarts = subst (λ (x : Base). Restarts seen may_leave x n) (sym (runs_first seen may_leave (in_session p i, begun) (ran.play, ran.last) (lines_to ending lines) ran.answers ran.ran)) restarts;
       schema = schema;
     };
+    closes = one_closes stop (why_stopped ending) ran.answers ran.play.under_way ran.ends;
     told = Appends-trans a b c (session_line i) (transcript_text (ran.answers ++ last_line ran.play.under_way)) heading ran.told;
   }
 
   -- ---- sessions
 
-  pub none_served : (a : Option (List ℕ)) → IsBeside seen may_leave p None k → Restarts seen may_leave p.first k → HaveServed seen may_leave p k [] a a k
-  none_served a beside restarts = record { transcripts = []; play = p; served = no_script; told = none_told a; beside = beside; restarts = restarts }
+  pub none_served : (stop : Bool) (a : Option (List ℕ)) → IsBeside seen may_leave p None k → Restarts seen may_leave p.first k → HaveServed seen may_leave stop None p k [] a a k
+  none_served stop a beside restarts = record { transcripts = []; play = p; at = tt; served = no_script; close = none_close stop; told = none_told a; beside = beside; restarts = restarts }
 
-  one_more : (scripts : List (List Line)) (lines : List Line) (a b c : Option (List ℕ)) (m n : Kernel D g) → (ran : HaveServed seen may_leave p k scripts a b m)
-      → IsServed seen may_leave ran.play m (length scripts + 1) lines b c n → HaveServed seen may_leave p k (scripts ++ lines ∷ []) a c n
-  one_more scripts lines a b c m n ran x =
+  one_more : (stop : Bool) (ending : Option Stop) (all scripts : List (List Line)) (lines : List Line) (a b c : Option (List ℕ)) (m n : Kernel D g) → IsStopAmong all ending → scripts_to ending all ≡ scripts ++ lines_to ending lines ∷ []
+      → (ran : HaveServed seen may_leave stop None p k scripts a b m) → IsServed seen may_leave stop ending ran.play m (length scripts + 1) lines b c n → HaveServed seen may_leave stop ending p k all a c n
+  one_more stop ending all scripts lines a b c m n among are ran x =
       let count : length scripts + 1 ≡ 1 + length ran.transcripts = let same = count_is (p, k) (ran.play, m) scripts ran.transcripts ran.served in omega (arith, same) in
       let own : Appends b c (session_line (1 + length ran.transcripts) ++ transcript_text x.transcript) = subst (λ (j : ℕ). Appends b c (session_line j ++ transcript_text x.transcript)) count x.told in
       record {
         transcripts = ran.transcripts ++ x.transcript ∷ [];
         play = x.end;
-        served = then_script scripts ran.transcripts (ran.play, m) (x.end, n) lines x.transcript ran.served x.served;
+        at = among;
+        served = subst (λ (ls : List (List Line)). Serves (HasServed seen may_leave) (p, k) ls (ran.transcripts ++ x.transcript ∷ []) (x.end, n)) (sym are)
+            (then_script scripts ran.transcripts (ran.play, m) (x.end, n) (lines_to ending lines) x.transcript ran.served x.served);
+        close = more_close stop (why_stopped ending) ran.transcripts x.transcript ran.close x.closes;
         told = subst (Appends a c) (sym (sessions_more 1 ran.transcripts x.transcript)) (Appends-trans a b c (sessions_text ran.transcripts) _ ran.told own);
         beside = x.served.beside;
         restarts = x.served.restarts;
@@ -98,16 +105,23 @@ module _ {D : Type 0} {g : Ghosts D} (seen : D → List ℕ) (may_leave : D → 
   front_count : (scripts : List Script) (i : ℕ) → i < length scripts → length (map lines_in (take i scripts)) ≡ i
   front_count scripts i lt = length-map (take i scripts) lines_in ∙ length-take-le i scripts (omega (arith, lt))
 
-  pub served_more : (scripts : List Script) (i : ℕ) (s : Script) (a b c : Option (List ℕ)) (m n : Kernel D g) → i < length scripts → s ≡ get_or scripts i s → HaveServed seen may_leave p k (map lines_in (take i scripts)) a b m
-      → StandsEach seen may_leave m (λ q. IsServed seen may_leave q m (i + 1) (lines_in s) b c n) → HaveServed seen may_leave p k (map lines_in (take (i + 1) scripts)) a c n
-  served_more scripts i s a b c m n lt is ran next =
-      let x = subst (λ (j : ℕ). IsServed seen may_leave ran.play m (j + 1) (lines_in s) b c n) (sym (front_count scripts i lt)) (next ran.play ran.beside ran.restarts) in
+  pub served_more : (stop : Bool) (scripts : List Script) (i : ℕ) (s : Script) (a b c : Option (List ℕ)) (m n : Kernel D g) → i < length scripts → s ≡ get_or scripts i s → HaveServed seen may_leave stop None p k (map lines_in (take i scripts)) a b m
+      → StandsEach seen may_leave m (λ q. IsServed seen may_leave stop None q m (i + 1) (lines_in s) b c n) → HaveServed seen may_leave stop None p k (map lines_in (take (i + 1) scripts)) a c n
+  served_more stop scripts i s a b c m n lt is ran next =
+      let x = subst (λ (j : ℕ). IsServed seen may_leave stop None ran.play m (j + 1) (lines_in s) b c n) (sym (front_count scripts i lt)) (next ran.play ran.beside ran.restarts) in
       let all : map lines_in (take i scripts) ++ lines_in s ∷ [] ≡ map lines_in (take (i + 1) scripts) = ap (λ (y : Script). map lines_in (take i scripts) ++ lines_in y ∷ []) is ∙ sym (map_more lines_in scripts i s lt) in
-      subst (λ (ls : List (List Line)). HaveServed seen may_leave p k ls a c n) all (one_more (map lines_in (take i scripts)) (lines_in s) a b c m n ran x)
+      one_more stop None (map lines_in (take (i + 1) scripts)) (map lines_in (take i scripts)) (lines_in s) a b c m n tt (sym all) ran x
 
-  pub served_cut : (scripts : List Script) (i : ℕ) (s : Script) (a b c : Option (List ℕ)) (m : Kernel D g) (left : NotServed D g) → i < length scripts → s ≡ get_or scripts i s → HaveServed seen may_leave p k (map lines_in (take i scripts)) a b m
-      → StandsEach seen may_leave m (λ q. IsCutWithin seen may_leave faults q m (i + 1) (lines_in s) b c left) → AreCutShort seen may_leave faults p k (map lines_in scripts) a c left
-  served_cut scripts i s a b c m left lt is ran next = record {
+  -- this one stopped, and those after it are not begun
+  pub served_to : (stop : Bool) (at : Stop) (scripts : List Script) (i : ℕ) (s : Script) (a b c : Option (List ℕ)) (m n : Kernel D g) → i < length scripts → s ≡ get_or scripts i s → HaveServed seen may_leave stop None p k (map lines_in (take i scripts)) a b m
+      → IsStopIn (i + 1) (lines_in s) (Some at) → StandsEach seen may_leave m (λ q. IsServed seen may_leave stop (Some at) q m (i + 1) (lines_in s) b c n) → HaveServed seen may_leave stop (Some at) p k (map lines_in scripts) a c n
+  served_to stop at scripts i s a b c m n lt is ran within next =
+      let x = subst (λ (j : ℕ). IsServed seen may_leave stop (Some at) ran.play m (j + 1) (lines_in s) b c n) (sym (front_count scripts i lt)) (next ran.play ran.beside ran.restarts) in
+      one_more stop (Some at) (map lines_in scripts) (map lines_in (take i scripts)) (lines_in s) a b c m n (stop_among scripts i s lt is at within) (scripts_at_stop scripts i s lt is at within) ran x
+
+  pub served_cut : (stop : Bool) (scripts : List Script) (i : ℕ) (s : Script) (a b c : Option (List ℕ)) (m : Kernel D g) (left : NotServed D g) → i < length scripts → s ≡ get_or scripts i s → HaveServed seen may_leave stop None p k (map lines_in (take i scripts)) a b m
+      → StandsEach seen may_leave m (λ q. IsCutWithin seen may_leave faults q m (i + 1) (lines_in s) b c left) → AreCutShort seen may_leave faults stop p k (map lines_in scripts) a c left
+  served_cut stop scripts i s a b c m left lt is ran next = record {
     before = map lines_in (take i scripts);
     lines = lines_in s;
     rest = map lines_in (drop (suc i) scripts);
@@ -121,9 +135,10 @@ module _ {D : Type 0} {g : Ghosts D} (seen : D → List ℕ) (may_leave : D → 
   }
 
 -- where its script ran to its end
-pub session_served_of : {D : Type 0} {g : Ghosts D} (seen : D → List ℕ) (may_leave : D → List ℕ → Type 0) (faults : D → ℕ) (k : Kernel D g) (i : ℕ) (lines : List Line) (a b c : Option (List ℕ)) (r : Result (Kernel D g) (NotServed D g)) → Appends a b (session_line i)
-    → IfOk r (SameSchema k) → IfOk r (StaysRestarting seen may_leave k) → IfOk r (λ n. BesideFrom seen may_leave i None k (λ q. HasRunOut seen may_leave q k lines b c n))
-    → IfOk r (λ n. StandsEach seen may_leave k (λ p. IsServed seen may_leave p k i lines a c n))
-session_served_of seen may_leave faults k i lines a b c (Err left) heading schema stays ran = tt
-session_served_of seen may_leave faults k i lines a b c (Ok n) heading schema stays ran = λ p beside restarts.
-    session_served seen may_leave faults p k i lines a b c n heading schema (stays p.first restarts) (ran (in_session p i) refl (beside_session seen may_leave faults p k i beside) restarts)
+pub session_served_of : {D : Type 0} {g : Ghosts D} (seen : D → List ℕ) (may_leave : D → List ℕ → Type 0) (faults : D → ℕ) (k : Kernel D g) (stop : Bool) (i : ℕ) (lines : List Line) (a b c : Option (List ℕ))
+    (r : Result (Kernel D g × Option Stop) (NotServed D g)) → Appends a b (session_line i)
+    → IfOk r (λ t. SameSchema k t.0) → IfOk r (λ t. StaysRestarting seen may_leave k t.0) → IfOk r (λ t. BesideFrom seen may_leave i None k (λ q. HasRunOut seen may_leave stop t.1 q k lines b c t.0))
+    → IfOk r (λ t. StandsEach seen may_leave k (λ p. IsServed seen may_leave stop t.1 p k i lines a c t.0))
+session_served_of seen may_leave faults k stop i lines a b c (Err left) heading schema stays ran = tt
+session_served_of seen may_leave faults k stop i lines a b c (Ok t) heading schema stays ran = λ p beside restarts.
+    session_served seen may_leave faults p k stop t.1 i lines a b c t.0 heading schema (stays p.first restarts) (ran (in_session p i) refl (beside_session seen may_leave faults p k i beside) restarts)

@@ -1,5 +1,5 @@
 -- Lines on a kernel whose log is turned over before a transaction.
-use Rattle.std.proofs.Common.{◌≡◌, ◌<◌, ◌∷◌, [], suc, ℕ, List, Option, Some, None, length, take, drop, get_or, refl, arith, sym, subst, ◌∙◌, append-nil, take-append-drop}
+use Rattle.std.proofs.Common.{◌≡◌, ◌<◌, ◌∷◌, [], suc, ℕ, Bool, List, Option, Some, None, length, take, drop, get_or, refl, arith, sym, subst, ◌∙◌, append-nil, take-append-drop}
 use Rattle.std.proofs.Props.{props}
 use mathlib.Core.Logic.{∥∥₁_elim, ∥∥₁_map}
 use Rattle.mt_base.specs.declared.refusal.Refusal.{Refusal}
@@ -13,16 +13,19 @@ use Rattle.mt_restart.specs.Rotated.{GoesOver, IsEndCause, IsForcedOut, Keeps}
 use Rattle.mt_script.specs.declared.answers.Answer.{Answer}
 use Rattle.mt_script.specs.declared.lines.Line.{Line}
 use Rattle.mt_alone.proofs.LeftLemmas.{book_of}
-use Rattle.mt_alone.proofs.RunLemmas.{closed_run, end_cut, ended_run, line_cut, line_more, no_lines, stopped_told, told_behind, turn_stays}
+use Rattle.mt_alone.proofs.RunLemmas.{closed_run, end_cut, ended_run, front_cut, line_cut, line_more, no_lines, stopped_told, told_behind, turn_stays}
+use Rattle.mt_alone.proofs.StopLemmas.{left_from}
 use Rattle.mt_alone.proofs.TurnLemmas.{left_of}
 use Rattle.mt_alone.specs.Driven.{IsBeside}
 use Rattle.mt_alone.specs.Plays.{Play, Runs, starts, goes_on}
-use Rattle.mt_alone.specs.Runs.{BesideEach, HasRunLines, HasTurned, IsCut, IsCutAtEnd, IsCutShort, IsEnded, IsStopped, IsToldFor}
+use Rattle.mt_alone.specs.Runs.{BesideEach, HasRunLines, HasTurned, IsCut, IsCutAtEnd, IsCutShort, IsEnded, IsLeftFor, IsStopped, IsToldFor}
+use Rattle.mt_alone.specs.Stops.{lines_to, why_stopped}
 use Rattle.mt_alone.specs.Turnovers.{BesideFrom, CannotTurnOver, From, GoesThrough, HasRunOn, HasRunOut, IsCutOff, IsLeftBy, IsTurnedOut, StandsForPlay}
 use Rattle.mt_alone.specs.declared.rotation.NotServed.{NotServed}
 use Rattle.mt_alone.specs.declared.rotation.NotServed.TheVariants.{Kept, Ended}
 use Rattle.mt_alone.specs.declared.script_run.RunFault.{RunFault}
 use Rattle.mt_alone.specs.declared.script_run.RunFault.TheVariants as fault
+use Rattle.mt_alone.specs.declared.stops.Stop.{Stop}
 use Rattle.mt_restart.specs.TurnFaults.{IsTurnFault}
 use Rattle.mt_txn.specs.Shown.{Restarts, SameSchema, StaysRestarting}
 use Rattle.mt_txn.specs.declared.kernel.Kernel.{Kernel}
@@ -74,8 +77,8 @@ module _ {D : Type 0} {g : Ghosts D} (seen : D → List ℕ) (may_leave : D → 
     left_same m left q same x = subst (λ (X : Type 0). X) (λ i. IsLeftBy seen may_leave faults (same.0 i) (same.1 i) left q) x
 
     -- after lines the first base is the same
-    next_first : (lines : List Line) (live : Option ℕ) (a b : Option (List ℕ)) (begun m : Kernel D g) → (ran : HasRunLines seen may_leave p begun lines a b live m) → Restarts seen may_leave p.first m → Restarts seen may_leave ran.play.first m
-    next_first lines live a b begun m ran restarts = subst (λ (x : Base). Restarts seen may_leave x m) (sym (runs_first (p, begun) (ran.play, m) lines ran.answers ran.ran)) restarts
+    next_first : (stop : Bool) (lines : List Line) (live : Option ℕ) (a b : Option (List ℕ)) (begun m : Kernel D g) → (ran : HasRunLines seen may_leave stop None p begun lines a b live m) → Restarts seen may_leave p.first m → Restarts seen may_leave ran.play.first m
+    next_first stop lines live a b begun m ran restarts = subst (λ (x : Base). Restarts seen may_leave x m) (sym (runs_first (p, begun) (ran.play, m) lines ran.answers ran.ran)) restarts
 
     -- a kernel that is kept
     kept_cut : (lines : List Line) (was now : Option (List ℕ)) (begun n : Kernel D g) (why : RunFault) → SameSchema k n → Restarts seen may_leave p.first n → IsCutShort seen may_leave faults p begun lines was now n why
@@ -97,16 +100,24 @@ module _ {D : Type 0} {g : Ghosts D} (seen : D → List ℕ) (may_leave : D → 
 
     -- ---- the script's end
 
-    pub closed_on : (lines : List Line) (a b : Option (List ℕ)) (n : Kernel D g) → HasRunOn seen may_leave p k lines a b None n → HasRunOut seen may_leave p k lines a b n
-    closed_on lines a b n (begun, over, ran) = (begun, over, closed_run seen may_leave faults p begun lines a b n ran)
+    pub closed_on : (stop : Bool) (ending : Option Stop) (lines : List Line) (a b : Option (List ℕ)) (n : Kernel D g) → HasRunOn seen may_leave stop (why_stopped ending) p k (lines_to ending lines) a b None n
+        → HasRunOut seen may_leave stop ending p k lines a b n
+    closed_on stop ending lines a b n (begun, over, ran) = (begun, over, closed_run seen may_leave faults p begun stop (why_stopped ending) (lines_to ending lines) a b n ran)
 
-    pub ended_on : (lines : List Line) (t : ℕ) (a b c : Option (List ℕ)) (m n : Kernel D g) → HasRunOn seen may_leave p k lines a b (Some t) m → ((q : Play) → IsBeside seen may_leave q (Some t) m → IsEnded seen may_leave q b c n)
-        → HasRunOut seen may_leave p k lines a c n
-    ended_on lines t a b c m n (begun, over, ran) ended = (begun, over, ended_run seen may_leave faults p begun lines t a b c m n ran ended)
+    pub ended_on : (stop : Bool) (ending : Option Stop) (lines : List Line) (t : ℕ) (a b c : Option (List ℕ)) (m n : Kernel D g) → HasRunOn seen may_leave stop (why_stopped ending) p k (lines_to ending lines) a b (Some t) m
+        → ((q : Play) → IsBeside seen may_leave q (Some t) m → IsEnded seen may_leave q b c n) → HasRunOut seen may_leave stop ending p k lines a c n
+    ended_on stop ending lines t a b c m n (begun, over, ran) ended = (begun, over, ended_run seen may_leave faults p begun stop (why_stopped ending) (lines_to ending lines) t a b c m n ran ended)
 
-    pub cut_at_end : (lines : List Line) (t : ℕ) (a b c : Option (List ℕ)) (m n : Kernel D g) (why : RunFault) → SameSchema k n → Restarts seen may_leave p.first n → HasRunOn seen may_leave p k lines a b (Some t) m
+    pub cut_at_end : (stop : Bool) (ending : Option Stop) (lines : List Line) (t : ℕ) (a b c : Option (List ℕ)) (m n : Kernel D g) (why : RunFault) → SameSchema k n → Restarts seen may_leave p.first n
+        → HasRunOn seen may_leave stop (why_stopped ending) p k (lines_to ending lines) a b (Some t) m
         → ((q : Play) → IsBeside seen may_leave q (Some t) m → IsCutAtEnd seen may_leave faults q b c n why) → IsCutOff seen may_leave faults p k lines a c (Kept why n)
-    cut_at_end lines t a b c m n why same restarts (begun, over, ran) cut = (begun, over, kept_cut lines a c begun n why same restarts (end_cut seen may_leave faults p begun lines t a b c m n why ran cut))
+    cut_at_end stop ending lines t a b c m n why same restarts (begun, over, ran) cut =
+        let rest = left_from ending lines in
+        let front = end_cut seen may_leave faults p begun stop (why_stopped ending) (lines_to ending lines) t a b c m n why ran cut in (
+          begun,
+          over,
+          kept_cut lines a c begun n why same restarts (front_cut seen may_leave faults p begun (λ q. IsLeftFor seen may_leave faults q n why) (lines_to ending lines) rest.0 lines a c why rest.1 front),
+        )
 
     -- ---- a log that could not be turned over
 
@@ -130,40 +141,41 @@ module _ {D : Type 0} {g : Ghosts D} (seen : D → List ℕ) (may_leave : D → 
 
   -- ---- lines in a kernel that is held in place, whose log is turned over between them
 
-  module _ (faults : D → ℕ) (session : ℕ) (k : Kernel D g) where
-    pub none_through : (a : Option (List ℕ)) → GoesThrough seen may_leave session k [] a a None k
+  module _ (faults : D → ℕ) (stop : Bool) (session : ℕ) (k : Kernel D g) where
+    pub none_through : (a : Option (List ℕ)) → GoesThrough seen may_leave stop None session k [] a a None k
     none_through a = record {
-      ran = λ p own beside restarts. (k, over_same k, no_lines seen may_leave faults p k a beside);
+      ran = λ p own beside restarts. (k, over_same k, no_lines seen may_leave faults p k stop a beside);
       schema = (refl, refl);
       restarts = λ first restarts. restarts;
     }
 
-    turned_none : (lines : List Line) (a b : Option (List ℕ)) (m n : Kernel D g) → GoesThrough seen may_leave session k lines a b None m → GoesOver seen may_leave m n → GoesThrough seen may_leave session k lines a b None n
+    turned_none : (lines : List Line) (a b : Option (List ℕ)) (m n : Kernel D g) → GoesThrough seen may_leave stop None session k lines a b None m → GoesOver seen may_leave m n → GoesThrough seen may_leave stop None session k lines a b None n
     turned_none lines a b m n x over = record {
       ran = λ p own beside restarts.
           let (b0, over0, ran) = x.ran p own beside restarts in
           let (b2, over2, front) = rejoin (p, b0) (ran.play, m) lines ran.answers n ran.ran over in
-          let rests = next_first faults p b0 lines None a b b0 m ran (x.restarts p.first restarts) in (
+          let rests = next_first faults p b0 stop lines None a b b0 m ran (x.restarts p.first restarts) in (
             b2,
             over_then k b0 b2 over0 over2,
-            record { answers = ran.answers; play = ran.play; ran = front; told = ran.told; beside = resting_over ran.play m n ran.beside rests over },
+            record { answers = ran.answers; play = ran.play; ran = front; ends = ran.ends; told = ran.told; beside = resting_over ran.play m n ran.beside rests over },
           );
       schema = (over.schema.0 ∙ x.schema.0, over.schema.1 ∙ x.schema.1);
       restarts = λ first restarts. over.restarts first (x.restarts first restarts);
     }
 
     -- the log was turned over after them, where no transaction is open
-    pub turned_through : (lines : List Line) (live : Option ℕ) (a b : Option (List ℕ)) (m n : Kernel D g) → live ≡ None → GoesThrough seen may_leave session k lines a b live m → GoesOver seen may_leave m n → GoesThrough seen may_leave session k lines a b live n
+    pub turned_through : (lines : List Line) (live : Option ℕ) (a b : Option (List ℕ)) (m n : Kernel D g) → live ≡ None → GoesThrough seen may_leave stop None session k lines a b live m → GoesOver seen may_leave m n
+        → GoesThrough seen may_leave stop None session k lines a b live n
     turned_through lines live a b m n none x over =
-        subst (λ (o : Option ℕ). GoesThrough seen may_leave session k lines a b o m → GoesThrough seen may_leave session k lines a b o n) (sym none) (λ y. turned_none lines a b m n y over) x
+        subst (λ (o : Option ℕ). GoesThrough seen may_leave stop None session k lines a b o m → GoesThrough seen may_leave stop None session k lines a b o n) (sym none) (λ y. turned_none lines a b m n y over) x
 
     -- it could not be
-    pub through_not_turned : (lines : List Line) (i : ℕ) (live : Option ℕ) (y : Refusal) (device : D) (a b c : Option (List ℕ)) (m : Kernel D g) (why : RunFault) → live ≡ None → GoesThrough seen may_leave session k (take i lines) a b live m → IsTurnedOut seen may_leave faults m y device → IsStopped b c y why
+    pub through_not_turned : (lines : List Line) (i : ℕ) (live : Option ℕ) (y : Refusal) (device : D) (a b c : Option (List ℕ)) (m : Kernel D g) (why : RunFault) → live ≡ None → GoesThrough seen may_leave stop None session k (take i lines) a b live m → IsTurnedOut seen may_leave faults m y device → IsStopped b c y why
         → BesideFrom seen may_leave session None k (λ p. IsCutOff seen may_leave faults p k lines a c (Ended why device))
     through_not_turned lines i live y device a b c m why none whatever out stopped p own beside restarts =
-        let x = subst (λ (o : Option ℕ). GoesThrough seen may_leave session k (take i lines) a b o m) none whatever in
+        let x = subst (λ (o : Option ℕ). GoesThrough seen may_leave stop None session k (take i lines) a b o m) none whatever in
         let (b0, over0, ran) = x.ran p own beside restarts in
-        let rests = next_first faults p b0 (take i lines) None a b b0 m ran (x.restarts p.first restarts) in (
+        let rests = next_first faults p b0 stop (take i lines) None a b b0 m ran (x.restarts p.first restarts) in (
           b0,
           over0,
           record {
@@ -180,18 +192,18 @@ module _ {D : Type 0} {g : Ghosts D} (seen : D → List ℕ) (may_leave : D → 
         )
 
     -- one more line ran
-    pub line_through : (lines : List Line) (i : ℕ) (l : Line) (live now : Option ℕ) (a b c : Option (List ℕ)) (m n : Kernel D g) → i < length lines → l ≡ get_or lines i l → GoesThrough seen may_leave session k (take i lines) a b live m
-        → BesideEach seen may_leave session live m (λ q. HasRunLines seen may_leave q m (l ∷ []) b c now n) → SameSchema m n → StaysRestarting seen may_leave m n → GoesThrough seen may_leave session k (take (suc i) lines) a c now n
-    line_through lines i l live now a b c m n lt is x next same stays = record {
+    pub line_through : (why : Option Refusal) (lines : List Line) (i : ℕ) (l : Line) (live now : Option ℕ) (a b c : Option (List ℕ)) (m n : Kernel D g) → i < length lines → l ≡ get_or lines i l → GoesThrough seen may_leave stop None session k (take i lines) a b live m
+        → BesideEach seen may_leave session live m (λ q. HasRunLines seen may_leave stop why q m (l ∷ []) b c now n) → SameSchema m n → StaysRestarting seen may_leave m n → GoesThrough seen may_leave stop why session k (take (suc i) lines) a c now n
+    line_through why lines i l live now a b c m n lt is x next same stays = record {
       ran = λ p own beside restarts.
           let (begun, over, ran) = x.ran p own beside restarts in
-          (begun, over, line_more seen may_leave faults p begun session lines i l live now a b c m n own lt is ran next);
+          (begun, over, line_more seen may_leave faults p begun stop why session lines i l live now a b c m n own lt is ran next);
       schema = (same.0 ∙ x.schema.0, same.1 ∙ x.schema.1);
       restarts = λ first restarts. stays first (x.restarts first restarts);
     }
 
     -- or was cut short
-    pub line_not_through : (lines : List Line) (i : ℕ) (l : Line) (live : Option ℕ) (a b c : Option (List ℕ)) (m n : Kernel D g) (why : RunFault) → i < length lines → l ≡ get_or lines i l → GoesThrough seen may_leave session k (take i lines) a b live m
+    pub line_not_through : (lines : List Line) (i : ℕ) (l : Line) (live : Option ℕ) (a b c : Option (List ℕ)) (m n : Kernel D g) (why : RunFault) → i < length lines → l ≡ get_or lines i l → GoesThrough seen may_leave stop None session k (take i lines) a b live m
         → BesideEach seen may_leave session live m (λ q. IsCutShort seen may_leave faults q m (l ∷ []) b c n why) → SameSchema m n → StaysRestarting seen may_leave m n
         → BesideFrom seen may_leave session None k (λ p. IsCutOff seen may_leave faults p k lines a c (Kept why n))
     line_not_through lines i l live a b c m n why lt is x cut same stays p own beside restarts =
@@ -199,7 +211,7 @@ module _ {D : Type 0} {g : Ghosts D} (seen : D → List ℕ) (may_leave : D → 
           begun,
           over,
           kept_cut faults p k lines a c begun n why (same.0 ∙ x.schema.0, same.1 ∙ x.schema.1) (stays p.first (x.restarts p.first restarts))
-              (line_cut seen may_leave faults p begun session lines i l live a b c m n why own lt is ran cut),
+              (line_cut seen may_leave faults p begun stop session lines i l live a b c m n why own lt is ran cut),
         )
 
 -- 2 only where a call of the device has failed

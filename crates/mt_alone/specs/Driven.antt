@@ -94,7 +94,8 @@ module _ {D : Type 0} {g : Ghosts D} (seen : D → List ℕ) (may_leave : D → 
 
   -- ---- refusals
 
-  -- the tests by which it refuses a begin, and an operation: those of the call, and else what locks, escrow, pages and log say
+  -- the tests by which it refuses a begin, and an operation: those of the call, and else what locks, escrow, pages
+  -- and log say
   abbrev pub IsTested : Kernel D g → Option ℕ → Line → Refusal → Type 0
   IsTested k None line.Begin why = begin_cause (is_failed k) k.core ≡ Some why
   IsTested k (Some t) (line.Call op) why =

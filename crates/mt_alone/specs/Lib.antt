@@ -2,4 +2,5 @@ pub mod Driven
 pub mod Plays
 pub mod Runs
 pub mod Sessions
+pub mod Stops
 pub mod Turnovers

@@ -13,7 +13,8 @@ use Rattle.mt_script.specs.declared.lines.Line.TheVariants as line
 use Rattle.mt_script.specs.declared.answers.Answer.{Answer}
 use Rattle.mt_script.specs.declared.answers.Answer.TheVariants.{Begun, Replied, Committed as CommittedAt, Aborted, Refused}
 
--- whose script it is, the base that the commits began on, what they leave, the commits, and the calls of the transaction that is open, if one is
+-- whose script it is, the base that the commits began on, what they leave, the commits, and the calls of the
+-- transaction that is open, if one is
 pub record Play : Type 0 where
   pub session : ℕ
   pub first : Base
@@ -23,7 +24,7 @@ pub record Play : Type 0 where
 
 -- ---- a line
 
--- the model's answer where no transaction is open, and where one with these calls is
+-- the model's answer if no transaction is open, and if one with these calls is
 abbrev pub answer_at : Play → Option (List Call) → Line → Answer
 answer_at p None line.Begin = Begun
 answer_at p None (line.Call op) = Refused refusal.Stranger
@@ -74,8 +75,8 @@ is_add (Update r k v) = false
 is_add (Delete r k) = false
 is_add (Read c) = false
 
--- What may be wanting to a begin: memory, room in the book, bytes of the log. To an operation: memory, numbers, pages, bytes of the
--- log, and to an add the leave of escrow. To a commit: memory.
+-- What may be wanting to a begin: memory, room in the book, bytes of the log. To an operation: memory, numbers,
+-- pages, bytes of the log, and to an add the leave of escrow. To a commit: memory.
 abbrev pub IsBeginWant : Refusal → Type 0
 IsBeginWant refusal.NoMemory = ⊤
 IsBeginWant refusal.BookFull = ⊤
@@ -98,7 +99,8 @@ IsWant _ _ why = ⊥
 
 -- ---- a run
 
--- A line is answered as the model does. Or it is refused, and nothing comes of it: for its fault, or for a want that is due.
+-- A line is answered as the model does. Or it is refused, and nothing comes of it: for its fault, or for a want that
+-- is due.
 pub data IsTurn (relations counters : ℕ) (IsDue : Line → Refusal → Type 0) (p : Play) (line : Line) : Answer → Play → Type 0 where
   acts : fault_at relations counters p.under_way line ≡ None → IsTurn relations counters IsDue p line (answer_at p p.under_way line) (after_at p p.under_way line)
   refuses : (why : Refusal) → (fault_at relations counters p.under_way line ≡ Some why) ⊎ (IsWant p.under_way line why × IsDue line why)

@@ -1,5 +1,5 @@
 -- A script run on a kernel, line by line.
-use Rattle.std.specs.Prelude.{ℕ, ◌≡◌, ◌⊎◌, List, [], ◌∷◌, ◌++◌, Option, Some, None, Result, Ok, Err}
+use Rattle.std.specs.Prelude.{ℕ, ◌≡◌, ◌⊎◌, Bool, List, [], ◌∷◌, ◌++◌, Option, Some, None, Result, Ok, Err}
 use Rattle.std.specs.Io.KnownBytes.{Appends}
 use Rattle.mt_base.specs.declared.refusal.Refusal.{Refusal}
 use Rattle.mt_base.specs.declared.refusal.Refusal.TheVariants as refusal
@@ -15,6 +15,7 @@ use Rattle.mt_alone.specs.declared.script_run.RunFault.TheVariants as fault
 use Rattle.mt_script.specs.Answers.{AppendsFront, transcript_text}
 use Rattle.mt_alone.specs.Driven.{IsLeft, IsBeside, IsDueTo, IsGivenUp, HasBroken, Fails}
 use Rattle.mt_alone.specs.Plays.{Play, IsTurn, Runs, put_off}
+use Rattle.mt_alone.specs.Stops.{Ends}
 
 -- ---- ends
 
@@ -33,7 +34,7 @@ abbrev pub refused_as : Refusal → Option ℕ → Result (Answer × Option ℕ)
 refused_as refusal.DeviceFailed live = Err refusal.DeviceFailed
 refused_as why live = Ok (Refused why, live)
 
--- what was to be written after the answers where the writer failed: nothing, or one of those two lines
+-- what was to be written after the answers if the writer failed: nothing, or one of those two lines
 pub data IsLast : List Answer → Type 0 where
   nothing : IsLast []
   aborted : IsLast (Aborted ∷ [])
@@ -48,8 +49,8 @@ pub record IsUnheard (was now : Option (List ℕ)) (answers : List Answer) : Typ
   pub told : Appends was mid (transcript_text heard)
   pub front : AppendsFront mid now (transcript_text (last ∷ []))
 
--- What was written where a run ended early. Where the writer failed, it is a beginning. Else it is the answers, and that the device failed; or
--- the writer failed within the last answer, and then the run was given up.
+-- What was written if a run ended early. If the writer failed, it is a beginning. Else it is the answers, and that
+-- the device failed; or the writer failed within the last answer, and then the run was given up.
 abbrev pub IsToldFor : Option (List ℕ) → Option (List ℕ) → List Answer → RunFault → Type 0
 IsToldFor was now answers fault.Output = (last : List Answer) × IsLast last × AppendsFront was now (transcript_text (answers ++ last))
 IsToldFor was now answers (fault.Refused why) = Appends was now (transcript_text (answers ++ failure_line why)) ⊎ IsUnheard was now answers
@@ -71,20 +72,23 @@ module _ {D : Type 0} {g : Ghosts D} (seen : D → List ℕ) (may_leave : D → 
     pub turn : IsTurn start.1.relations start.1.counters (IsDueTo seen may_leave start.1 live) start.0 line answer end.0
     pub schema : SameSchema start.1 end.1
 
-  -- The lines ran, and the texts of the answers were written, a line each.
-  pub record HasRunLines (p : Play) (k : Kernel D g) (lines : List Line) (was now : Option (List ℕ)) (live : Option ℕ) (n : Kernel D g) : Type 0 where
+  -- The lines ran, and the texts of the answers were written, a line each. If the run is to stop, the last was refused
+  -- so, or no answer stops it.
+  pub record HasRunLines (stop : Bool) (why : Option Refusal) (p : Play) (k : Kernel D g) (lines : List Line) (was now : Option (List ℕ)) (live : Option ℕ) (n : Kernel D g) : Type 0 where
     pub answers : List Answer
     pub play : Play
     pub ran : Runs HasTurned (p, k) lines answers (play, n)
+    pub ends : Ends stop why answers
     pub told : Appends was now (transcript_text answers)
     pub beside : IsBeside seen may_leave play live n
 
   -- The script ran to its end; a transaction that was open there is aborted, and that was written too; nobody lives.
-  pub record HasRun (p : Play) (k : Kernel D g) (lines : List Line) (was now : Option (List ℕ)) (n : Kernel D g) : Type 0 where
+  pub record HasRun (stop : Bool) (why : Option Refusal) (p : Play) (k : Kernel D g) (lines : List Line) (was now : Option (List ℕ)) (n : Kernel D g) : Type 0 where
     pub answers : List Answer
     pub play : Play
     pub last : Kernel D g
     pub ran : Runs HasTurned (p, k) lines answers (play, last)
+    pub ends : Ends stop why answers
     pub told : Appends was now (transcript_text (answers ++ last_line play.under_way))
     pub beside : IsBeside seen may_leave (put_off play) None n
 
@@ -101,8 +105,8 @@ module _ {D : Type 0} {g : Ghosts D} (seen : D → List ℕ) (may_leave : D → 
     pub left : Left play
 
 module _ {D : Type 0} {g : Ghosts D} (seen : D → List ℕ) (may_leave : D → List ℕ → Type 0) (faults : D → ℕ) where
-  -- What is left after answers where a run ended early. Where the writer failed, the open transaction is aborted, or the device has
-  -- failed; where a step was given up, what was committed stands.
+  -- What is left after answers if a run ended early. If the writer failed, the open transaction is aborted, or the
+  -- device has failed; if a step was given up, what was committed stands.
   abbrev pub IsLeftFor : Play → Kernel D g → RunFault → Type 0
   IsLeftFor q n fault.Output = IsBeside seen may_leave (put_off q) None n ⊎ (IsLeft seen may_leave q n × HasBroken faults n)
   IsLeftFor q n (fault.Refused why) = IsGivenUp seen may_leave faults q n why

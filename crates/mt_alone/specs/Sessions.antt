@@ -1,8 +1,10 @@
 -- Scripts served one after the other, each a session of its own.
-use Rattle.std.specs.Prelude.{ℕ, ◌≡◌, ◌+◌, List, [], ◌∷◌, ◌++◌, length, Option, None, codes}
+use Rattle.std.specs.Prelude.{ℕ, ◌≡◌, ◌+◌, All, Bool, List, [], ◌∷◌, ◌++◌, length, Option, None, Some, codes}
 use Rattle.std.specs.Fmt.{decimal}
 use Rattle.std.specs.Io.KnownBytes.{Appends}
+use Rattle.mt_base.specs.declared.refusal.Refusal.{Refusal}
 use Rattle.mt_disk.specs.declared.device.Device.{Ghosts}
+use Rattle.mt_model.specs.History.{Call}
 use Rattle.mt_restart.specs.Rotated.{GoesOver}
 use Rattle.mt_txn.specs.Shown.{Restarts, SameSchema}
 use Rattle.mt_txn.specs.declared.kernel.Kernel.{Kernel}
@@ -16,6 +18,8 @@ use Rattle.mt_script.specs.Answers.{AppendsFront, transcript_text}
 use Rattle.mt_alone.specs.Driven.{IsBeside}
 use Rattle.mt_alone.specs.Plays.{Play, HasPlayed, Runs, put_off}
 use Rattle.mt_alone.specs.Runs.{HasTurned, last_line}
+use Rattle.mt_alone.specs.Stops.{Ends, IsStopAmong, lines_to, scripts_to, why_stopped}
+use Rattle.mt_alone.specs.declared.stops.Stop.{Stop}
 use Rattle.mt_alone.specs.Turnovers.{IsCutOff}
 
 -- ---- texts
@@ -31,6 +35,20 @@ sessions_from i (answers ∷ transcripts) = session_line i ++ (transcript_text a
 
 abbrev pub sessions_text : List (List Answer) → List ℕ
 sessions_text transcripts = sessions_from 1 transcripts
+
+-- ---- where they end
+
+-- a transcript's answers end so, before the line that the open transaction was aborted
+abbrev pub Closes : Bool → Option Refusal → List Answer → Type 0
+Closes stop why told =
+    (answers : List Answer) × (open_then : Option (List Call)) × (told ≡ answers ++ last_line open_then) × Ends stop why answers
+
+-- so the last of transcripts, and nothing stops those before it
+abbrev pub Close : Bool → Option Refusal → List (List Answer) → Type 0
+Close stop None transcripts = All (Closes stop None) transcripts
+Close stop (Some why) transcripts =
+    (before : List (List Answer)) × (last : List Answer) × (transcripts ≡ before ++ last ∷ []) × All (Closes stop None) before
+    × Closes stop (Some why) last
 
 -- ---- sessions
 
@@ -64,8 +82,8 @@ module _ {D : Type 0} {g : Ghosts D} (seen : D → List ℕ) (may_leave : D → 
   abbrev pub StandsEach : Kernel D g → (Play → Type 0) → Type 0
   StandsEach k Promises = (p : Play) → IsBeside seen may_leave p None k → Restarts seen may_leave p.first k → Promises p
 
-  -- A session of a kernel, beside the model: its script ran by itself, in this kernel or in one that goes on as it with its log turned over,
-  -- and nobody lives after it.
+  -- A session of a kernel, beside the model: its script ran by itself, in this kernel or in one that goes on as it
+  -- with its log turned over, and nobody lives after it.
   pub record HasServed (start : Play × Kernel D g) (i : ℕ) (lines : List Line) (told : List Answer) (end : Play × Kernel D g) : Type 0 where
     pub answers : List Answer
     pub play : Play
@@ -79,18 +97,22 @@ module _ {D : Type 0} {g : Ghosts D} (seen : D → List ℕ) (may_leave : D → 
     pub restarts : Restarts seen may_leave end.0.first end.1
     pub schema : SameSchema start.1 end.1
 
-  -- One session was served: its line was written, and then its transcript.
-  pub record IsServed (p : Play) (k : Kernel D g) (i : ℕ) (lines : List Line) (was now : Option (List ℕ)) (n : Kernel D g) : Type 0 where
+  -- One session was served: its line was written, and then its transcript. One that stopped is served as if its script
+  -- ended there.
+  pub record IsServed (stop : Bool) (ending : Option Stop) (p : Play) (k : Kernel D g) (i : ℕ) (lines : List Line) (was now : Option (List ℕ)) (n : Kernel D g) : Type 0 where
     pub transcript : List Answer
     pub end : Play
-    pub served : HasServed (p, k) i lines transcript (end, n)
+    pub served : HasServed (p, k) i (lines_to ending lines) transcript (end, n)
+    pub closes : Closes stop (why_stopped ending) transcript
     pub told : Appends was now (session_line i ++ transcript_text transcript)
 
-  -- All of them were, one after the other.
-  pub record HaveServed (p : Play) (k : Kernel D g) (scripts : List (List Line)) (was now : Option (List ℕ)) (n : Kernel D g) : Type 0 where
+  -- All of them were, one after the other; or those up to the line that stopped them.
+  pub record HaveServed (stop : Bool) (ending : Option Stop) (p : Play) (k : Kernel D g) (scripts : List (List Line)) (was now : Option (List ℕ)) (n : Kernel D g) : Type 0 where
     pub transcripts : List (List Answer)
     pub play : Play
-    pub served : Serves HasServed (p, k) scripts transcripts (play, n)
+    pub at : IsStopAmong scripts ending
+    pub served : Serves HasServed (p, k) (scripts_to ending scripts) transcripts (play, n)
+    pub close : Close stop (why_stopped ending) transcripts
     pub told : Appends was now (sessions_text transcripts)
     pub beside : IsBeside seen may_leave play None n
     pub restarts : Restarts seen may_leave play.first n
@@ -103,12 +125,12 @@ module _ {D : Type 0} {g : Ghosts D} (seen : D → List ℕ) (may_leave : D → 
         → IsCutWithin p k i lines was now left
 
   -- The first of them were served, and the next one ended early.
-  pub record AreCutShort (p : Play) (k : Kernel D g) (scripts : List (List Line)) (was now : Option (List ℕ)) (left : NotServed D g) : Type 0 where
+  pub record AreCutShort (stop : Bool) (p : Play) (k : Kernel D g) (scripts : List (List Line)) (was now : Option (List ℕ)) (left : NotServed D g) : Type 0 where
     pub before : List (List Line)
     pub lines : List Line
     pub rest : List (List Line)
     pub split : scripts ≡ before ++ lines ∷ rest
     pub mid : Option (List ℕ)
     pub last : Kernel D g
-    pub ran : HaveServed seen may_leave p k before was mid last
+    pub ran : HaveServed seen may_leave stop None p k before was mid last
     pub within : IsCutWithin ran.play last (length before + 1) lines mid now left

@@ -1,5 +1,5 @@
 -- Lines of sessions in turn, on a kernel whose log is turned over before a transaction.
-use Rattle.std.specs.Prelude.{ℕ, ◌≡◌, ◌<◌, ◌++◌, List, Option, None}
+use Rattle.std.specs.Prelude.{ℕ, ◌≡◌, ◌<◌, ◌++◌, Bool, List, Option, None}
 use Rattle.mt_base.specs.declared.refusal.Refusal.{Refusal}
 use Rattle.mt_base.specs.declared.refusal.Refusal.TheVariants as refusal
 use Rattle.mt_disk.specs.declared.device.Device.{Ghosts}
@@ -13,10 +13,12 @@ use Rattle.mt_script.specs.declared.lines.Line.{Line}
 use Rattle.mt_alone.specs.Driven.{IsBeside}
 use Rattle.mt_alone.specs.Plays.{Play}
 use Rattle.mt_alone.specs.Runs.{HasRun, HasRunLines, IsCut, IsLeftFor}
+use Rattle.mt_alone.specs.Stops.{lines_to, why_stopped}
 use Rattle.mt_alone.specs.declared.rotation.NotServed.{NotServed}
 use Rattle.mt_alone.specs.declared.rotation.NotServed.TheVariants.{Kept, Ended}
 use Rattle.mt_alone.specs.declared.script_run.RunFault.{RunFault}
 use Rattle.mt_alone.specs.declared.script_run.RunFault.TheVariants as fault
+use Rattle.mt_alone.specs.declared.stops.Stop.{Stop}
 use Rattle.mt_restart.specs.TurnFaults.{IsTurnFault}
 use Rattle.mt_txn.specs.Shown.{Restarts, SameSchema, StaysRestarting}
 use Rattle.mt_txn.specs.declared.kernel.Kernel.{Kernel}
@@ -54,17 +56,21 @@ module _ {D : Type 0} {g : Ghosts D} (seen : D → List ℕ) (may_leave : D → 
   abbrev pub From : Kernel D g → (Kernel D g → Type 0) → Type 0
   From k Holds = (begun : Kernel D g) × GoesOver seen may_leave k begun × Holds begun
 
-  -- lines ran, and a script ran to its end
-  abbrev pub HasRunOn : Play → Kernel D g → List Line → Option (List ℕ) → Option (List ℕ) → Option ℕ → Kernel D g → Type 0
-  HasRunOn p k lines was now live n = From k (λ begun. HasRunLines seen may_leave p begun lines was now live n)
+  -- lines ran; and a script did, to its end or so far as to the line that stopped it, as one that ends there
+  abbrev pub HasRunOn : Bool → Option Refusal → Play → Kernel D g → List Line → Option (List ℕ) → Option (List ℕ)
+      → Option ℕ → Kernel D g → Type 0
+  HasRunOn stop why p k lines was now live n =
+      From k (λ begun. HasRunLines seen may_leave stop why p begun lines was now live n)
 
-  abbrev pub HasRunOut : Play → Kernel D g → List Line → Option (List ℕ) → Option (List ℕ) → Kernel D g → Type 0
-  HasRunOut p k lines was now n = From k (λ begun. HasRun seen may_leave p begun lines was now n)
+  abbrev pub HasRunOut : Bool → Option Stop → Play → Kernel D g → List Line → Option (List ℕ) → Option (List ℕ)
+      → Kernel D g → Type 0
+  HasRunOut stop ending p k lines was now n =
+      From k (λ begun. HasRun seen may_leave stop (why_stopped ending) p begun (lines_to ending lines) was now n)
 
   -- The lines of this session ran on the kernel, beside whatever play it stands at. The one that is left after them has
   -- its schema, and can be restarted from each base that it can.
-  pub record GoesThrough (session : ℕ) (k : Kernel D g) (lines : List Line) (was now : Option (List ℕ)) (live : Option ℕ) (n : Kernel D g) : Type 0 where
-    pub ran : BesideFrom session None k (λ p. HasRunOn p k lines was now live n)
+  pub record GoesThrough (stop : Bool) (why : Option Refusal) (session : ℕ) (k : Kernel D g) (lines : List Line) (was now : Option (List ℕ)) (live : Option ℕ) (n : Kernel D g) : Type 0 where
+    pub ran : BesideFrom session None k (λ p. HasRunOn stop why p k lines was now live n)
     pub schema : SameSchema k n
     pub restarts : StaysRestarting seen may_leave k n
 
@@ -75,16 +81,18 @@ module _ {D : Type 0} {g : Ghosts D} (seen : D → List ℕ) (may_leave : D → 
     pub counters_are : n.counters ≡ counters
 
 module _ {D : Type 0} {g : Ghosts D} (seen : D → List ℕ) (may_leave : D → List ℕ → Type 0) (faults : D → ℕ) where
-  -- The log of this kernel was to be turned over, and only the device is left. By 2 only where a call of the device has failed; by 11 only where
-  -- the next area has no room for a kernel that goes on as this one. Whatever a crash leaves of the device represents what the book leads to.
+  -- The log of this kernel was to be turned over, and only the device is left. By 2 only if a call of the device has
+  -- failed; by 11 only if the next area has no room for a kernel that goes on as this one. Whatever a crash leaves of
+  -- the device represents what the book leads to.
   pub record IsTurnedOut (k : Kernel D g) (why : Refusal) (device : D) : Type 0 where
     pub cause : IsTurnFault why
     pub failed : why ≡ refusal.DeviceFailed → 0 < faults device
     pub full : why ≡ refusal.LogFull → ∥ From seen may_leave k (CannotTurnOver seen) ∥₁
     pub stands : (first : Base) → Restarts seen may_leave first k → (c : List ℕ) → may_leave device c → ∥ CanRestart k.relations k.counters c (after first k.core.book.items) ∥₁
 
-  -- What is left after a play where serving ended early: the kernel; or the device, since its log could not be turned over, which represents the
-  -- commits. By 2 a call of it has failed; and by 11 the next area had no room for a kernel that stands there.
+  -- What is left after a play if serving ended early: the kernel; or the device, since its log could not be turned
+  -- over, which represents the commits. By 2 a call of it has failed; and by 11 the next area had no room for a
+  -- kernel that stands there.
   abbrev pub IsLeftBy : ℕ → ℕ → NotServed D g → Play → Type 0
   IsLeftBy relations counters (Kept why n) q = IsLeftFor seen may_leave faults q n why × RestartsFor seen may_leave relations counters q n
   IsLeftBy relations counters (Ended fault.Output device) q = (0 < faults device) × StandsForPlay may_leave relations counters q device

@@ -1,10 +1,13 @@
 // A script on a kernel that no other session has, whose log is turned over before a transaction.
 ghost use Rattle.std.specs.Prelude.{IfErr, IfOk, None};
 ghost use Rattle.mt_txn.specs.Shown.{SameSchema, StaysRestarting};
+ghost use Rattle.mt_alone.specs.Sessions.{lines_in};
+ghost use Rattle.mt_alone.specs.Stops.{IsStopIn, lines_to, why_stopped};
 ghost use Rattle.mt_alone.specs.Turnovers.{BesideFrom, GoesThrough, HasRunOut, IsCutOff};
 
 use crate::rotation::{NotServed, is_due, turned};
 use crate::script_run::{end_live, end_refused, run_line};
+use crate::stops::Stop;
 use mt_base::TxnNo;
 use mt_disk::Device;
 use mt_script::{Line, Script};
@@ -12,28 +15,30 @@ use mt_txn::Kernel;
 use std::alloc::Global;
 use std::io::Write;
 
-/// A kernel between two lines, and the transaction that is open then.
-type Between<D> = (Kernel<D>, Option<TxnNo>);
+/// A kernel after lines, the transaction that is open then, and the line that stopped them.
+type Ran<D> = (Kernel<D>, Option<TxnNo>, Option<Stop>);
 
-/// Answers the lines of a script. Gives the kernel after the last, and the transaction that is open then. The kernel is
-/// moved only if its log is due to be turned over.
+/// Answers the lines of a script, up to the first refusal if it is to stop there. The kernel is moved only if its log
+/// is due to be turned over.
 fn run_each<D: Device + Drop, W: Write>(
     alloc: Global,
     kernel: Kernel<D>,
     frames: usize,
     session: u32,
+    stop: bool,
     lines: &[Line],
     writer: &mut W,
-) -> Result<Between<D>, NotServed<D>>
-    ensures ran { IfOk result (λ t. GoesThrough D.seen D.may_leave session kernel lines.now
-        (W.contents writer.old) (W.contents writer.new) t.1 t.0) }
+) -> Result<Ran<D>, NotServed<D>>
+    ensures ran { IfOk result (λ t. GoesThrough D.seen D.may_leave stop (why_stopped t.2) session kernel
+        (lines_to t.2 lines.now) (W.contents writer.old) (W.contents writer.new) t.1 t.0) }
+    ensures at { IfOk result (λ t. IsStopIn session lines.now t.2) }
     ensures cut { IfErr result (λ left. BesideFrom D.seen D.may_leave session None kernel
         (λ p. IsCutOff D.seen D.may_leave D.faults p kernel lines.now
         (W.contents writer.old) (W.contents writer.new) left)) }
 {
     let mut kernel = kernel;
     let mut live = None;
-    for line in lines {
+    for (at, line) in lines.iter().enumerate() {
         if live.is_none() && is_due(&kernel) {
             match turned(alloc, kernel, frames) {
                 Ok(next) => kernel = next,
@@ -42,43 +47,65 @@ fn run_each<D: Device + Drop, W: Write>(
                 }
             }
         }
-        match run_line(&mut kernel, session, live, line, writer) {
-            Ok(now) => live = now,
+        let now = match run_line(&mut kernel, session, stop, live, line, writer) {
+            Ok(now) => now,
             Err(why) => return Err(NotServed::Kept(why, kernel)),
+        };
+        live = now.0;
+        if let Some(why) = now.1 {
+            let line = at + 1;
+            let stop = Stop { session, line, why };
+            return Ok((kernel, live, Some(stop)));
         }
     }
-    Ok((kernel, live))
+    Ok((kernel, live, None))
 }
 
-/// Runs a script as [`run_alone`](crate::run_alone). It turns the log over before a line outside of a transaction
-/// where more than half of its area is in use.
-pub(crate) fn run_script<D: Device + Drop, W: Write>(
+/// Runs a script on a kernel in which no transaction lives, as [`run_alone`](crate::run_alone) does. Before a line
+/// outside of a transaction it turns the log over, if more than half of its area is in use. The kernel then has so many
+/// pages in frames. If there is no memory to force the log, it is turned over before a later line.
+///
+/// If it is to stop, the script ends at the first line that is refused with anything but `Escrow` and `Die`. A
+/// transaction that is open there is aborted, with the line `aborted`. So it is run as a script that ends with that
+/// line, which is given with the kernel.
+///
+/// Refused for what `run_alone` is refused, with the kernel as that leaves it. If a log that was to be turned over
+/// leaves no kernel, refused with the device, as [`rotate`](mt_restart::rotate) is then. That is 1, 2, which is the
+/// transcript's last line, or 11.
+///
+/// What is promised holds beside whatever play of the model the kernel stands at, from whose first base it can be
+/// restarted.
+pub fn run_script<D: Device + Drop, W: Write>(
     alloc: Global,
     kernel: Kernel<D>,
     frames: usize,
     session: u32,
+    stop: bool,
     script: &Script,
     writer: &mut W,
-) -> Result<Kernel<D>, NotServed<D>>
-    ensures ran { IfOk result (λ n. BesideFrom D.seen D.may_leave session None kernel
-        (λ p. HasRunOut D.seen D.may_leave p kernel script.now.lines.items
-        (W.contents writer.old) (W.contents writer.new) n)) }
+) -> Result<(Kernel<D>, Option<Stop>), NotServed<D>>
+    ensures ran { IfOk result (λ t. BesideFrom D.seen D.may_leave session None kernel
+        (λ p. HasRunOut D.seen D.may_leave stop t.1 p kernel (lines_in script.now)
+        (W.contents writer.old) (W.contents writer.new) t.0)) }
+    ensures at { IfOk result (λ t. IsStopIn session (lines_in script.now) t.1) }
     ensures cut { IfErr result (λ left. BesideFrom D.seen D.may_leave session None kernel
-        (λ p. IsCutOff D.seen D.may_leave D.faults p kernel script.now.lines.items
+        (λ p. IsCutOff D.seen D.may_leave D.faults p kernel (lines_in script.now)
         (W.contents writer.old) (W.contents writer.new) left)) }
-    ensures schema { IfOk result (SameSchema kernel) }
-    ensures restarts { IfOk result (StaysRestarting D.seen D.may_leave kernel) }
+    ensures schema { IfOk result (λ t. SameSchema kernel t.0) }
+    // A kernel that can be restarted from a base still can.
+    ensures restarts { IfOk result (λ t. StaysRestarting D.seen D.may_leave kernel t.0) }
 {
-    let (kernel, live) = match run_each(alloc, kernel, frames, session, script.lines(), writer) {
-        Ok(between) => between,
+    let ran = match run_each(alloc, kernel, frames, session, stop, script.lines(), writer) {
+        Ok(ran) => ran,
         Err(left) => return Err(left),
     };
+    let (kernel, live, stopped) = ran;
     let Some(txn) = live else {
-        return Ok(kernel);
+        return Ok((kernel, stopped));
     };
     let mut kernel = kernel;
     match end_live(&mut kernel, txn, writer) {
-        Ok(()) => Ok(kernel),
+        Ok(()) => Ok((kernel, stopped)),
         Err(why) => Err(NotServed::Kept(why, kernel)),
     }
 }

@@ -20,7 +20,7 @@ pub(crate) fn wants_memory<T>(answer: &Result<T, Refusal>) -> bool
     matches!(answer, Err(Refusal::NoMemory))
 }
 
-/// A force step, asked for again where it finds no memory.
+/// A force step, asked for again if it finds no memory.
 pub fn ask_force<D: Device>(kernel: &mut Kernel<D>) -> Result<KernelForced, Refusal>
     ensures forcing { IsForcing D.seen D.may_leave D.faults kernel.old result kernel.new }
     ensures schema { SameSchema kernel.old kernel.new }
@@ -35,7 +35,7 @@ pub fn ask_force<D: Device>(kernel: &mut Kernel<D>) -> Result<KernelForced, Refu
     kernel.force_step()
 }
 
-/// Makes force steps until a commit is durable. Where it is the only one, each step leaves one less.
+/// Makes force steps until a commit is durable. If it is the only one, each step leaves one less.
 pub fn force_commit<D: Device>(kernel: &mut Kernel<D>, txn: TxnNo) -> Result<(), Refusal>
     ensures committed { HasCommitted D.seen D.may_leave D.faults kernel.old txn result kernel.new }
     ensures schema { SameSchema kernel.old kernel.new }
@@ -56,7 +56,7 @@ pub fn force_commit<D: Device>(kernel: &mut Kernel<D>, txn: TxnNo) -> Result<(),
 }
 
 /// Makes sure that some frame has no page that is yet to be flushed. A page is flushed, and the log is forced before
-/// that where each of them waits for it.
+/// that if each of them waits for it.
 pub fn make_room<D: Device>(kernel: &mut Kernel<D>) -> Result<(), Refusal>
     ensures eases { NobodyCommits kernel.old → Eases D.seen D.may_leave kernel.old kernel.new }
     ensures cause { IfErr result (Fails D.faults kernel.new) }

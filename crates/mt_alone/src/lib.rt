@@ -1,9 +1,10 @@
 //! Scripts that run one after the other on a kernel that nobody else has. A script is read whole, line by line, before
 //! any of it runs. Each of its lines is answered by a line of the transcript. A refusal is an answer, and the script
-//! goes on. Several scripts are sessions of their own, and the log is turned over between their transactions.
+//! goes on, or stops there if it is to. Several scripts are sessions of their own, and the log is turned over between
+//! their transactions.
 //!
-//! Readers and writers are passed in, and their bytes are what contracts speak of. Begin at [`run_alone`], or at
-//! [`run_sessions`] for several scripts.
+//! Readers and writers are passed in, and their bytes are what contracts speak of. Begin at [`run_script`], or at
+//! [`run_sessions`] for several scripts. [`run_alone`] leaves the kernel in its place, and turns no log over.
 #![tactic(auto)]
 
 mod alone;
@@ -12,8 +13,11 @@ mod operation_steps;
 mod rotation;
 mod script_run;
 mod sessions;
+mod stops;
 mod turns;
 
+pub use alone::run_script;
 pub use rotation::NotServed;
 pub use script_run::{RunFault, run_alone};
 pub use sessions::run_sessions;
+pub use stops::Stop;

@@ -30,7 +30,7 @@ fn abort_wants_frame(answer: &Result<AbortStepped, Refusal>) -> bool
     matches!(answer, Ok(AbortStepped::Flush))
 }
 
-/// A step of an operation, asked for again where it finds no memory, or no frame. `NoMemory` where it was asked
+/// A step of an operation, asked for again if it finds no memory, or no frame. `NoMemory` if it was asked
 /// nine times.
 pub fn ask_step<D: Device>(kernel: &mut Kernel<D>, txn: TxnNo) -> Result<Stepped, Refusal>
     ensures moved { HasMoved D.seen D.may_leave D.faults kernel.old txn result kernel.new }
@@ -49,7 +49,7 @@ pub fn ask_step<D: Device>(kernel: &mut Kernel<D>, txn: TxnNo) -> Result<Stepped
 }
 
 /// Takes an operation that was begun to its reply: each step leaves less of its work. Refused as its steps are, and
-/// by `Busy` where another transaction was in the way, which in a run alone none is.
+/// by `Busy` if another transaction was in the way, which in a run alone none is.
 pub fn step_to_reply<D: Device>(kernel: &mut Kernel<D>, txn: TxnNo) -> Result<Reply, Refusal>
     ensures replied { HasReplied D.seen D.may_leave D.faults kernel.old txn result kernel.new }
     ensures schema { SameSchema kernel.old kernel.new }
@@ -65,7 +65,7 @@ pub fn step_to_reply<D: Device>(kernel: &mut Kernel<D>, txn: TxnNo) -> Result<Re
     Err(Refusal::Busy)
 }
 
-/// A step of an abort, asked for again where it finds no memory, or no frame. `NoMemory` where it was asked nine
+/// A step of an abort, asked for again if it finds no memory, or no frame. `NoMemory` if it was asked nine
 /// times.
 pub fn ask_abort<D: Device>(kernel: &mut Kernel<D>, txn: TxnNo) -> Result<AbortStepped, Refusal>
     ensures backed { HasBacked D.seen D.may_leave D.faults kernel.old txn result kernel.new }
@@ -84,7 +84,7 @@ pub fn ask_abort<D: Device>(kernel: &mut Kernel<D>, txn: TxnNo) -> Result<AbortS
 }
 
 /// Takes an abort that was begun to its end: each step leaves less of its work. Refused as its steps are, and by
-/// `Busy` where another transaction was in the way, which in a run alone none is.
+/// `Busy` if another transaction was in the way, which in a run alone none is.
 pub fn undo<D: Device>(kernel: &mut Kernel<D>, txn: TxnNo) -> Result<(), Refusal>
     ensures undone { HasUndone D.seen D.may_leave D.faults kernel.old txn result kernel.new }
     ensures schema { SameSchema kernel.old kernel.new }

@@ -12,7 +12,7 @@ use mt_restart::{NotRotated, rotate};
 use mt_txn::Kernel;
 use std::alloc::Global;
 
-/// What is left where scripts were not served to their end, and why.
+/// What is left if scripts were not served to their end, and why.
 pub enum NotServed<D: Device> {
     /// The kernel, as the script leaves it that did not run to its end.
     Kept(RunFault, Kernel<D>),
@@ -21,7 +21,7 @@ pub enum NotServed<D: Device> {
 }
 
 impl<D: Device + Drop> NotServed<D> {
-    /// Why they were not, and the device, with which everything else is let go. It takes no memory.
+    /// Why they were not, and the device, with which everything else is dropped. It takes no memory.
     ///
     /// Whatever a crash leaves of the device then stands for the play's commits, or for these and some that were under
     /// way.
@@ -49,8 +49,8 @@ pub(crate) fn is_due<D: Device>(kernel: &Kernel<D>) -> bool
     kernel.used() > kernel.area_size() / 2
 }
 
-/// Turns the log over. Where it cannot be forced for want of memory, or a transaction lives, it is left as it is. There
-/// is an error only where the kernel is gone.
+/// Turns the log over. If it cannot be forced for want of memory, or a transaction lives, it is left as it is. There
+/// is an error only if the kernel is gone.
 pub(crate) fn turned<D: Device + Drop>(
     alloc: Global,
     kernel: Kernel<D>,

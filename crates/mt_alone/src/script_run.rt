@@ -1,5 +1,5 @@
 // A script, run by itself on a kernel.
-ghost use Rattle.std.specs.Prelude.{◌≡◌, [], ◌∷◌, ◌++◌, IfOk, IfErr, OnErr, OnOk, None, Some};
+ghost use Rattle.std.specs.Prelude.{◌≡◌, [], ◌∷◌, ◌++◌, IfOk, IfErr, OnErr, OnOk, None, Some, false};
 ghost use Rattle.std.specs.Io.KnownBytes.{Appends};
 ghost use Rattle.mt_base.specs.declared.refusal.Refusal.{Refusal};
 ghost use Rattle.mt_txn.specs.Shown.{SameSchema, StaysRestarting};
@@ -8,6 +8,7 @@ ghost use Rattle.mt_alone.specs.Driven.{IsBeside};
 ghost use Rattle.mt_alone.specs.Plays.{Play};
 ghost use Rattle.mt_alone.specs.Runs.{BesideEach, HasRun, HasRunLines, IsCutAtEnd, IsCutShort, IsEnded, IsEndedFor, IsLeftFor, IsStopped};
 
+use crate::stops::ending;
 use crate::turns::{answer, undo_open};
 use mt_base::{Refusal, TxnNo};
 use mt_disk::Device;
@@ -23,14 +24,14 @@ pub enum RunFault {
     /// that lived is aborted, unless the device had failed.
     #[error("the output cannot be written")]
     Output,
-    /// `NoMemory`, where a step found no memory, or no frame, when it was asked nine times. The transaction stands as
+    /// `NoMemory`, if a step found no memory, or no frame, when it was asked nine times. The transaction stands as
     /// it was then. Or `DeviceFailed`, which is the transcript's last line.
     #[error("{0}")]
     Refused(Refusal),
 }
 
 /// Writes an answer as one line, after which this transaction is open. Unless there is one, the writer is flushed: so
-/// the lines of a transaction go out at its end. Where the writer fails, it has written a beginning of the line.
+/// the lines of a transaction go out at its end. If the writer fails, it has written a beginning of the line.
 fn tell<W: Write>(writer: &mut W, answer: &Answer, live: Option<TxnNo>) -> Result<(), Unheard>
     ensures all { OnOk result (Appends (W.contents writer.old) (W.contents writer.new)
         (answer_text answer.now ++ 10 ∷ [])) }
@@ -83,17 +84,21 @@ pub(crate) fn end_refused<W: Write>(writer: &mut W, refusal: Refusal) -> RunFaul
     }
 }
 
-/// Answers one line, and writes the answer. Answers the transaction that is open then.
+/// The transaction that is open after a line, and the refusal for which the run is to stop there.
+pub(crate) type After = (Option<TxnNo>, Option<Refusal>);
+
+/// Answers one line, and writes the answer. The run is to stop at a refusal, or not.
 pub(crate) fn run_line<D: Device, W: Write>(
     kernel: &mut Kernel<D>,
     session: u32,
+    stop: bool,
     live: Option<TxnNo>,
     line: &Line,
     writer: &mut W,
-) -> Result<Option<TxnNo>, RunFault>
+) -> Result<After, RunFault>
     ensures told { IfOk result (λ now. BesideEach D.seen D.may_leave session live kernel.old
-        (λ p. HasRunLines D.seen D.may_leave p kernel.old (line.now ∷ [])
-        (W.contents writer.old) (W.contents writer.new) now kernel.new)) }
+        (λ p. HasRunLines D.seen D.may_leave stop now.1 p kernel.old (line.now ∷ [])
+        (W.contents writer.old) (W.contents writer.new) now.0 kernel.new)) }
     ensures cut { IfErr result (λ why. BesideEach D.seen D.may_leave session live kernel.old
         (λ p. IsCutShort D.seen D.may_leave D.faults p kernel.old (line.now ∷ [])
         (W.contents writer.old) (W.contents writer.new) kernel.new why)) }
@@ -104,13 +109,14 @@ pub(crate) fn run_line<D: Device, W: Write>(
         Ok(told) => told,
         Err(refusal) => return Err(end_refused(writer, refusal)),
     };
+    let why = ending(stop, &told.0);
     match tell(writer, &told.0, told.1) {
-        Ok(()) => Ok(told.1),
+        Ok(()) => Ok((told.1, why)),
         Err(_) => Err(end_unheard(kernel, told.1)),
     }
 }
 
-/// Runs the lines of a script, and answers the transaction that is open behind the last.
+/// Runs the lines of a script, and answers the transaction that is open after the last.
 fn run_lines<D: Device, W: Write>(
     kernel: &mut Kernel<D>,
     session: u32,
@@ -118,7 +124,7 @@ fn run_lines<D: Device, W: Write>(
     writer: &mut W,
 ) -> Result<Option<TxnNo>, RunFault>
     ensures ran { IfOk result (λ live. BesideEach D.seen D.may_leave session None kernel.old
-        (λ p. HasRunLines D.seen D.may_leave p kernel.old lines.now
+        (λ p. HasRunLines D.seen D.may_leave false None p kernel.old lines.now
         (W.contents writer.old) (W.contents writer.new) live kernel.new)) }
     ensures cut { IfErr result (λ why. BesideEach D.seen D.may_leave session None kernel.old
         (λ p. IsCutShort D.seen D.may_leave D.faults p kernel.old lines.now
@@ -128,12 +134,13 @@ fn run_lines<D: Device, W: Write>(
 {
     let mut live = None;
     for line in lines {
-        live = run_line(kernel, session, live, line, writer)?;
+        let now = run_line(kernel, session, false, live, line, writer)?;
+        live = now.0;
     }
     Ok(live)
 }
 
-/// Aborts the transaction that is open where the script ends, and writes that.
+/// Aborts the transaction that is open at the script's end, and writes that.
 pub(crate) fn end_live<D: Device, W: Write>(
     kernel: &mut Kernel<D>,
     txn: TxnNo,
@@ -176,7 +183,7 @@ pub fn run_alone<D: Device, W: Write>(
     writer: &mut W,
 ) -> Result<(), RunFault>
     ensures ran { OnOk result (BesideEach D.seen D.may_leave session None kernel.old
-        (λ p. HasRun D.seen D.may_leave p kernel.old script.now.lines.items
+        (λ p. HasRun D.seen D.may_leave false None p kernel.old script.now.lines.items
         (W.contents writer.old) (W.contents writer.new) kernel.new)) }
     ensures cut { IfErr result (λ why. BesideEach D.seen D.may_leave session None kernel.old
         (λ p. IsCutShort D.seen D.may_leave D.faults p kernel.old script.now.lines.items

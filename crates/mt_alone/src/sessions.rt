@@ -5,10 +5,12 @@ ghost use Rattle.mt_base.specs.declared.limits.TheConstants.{MAX_SESSIONS};
 ghost use Rattle.mt_txn.specs.Shown.{SameSchema, StaysRestarting};
 ghost use Rattle.mt_script.specs.Answers.{AppendsFront};
 ghost use Rattle.mt_alone.specs.Sessions.{AreCutShort, HaveServed, IsCutWithin, IsServed, StandsEach, lines_in, session_line};
+ghost use Rattle.mt_alone.specs.Stops.{IsStopIn};
 
 use crate::alone::run_script;
 use crate::rotation::NotServed;
 use crate::script_run::RunFault;
+use crate::stops::Stop;
 use itoa::Buffer;
 use mt_disk::Device;
 use mt_script::{Script, Unheard, put_all};
@@ -16,7 +18,7 @@ use mt_txn::Kernel;
 use std::alloc::Global;
 use std::io::Write;
 
-/// Writes the line before a session's transcript. Where the writer fails, it has written a beginning of the line.
+/// Writes the line before a session's transcript. If the writer fails, it has written a beginning of the line.
 fn write_session<W: Write>(writer: &mut W, session: u32) -> Result<(), Unheard>
     ensures all { OnOk result (Appends (W.contents writer.old) (W.contents writer.new) (session_line session)) }
     ensures front { OnErr result (AppendsFront (W.contents writer.old) (W.contents writer.new)
@@ -33,20 +35,22 @@ fn run_session<D: Device + Drop, W: Write>(
     kernel: Kernel<D>,
     frames: usize,
     session: u32,
+    stop: bool,
     script: &Script,
     writer: &mut W,
-) -> Result<Kernel<D>, NotServed<D>>
-    ensures served { IfOk result (λ n. StandsEach D.seen D.may_leave kernel
-        (λ p. IsServed D.seen D.may_leave p kernel session (lines_in script.now)
-        (W.contents writer.old) (W.contents writer.new) n)) }
+) -> Result<(Kernel<D>, Option<Stop>), NotServed<D>>
+    ensures served { IfOk result (λ t. StandsEach D.seen D.may_leave kernel
+        (λ p. IsServed D.seen D.may_leave stop t.1 p kernel session (lines_in script.now)
+        (W.contents writer.old) (W.contents writer.new) t.0)) }
+    ensures at { IfOk result (λ t. IsStopIn session (lines_in script.now) t.1) }
     ensures cut { IfErr result (λ left. StandsEach D.seen D.may_leave kernel
         (λ p. IsCutWithin D.seen D.may_leave D.faults p kernel session (lines_in script.now)
         (W.contents writer.old) (W.contents writer.new) left)) }
-    ensures schema { IfOk result (SameSchema kernel) }
-    ensures restarts { IfOk result (StaysRestarting D.seen D.may_leave kernel) }
+    ensures schema { IfOk result (λ t. SameSchema kernel t.0) }
+    ensures restarts { IfOk result (λ t. StaysRestarting D.seen D.may_leave kernel t.0) }
 {
     match write_session(writer, session) {
-        Ok(()) => run_script(alloc, kernel, frames, session, script, writer),
+        Ok(()) => run_script(alloc, kernel, frames, session, stop, script, writer),
         Err(_) => Err(NotServed::Kept(RunFault::Output, kernel)),
     }
 }
@@ -54,15 +58,19 @@ fn run_session<D: Device + Drop, W: Write>(
 /// Serves scripts to a kernel in which no transaction lives, one after the other, as sessions from 1 on. It writes the
 /// line `session I` before the transcript of each; that is what [`run_alone`](crate::run_alone) writes.
 ///
-/// Before a line outside of a transaction the kernel's log is turned over, where more than half of its area is in
+/// Before a line outside of a transaction the kernel's log is turned over, if more than half of its area is in
 /// use. The kernel then has so many pages in frames. So the log of many short transactions does not fill. The play
-/// sees nothing of it. Where there is no memory to force the log, it is turned over before a later line.
+/// sees nothing of it. If there is no memory to force the log, it is turned over before a later line.
 ///
 /// It stops at the first script that does not run to its end, for what `run_alone` answers, with the kernel as that
-/// leaves it. Scripts behind that one are not begun. `Output` too where a session's line cannot be written: nothing
-/// of its script ran then. Where a log that was to be turned over leaves no kernel, it stops with the device, by what
+/// leaves it. Scripts after that one are not begun. `Output` too if a session's line cannot be written: nothing
+/// of its script ran then. If a log that was to be turned over leaves no kernel, it stops with the device, by what
 /// [`rotate`](mt_restart::rotate) is refused with then. That is 1, 2, which is the transcript's last line, or 11. The
 /// scripts are [`MAX_SESSIONS`](mt_base::limits::MAX_SESSIONS) at most.
+///
+/// If they are to stop, the first line that is refused with anything but `Escrow` and `Die` is the last of its script,
+/// and that script is the last. A transaction that is open there is aborted, with the line `aborted`. So the scripts
+/// are served as ones that end with that line, which is given with the kernel.
 ///
 /// What is promised holds beside whatever play of the model the kernel stands at, from whose first base it can be
 /// restarted. The play's session is not looked at.
@@ -70,28 +78,34 @@ pub fn run_sessions<D: Device + Drop, W: Write>(
     alloc: Global,
     kernel: Kernel<D>,
     frames: usize,
+    stop: bool,
     scripts: &[Script],
     writer: &mut W,
-) -> Result<Kernel<D>, NotServed<D>>
+) -> Result<(Kernel<D>, Option<Stop>), NotServed<D>>
     requires few { length scripts.now ≤ MAX_SESSIONS }
-    ensures ran { IfOk result (λ n. StandsEach D.seen D.may_leave kernel
-        (λ p. HaveServed D.seen D.may_leave p kernel (map lines_in scripts.now)
-        (W.contents writer.old) (W.contents writer.new) n)) }
+    ensures ran { IfOk result (λ t. StandsEach D.seen D.may_leave kernel
+        (λ p. HaveServed D.seen D.may_leave stop t.1 p kernel (map lines_in scripts.now)
+        (W.contents writer.old) (W.contents writer.new) t.0)) }
     ensures cut { IfErr result (λ left. StandsEach D.seen D.may_leave kernel
-        (λ p. AreCutShort D.seen D.may_leave D.faults p kernel (map lines_in scripts.now)
+        (λ p. AreCutShort D.seen D.may_leave D.faults stop p kernel (map lines_in scripts.now)
         (W.contents writer.old) (W.contents writer.new) left)) }
-    ensures schema { IfOk result (SameSchema kernel) }
+    ensures schema { IfOk result (λ t. SameSchema kernel t.0) }
     // A kernel that can be restarted from a base still can.
-    ensures restarts { IfOk result (StaysRestarting D.seen D.may_leave kernel) }
+    ensures restarts { IfOk result (λ t. StaysRestarting D.seen D.may_leave kernel t.0) }
 {
     let mut kernel = kernel;
     let mut session = 0;
     for script in scripts {
         session += 1;
-        match run_session(alloc, kernel, frames, session, script, writer) {
-            Ok(next) => kernel = next,
+        let served = match run_session(alloc, kernel, frames, session, stop, script, writer) {
+            Ok(served) => served,
             Err(left) => return Err(left),
+        };
+        let (next, stopped) = served;
+        if let Some(at) = stopped {
+            return Ok((next, Some(at)));
         }
+        kernel = next;
     }
-    Ok(kernel)
+    Ok((kernel, None))
 }

@@ -82,7 +82,7 @@ pub fn undo_open<D: Device>(kernel: &mut Kernel<D>, txn: TxnNo) -> Result<(), Re
     undo(kernel, txn)
 }
 
-/// Aborts a transaction, where a line asks for it.
+/// Aborts a transaction, if a line asks for it.
 pub fn abort<D: Device>(kernel: &mut Kernel<D>, txn: TxnNo) -> Turn
     ensures answers { AnswersWithin D.seen D.may_leave D.faults kernel.old txn line.Abort result kernel.new }
     ensures schema { SameSchema kernel.old kernel.new }
@@ -92,7 +92,7 @@ pub fn abort<D: Device>(kernel: &mut Kernel<D>, txn: TxnNo) -> Turn
     Ok((Answer::Aborted, None))
 }
 
-/// The answer to a line where no transaction is open.
+/// The answer to a line if no transaction is open.
 fn answer_outside<D: Device>(kernel: &mut Kernel<D>, session: u32, line: &Line) -> Turn
     ensures answers { Answers D.seen D.may_leave D.faults session kernel.old None line.now result kernel.new }
     ensures schema { SameSchema kernel.old kernel.new }

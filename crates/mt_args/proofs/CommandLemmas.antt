@@ -14,13 +14,13 @@ misread_for (Refused why) f m = m
 
 -- what is entered by words is their command
 pub command_at : (words : List (List ℕ)) (command : Command) → IsEntered (subcommand_of program words) command → IsCommandOf words command
-command_at words (Try script) e = e
+command_at words (Try script stop) e = e
 command_at words (Schedule file) e = e
-command_at words (Check file pages) e = e
-command_at words (Format file numbers) e = e
-command_at words (Dump file) e = e
-command_at words (Explain file) e = e
-command_at words (Run frames file workers scripts) e = e
+command_at words (Check file pages wait) e = e
+command_at words (Format file numbers wait) e = e
+command_at words (Dump file wait) e = e
+command_at words (Explain file wait) e = e
+command_at words (Run frames file workers scripts wait stop) e = e
 command_at words (Show text) e = absurd e
 
 -- what is misread of them is their fault

@@ -1,5 +1,5 @@
 -- The program's command line, in the words of the crate that reads it.
-use Rattle.std.specs.Prelude.{ℕ, ◌≡◌, ◌≢◌, ◌⊎◌, Any, Bool, true, false, codes, List, [], Option, Some, None, map, option_map, string_bytes, unwrap_or}
+use Rattle.std.specs.Prelude.{ℕ, ◌≡◌, ◌≢◌, ◌<◌, ◌≤◌, ◌⊎◌, Any, Bool, true, false, codes, List, [], Option, Some, None, map, option_map, string_bytes, unwrap_or}
 use Rattle.mt_base.specs.declared.limits.TheConstants.{MAX_FRAMES, MAX_WORKERS, MIN_FRAMES}
 use Rattle.clap.specs.Words.{App, Row, app_of, Rule, Text, new_app, new_rule, with_rule, with_subcommand, all_of, first_of, one_of, rule_of, subcommand_of, takes, kind_of, HasKind, IsAmong, Kinds, fault_of}
 use Rattle.clap.specs.declared.builder.action.ArgAction.TheVariants.{Append, SetTrue}
@@ -16,13 +16,21 @@ use Rattle.mt_args.specs.declared.command.Command.TheVariants.{Try, Schedule, Ch
 use Rattle.mt_args.specs.declared.numbers.Numbers.{Numbers}
 use Rattle.mt_args.specs.declared.command.CliFault.{CliFault}
 use Rattle.mt_args.specs.declared.command.CliFault.TheVariants.{Usage, Refused}
+use Rattle.mt_args.specs.declared.waits.TheConstants.{MAX_WAIT}
 
--- `try [SCRIPT]`
+-- `--wait SECONDS`, of the commands on a device in a file, and `--stop`, of those that run scripts
+abbrev pub wait_rule : Rule
+wait_rule = record (new_rule (codes "wait")) { long = Some (codes "wait"); value_names = 1 }
+
+abbrev pub stop_rule : Rule
+stop_rule = record (new_rule (codes "stop")) { long = Some (codes "stop"); action = Some SetTrue }
+
+-- `try [--stop] [SCRIPT]`
 abbrev pub script_rule : Rule
 script_rule = record (new_rule (codes "script")) { value_names = 1 }
 
 abbrev pub trial : App
-trial = with_rule (new_app (codes "try")) script_rule
+trial = with_rule (with_rule (new_app (codes "try")) stop_rule) script_rule
 
 -- `schedule [FILE]`
 abbrev pub file_rule : Rule
@@ -31,7 +39,7 @@ file_rule = record (new_rule (codes "file")) { value_names = 1 }
 abbrev pub scheduling : App
 scheduling = with_rule (new_app (codes "schedule")) file_rule
 
--- `check [--pages] FILE`
+-- `check [--pages] [--wait SECONDS] FILE`
 abbrev pub pages_rule : Rule
 pages_rule = record (new_rule (codes "pages")) { long = Some (codes "pages"); action = Some SetTrue }
 
@@ -39,11 +47,12 @@ abbrev pub required_rule : Text → Rule
 required_rule id = record (new_rule id) { value_names = 1; required = true }
 
 abbrev pub checking : App
-checking = with_rule (with_rule (new_app (codes "check")) pages_rule) (required_rule (codes "file"))
+checking =
+    with_rule (with_rule (with_rule (new_app (codes "check")) pages_rule) wait_rule) (required_rule (codes "file"))
 
--- `format FILE PAGES AREA RELATIONS [COUNTER..]`
+-- `format [--wait SECONDS] FILE PAGES AREA RELATIONS [COUNTER..]`
 abbrev pub sizing : App
-sizing = with_rule (with_rule (with_rule (with_rule (new_app (codes "format")) (required_rule (codes "file"))) (required_rule (codes "pages"))) (required_rule (codes "area"))) (required_rule (codes "relations"))
+sizing = with_rule (with_rule (with_rule (with_rule (with_rule (new_app (codes "format")) wait_rule) (required_rule (codes "file"))) (required_rule (codes "pages"))) (required_rule (codes "area"))) (required_rule (codes "relations"))
 
 abbrev pub counter_rule : Rule
 counter_rule = record (new_rule (codes "counter")) { value_names = 1; action = Some Append }
@@ -51,11 +60,11 @@ counter_rule = record (new_rule (codes "counter")) { value_names = 1; action = S
 abbrev pub formatting : App
 formatting = with_rule sizing counter_rule
 
--- `dump FILE`, `explain FILE`
+-- `dump [--wait SECONDS] FILE`, `explain [--wait SECONDS] FILE`
 abbrev pub on_file : Text → App
-on_file name = with_rule (new_app name) (required_rule (codes "file"))
+on_file name = with_rule (with_rule (new_app name) wait_rule) (required_rule (codes "file"))
 
--- `run [--frames N] FILE WORKERS SCRIPT..`
+-- `run [--frames N] [--wait SECONDS] [--stop] FILE WORKERS SCRIPT..`
 abbrev pub frames_rule : Rule
 frames_rule = record (new_rule (codes "frames")) { long = Some (codes "frames"); value_names = 1 }
 
@@ -63,9 +72,9 @@ abbrev pub scripts_rule : Rule
 scripts_rule = record (new_rule (codes "script")) { value_names = 1; required = true; action = Some Append }
 
 abbrev pub serving : App
-serving = with_rule (with_rule (with_rule (with_rule (new_app (codes "run")) frames_rule) (required_rule (codes "file"))) (required_rule (codes "workers"))) scripts_rule
+serving = with_rule (with_rule (with_rule (with_rule (with_rule (with_rule (new_app (codes "run")) frames_rule) wait_rule) stop_rule) (required_rule (codes "file"))) (required_rule (codes "workers"))) scripts_rule
 
--- `mtk`, whose words are those behind its name, one of them the command's name
+-- `mtk`, whose words are those after its name, one of them the command's name
 abbrev pub bare : App
 bare = record (new_app (codes "mtk")) { top = record (new_app (codes "mtk")).top { has_version = true; no_binary_name = true; subcommand_required = true } }
 
@@ -117,6 +126,25 @@ abbrev pub pages_in : Option (Text × List Row) → Option Text
 pages_in None = None
 pages_in (Some found) = one_of (codes "pages") found.1
 
+-- whether a refused line is to end a script
+abbrev pub stop_in : Option (Text × List Row) → Option Text
+stop_in None = None
+stop_in (Some found) = one_of (codes "stop") found.1
+
+-- how long a file is to be waited for
+abbrev pub wait_in : Option (Text × List Row) → Option Text
+wait_in None = None
+wait_in (Some found) = first_of (codes "wait") found.1
+
+-- so many seconds are asked for: 0 if none are
+abbrev pub AreSeconds : Option Text → ℕ → Type 0
+AreSeconds None n = n ≡ 0
+AreSeconds (Some word) n = SpellsWithin 0 MAX_WAIT word n
+
+abbrev pub AreNoSeconds : Option Text → Type 0
+AreNoSeconds None = ⊥
+AreNoSeconds (Some word) = IsNoneWithin 0 MAX_WAIT word
+
 -- the word of an argument that must be given, and those of the counters
 abbrev pub text_at : Text → List Row → Text
 text_at id rows = unwrap_or (first_of id rows) []
@@ -141,7 +169,7 @@ IsMisspelledAt rows = IsNoCount (text_at (codes "pages") rows) ⊎ IsNoCount (te
 
 -- ---- `run`
 
--- so many frames are asked for: 256 where none are
+-- so many frames are asked for: 256 if none are
 abbrev pub AreFrames : Option Text → ℕ → Type 0
 AreFrames None n = n ≡ 256
 AreFrames (Some word) n = SpellsWithin MIN_FRAMES MAX_FRAMES word n
@@ -164,16 +192,25 @@ abbrev pub IsServingIn : Option (Text × List Row) → ℕ → ℕ → List Text
 IsServingIn None n w names = ⊥
 IsServingIn (Some found) n w names = IsServingAt found.1 n w names
 
--- there are no such numbers of frames or of workers
+-- a run is to stop that has several workers
+abbrev pub AreManyToStop : List Row → Type 0
+AreManyToStop rows =
+    IsFlag (one_of (codes "stop") rows) true
+    × ((w : ℕ) × SpellsWithin 1 MAX_WORKERS (text_at (codes "workers") rows) w × (1 < w))
+
+-- there are no such numbers of frames or of workers, or a stop wants fewer of these
 abbrev pub IsUnlimitedAt : List Row → Type 0
-IsUnlimitedAt rows = AreNoFrames (first_of (codes "frames") rows) ⊎ IsNoneWithin 1 MAX_WORKERS (text_at (codes "workers") rows)
+IsUnlimitedAt rows =
+    AreNoFrames (first_of (codes "frames") rows) ⊎ IsNoneWithin 1 MAX_WORKERS (text_at (codes "workers") rows)
+    ⊎ AreManyToStop rows
 
 -- ----
 
--- a number is misspelled, or one that `run` names is outside its limits
+-- a number is misspelled, or one that `run` names or the seconds of a wait are outside their limits
 abbrev pub IsMisspelled : Option (Text × List Row) → Type 0
 IsMisspelled None = ⊥
-IsMisspelled (Some found) = ((found.0 ≡ codes "format") × IsMisspelledAt found.1) ⊎ ((found.0 ≡ codes "run") × IsUnlimitedAt found.1)
+IsMisspelled (Some found) = ((found.0 ≡ codes "format") × IsMisspelledAt found.1)
+    ⊎ ((found.0 ≡ codes "run") × IsUnlimitedAt found.1) ⊎ AreNoSeconds (first_of (codes "wait") found.1)
 
 -- no command on a device in a file
 abbrev pub IsRun : Text → Type 0
@@ -181,14 +218,19 @@ IsRun name = (name ≢ codes "check") × (name ≢ codes "format") × (name ≢ 
 
 -- what the words enter is the command of its name, or else `try` of a script, and no text to be shown
 abbrev pub IsEntered : Option (Text × List Row) → Command → Type 0
-IsEntered entered (Try script) = (option_map string_bytes script ≡ script_in entered) × (name_in entered ≢ Some (codes "schedule")) × (name_in entered ≢ Some (codes "check"))
+IsEntered entered (Try script stop) = (option_map string_bytes script ≡ script_in entered) × IsFlag (stop_in entered) stop × (name_in entered ≢ Some (codes "schedule")) × (name_in entered ≢ Some (codes "check"))
     × (name_in entered ≢ Some (codes "format")) × (name_in entered ≢ Some (codes "dump")) × (name_in entered ≢ Some (codes "explain")) × (name_in entered ≢ Some (codes "run"))
 IsEntered entered (Schedule file) = (option_map string_bytes file ≡ file_in entered) × (name_in entered ≡ Some (codes "schedule"))
-IsEntered entered (Check file pages) = (string_bytes file ≡ device_in entered) × IsFlag (pages_in entered) pages × (name_in entered ≡ Some (codes "check"))
-IsEntered entered (Format file numbers) = (string_bytes file ≡ device_in entered) × AreNumbersIn entered numbers × (name_in entered ≡ Some (codes "format"))
-IsEntered entered (Dump file) = (string_bytes file ≡ device_in entered) × (name_in entered ≡ Some (codes "dump"))
-IsEntered entered (Explain file) = (string_bytes file ≡ device_in entered) × (name_in entered ≡ Some (codes "explain"))
-IsEntered entered (Run frames file workers scripts) = (string_bytes file ≡ device_in entered) × IsServingIn entered frames workers (map string_bytes scripts.items) × (name_in entered ≡ Some (codes "run"))
+IsEntered entered (Check file pages wait) = (string_bytes file ≡ device_in entered) × IsFlag (pages_in entered) pages
+    × AreSeconds (wait_in entered) wait × (name_in entered ≡ Some (codes "check"))
+IsEntered entered (Format file numbers wait) = (string_bytes file ≡ device_in entered) × AreNumbersIn entered numbers
+    × AreSeconds (wait_in entered) wait × (name_in entered ≡ Some (codes "format"))
+IsEntered entered (Dump file wait) = (string_bytes file ≡ device_in entered) × AreSeconds (wait_in entered) wait
+    × (name_in entered ≡ Some (codes "dump"))
+IsEntered entered (Explain file wait) = (string_bytes file ≡ device_in entered) × AreSeconds (wait_in entered) wait
+    × (name_in entered ≡ Some (codes "explain"))
+IsEntered entered (Run frames file workers scripts wait stop) = (string_bytes file ≡ device_in entered) × IsServingIn entered frames workers (map string_bytes scripts.items) × AreSeconds (wait_in entered) wait × IsFlag (stop_in entered) stop
+    × (stop ≡ true → workers ≤ 1) × (name_in entered ≡ Some (codes "run"))
 IsEntered entered (Show text) = ⊥
 
 -- why words that the parser takes are not read: they are misspelled so, or memory was wanting
@@ -208,20 +250,23 @@ IsMistake kind = (kind ≢ DisplayHelp) × (kind ≢ DisplayVersion)
 abbrev pub IsAsking : List Text → Type 0
 IsAsking words = (fits words ≡ false) × (kind : ErrorKind) × IsAmong kind (faults words) × (IsMistake kind → ⊥)
 
--- the words are no command, and a mistake keeps them from being one; or they are, and a number in them is not one that may stand there
+-- the words are no command, and a mistake keeps them from being one; or they are, and a number in them is not one
+-- that may stand there
 abbrev pub IsMistaken : List Text → Type 0
 IsMistaken words = ((fits words ≡ false) × (kind : ErrorKind) × IsAmong kind (faults words) × IsMistake kind) ⊎ IsMisspelled (subcommand_of program words)
 
 -- The words name this command: the one that they enter, with the file that they name, if they name one. A
--- text is shown only where they wish for it.
+-- text is shown only if they wish for it.
 abbrev pub IsCommandOf : List Text → Command → Type 0
-IsCommandOf words (Try script) = IsEntered (subcommand_of program words) (Try script)
+IsCommandOf words (Try script stop) = IsEntered (subcommand_of program words) (Try script stop)
 IsCommandOf words (Schedule file) = IsEntered (subcommand_of program words) (Schedule file)
-IsCommandOf words (Check file pages) = IsEntered (subcommand_of program words) (Check file pages)
-IsCommandOf words (Format file numbers) = IsEntered (subcommand_of program words) (Format file numbers)
-IsCommandOf words (Dump file) = IsEntered (subcommand_of program words) (Dump file)
-IsCommandOf words (Explain file) = IsEntered (subcommand_of program words) (Explain file)
-IsCommandOf words (Run frames file workers scripts) = IsEntered (subcommand_of program words) (Run frames file workers scripts)
+IsCommandOf words (Check file pages wait) = IsEntered (subcommand_of program words) (Check file pages wait)
+IsCommandOf words (Format file numbers wait) =
+    IsEntered (subcommand_of program words) (Format file numbers wait)
+IsCommandOf words (Dump file wait) = IsEntered (subcommand_of program words) (Dump file wait)
+IsCommandOf words (Explain file wait) = IsEntered (subcommand_of program words) (Explain file wait)
+IsCommandOf words (Run frames file workers scripts wait stop) =
+    IsEntered (subcommand_of program words) (Run frames file workers scripts wait stop)
 IsCommandOf words (Show text) = IsAsking words
 
 -- words that are a command are refused for want of memory alone, but for a number that they misspell
@@ -229,7 +274,7 @@ abbrev pub IsFaultOf : List Text → CliFault → Type 0
 IsFaultOf words (Usage text) = IsMistaken words
 IsFaultOf words (Refused why) = why ≡ refusal.NoMemory
 
--- the error of a parse of these words: where they are a command it is want of memory, and else that or what
+-- the error of a parse of these words: if they are a command it is want of memory, and else that or what
 -- keeps them from being one
 pub record IsFaultAt (words : List Text) (error : Error) : Type 0 where
   pub passes : fits words ≡ true → kind_of error ≡ OutOfMemory

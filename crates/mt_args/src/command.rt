@@ -1,12 +1,13 @@
 // The command line, read by `clap`.
 ghost use Rattle.std.specs.Prelude.{◌≡◌, ◌≢◌, List, [], Any, IfOk, IfErr, Some, codes, map, option_map, string_bytes, ⊤};
-ghost use Rattle.clap.specs.Words.{Text, found_of, rows_of, subcommand_rows_of};
-ghost use Rattle.mt_args.specs.CommandLines.{counters_at, text_at, AreNumbersAt, IsCommandOf, IsEntered, IsFaultAt, IsFaultOf, IsMisread, IsMisspelled, IsMisspelledAt, IsRun};
+ghost use Rattle.clap.specs.Words.{Text, found_of, one_of, rows_of, subcommand_rows_of};
+ghost use Rattle.mt_args.specs.CommandLines.{counters_at, text_at, AreNumbersAt, IsCommandOf, IsEntered, IsFaultAt, IsFaultOf, IsFlag, IsMisread, IsMisspelled, IsMisspelledAt, IsRun};
 ghost use Rattle.mt_args.specs.Spelling.{AreCounters, IsNoCount, IsNoCounter, SpellsCount};
 
 use crate::numbers::{Numbers, count_of, counters_of};
 use crate::parsers::parser;
 use crate::run_words::serving_of;
+use crate::waits::wait_in;
 use clap::ArgMatches;
 use clap::error::ErrorKind;
 use mt_base::Refusal;
@@ -14,33 +15,41 @@ use std::alloc::{AllocError, Global};
 use thiserror::Error;
 
 /// What the program is asked to do.
+///
+/// A command with `wait` asks so many seconds long for a file that is open in another program. A script with `stop`
+/// ends at its first line that is refused with anything but 9 and 14.
 #[derive(Debug, Drop)]
 pub enum Command {
     /// Runs one script over a device in memory, from this file, or from standard input.
     Try {
         script: Option<String>,
+        stop: bool,
     },
     /// Runs a schedule of events over a device in memory, from this file, or from standard input.
     Schedule {
         file: Option<String>,
     },
-    /// Tells what the log of the device in this file holds, and has its pages inspected where that is asked for.
+    /// Prints what the log of the device in this file holds, and has its pages inspected if that is asked for.
     Check {
         file: String,
         pages: bool,
+        wait: usize,
     },
     /// Makes a device of a schema of these numbers in this file, or in its place.
     Format {
         file: String,
         numbers: Numbers,
+        wait: usize,
     },
     /// Opens the device in this file, and prints its base.
     Dump {
         file: String,
+        wait: usize,
     },
-    /// Tells the log of the device in this file as a history, and what a restart would do.
+    /// Prints the log of the device in this file as a history, and what a restart would do.
     Explain {
         file: String,
+        wait: usize,
     },
     /// Opens the device in this file with so many frames, and serves the scripts of these names to it; `-` is standard
     /// input. So many workers serve at once; one serves them one after the other.
@@ -49,6 +58,8 @@ pub enum Command {
         file: String,
         workers: usize,
         scripts: Vec<String>,
+        wait: usize,
+        stop: bool,
     },
     /// Prints this text: the help or the version.
     Show {
@@ -127,32 +138,45 @@ pub(crate) fn required_file(alloc: Global, found: &ArgMatches) -> Result<String,
     String::from_str(alloc, text_in(found, "file"))
 }
 
-/// `check`, with what was found behind its name.
-fn check_of(alloc: Global, found: &ArgMatches) -> Result<Command, AllocError>
-    ensures { IfOk result (IsEntered (Some (codes "check", rows_of (found_of found.now)))) }
+/// Whether a flag was found.
+pub(crate) fn flag_in(found: &ArgMatches, id: &str) -> bool
+    ensures { IsFlag (one_of id.now (rows_of (found_of found.now))) result }
 {
-    let file = required_file(alloc, found)?;
-    let pages = found.get_flag("pages");
-    Ok(Command::Check { file, pages })
+    found.get_flag(id)
 }
 
-/// `dump`, with what was found behind its name.
-fn dump_of(alloc: Global, found: &ArgMatches) -> Result<Command, AllocError>
-    ensures { IfOk result (IsEntered (Some (codes "dump", rows_of (found_of found.now)))) }
+/// `check`, with what was found after its name.
+fn check_of(alloc: Global, found: &ArgMatches) -> Result<Command, CliFault>
+    ensures command { IfOk result (IsEntered (Some (codes "check", rows_of (found_of found.now)))) }
+    ensures fault { IfErr result (IsMisread (IsMisspelled (Some (codes "check", rows_of (found_of found.now))))) }
 {
+    let wait = wait_in(alloc, found)?;
     let file = required_file(alloc, found)?;
-    Ok(Command::Dump { file })
+    let pages = flag_in(found, "pages");
+    Ok(Command::Check { file, pages, wait })
 }
 
-/// `explain`, with what was found behind its name.
-fn explain_of(alloc: Global, found: &ArgMatches) -> Result<Command, AllocError>
-    ensures { IfOk result (IsEntered (Some (codes "explain", rows_of (found_of found.now)))) }
+/// `dump`, with what was found after its name.
+fn dump_of(alloc: Global, found: &ArgMatches) -> Result<Command, CliFault>
+    ensures command { IfOk result (IsEntered (Some (codes "dump", rows_of (found_of found.now)))) }
+    ensures fault { IfErr result (IsMisread (IsMisspelled (Some (codes "dump", rows_of (found_of found.now))))) }
 {
+    let wait = wait_in(alloc, found)?;
     let file = required_file(alloc, found)?;
-    Ok(Command::Explain { file })
+    Ok(Command::Dump { file, wait })
 }
 
-/// The number that was found for an argument. `Usage` where its word spells none.
+/// `explain`, with what was found after its name.
+fn explain_of(alloc: Global, found: &ArgMatches) -> Result<Command, CliFault>
+    ensures command { IfOk result (IsEntered (Some (codes "explain", rows_of (found_of found.now)))) }
+    ensures fault { IfErr result (IsMisread (IsMisspelled (Some (codes "explain", rows_of (found_of found.now))))) }
+{
+    let wait = wait_in(alloc, found)?;
+    let file = required_file(alloc, found)?;
+    Ok(Command::Explain { file, wait })
+}
+
+/// The number that was found for an argument. `Usage` if its word spells none.
 fn number_in(alloc: Global, found: &ArgMatches, id: &str, rule: &str) -> Result<u64, CliFault>
     ensures number { IfOk result (SpellsCount (text_at id.now (rows_of (found_of found.now)))) }
     ensures fault { IfErr result (IsMisread (IsNoCount (text_at id.now (rows_of (found_of found.now))))) }
@@ -163,7 +187,7 @@ fn number_in(alloc: Global, found: &ArgMatches, id: &str, rule: &str) -> Result<
     }
 }
 
-/// The counters that were found. `Usage` where a word spells none.
+/// The counters that were found. `Usage` if a word spells none.
 fn counters_in(alloc: Global, found: &ArgMatches) -> Result<Vec<(i64, i64, i64)>, CliFault>
     ensures counters { IfOk result (λ counters. AreCounters (counters_at (rows_of (found_of found.now)))
         counters.items) }
@@ -195,14 +219,19 @@ fn numbers_in(alloc: Global, found: &ArgMatches) -> Result<Numbers, CliFault>
     })
 }
 
-/// `format`, with what was found behind its name.
+/// `format`, with what was found after its name.
 fn format_of(alloc: Global, found: &ArgMatches) -> Result<Command, CliFault>
     ensures command { IfOk result (IsEntered (Some (codes "format", rows_of (found_of found.now)))) }
     ensures fault { IfErr result (IsMisread (IsMisspelled (Some (codes "format", rows_of (found_of found.now))))) }
 {
     let numbers = numbers_in(alloc, found)?;
+    let wait = wait_in(alloc, found)?;
     let file = required_file(alloc, found)?;
-    Ok(Command::Format { file, numbers })
+    Ok(Command::Format {
+        file,
+        numbers,
+        wait,
+    })
 }
 
 /// A fault that says how an argument is spelled, or `NoMemory`.
@@ -215,7 +244,7 @@ pub(crate) fn misspelled(alloc: Global, rule: &str) -> CliFault
     }
 }
 
-/// `schedule` or `try`, with what was found behind its name.
+/// `schedule` or `try`, with what was found after its name.
 fn run_of(alloc: Global, name: &str, found: &ArgMatches) -> Result<Command, AllocError>
     requires { IsRun name.now }
     ensures { IfOk result (IsEntered (Some (name.now, rows_of (found_of found.now)))) }
@@ -225,15 +254,17 @@ fn run_of(alloc: Global, name: &str, found: &ArgMatches) -> Result<Command, Allo
         Ok(Command::Schedule { file })
     } else {
         let script = copied(alloc, found.get_str("script"))?;
-        Ok(Command::Try { script })
+        let stop = flag_in(found, "stop");
+        Ok(Command::Try { script, stop })
     }
 }
 
-/// The command of this name, which has no numbers, with what was found behind it.
-fn numberless(alloc: Global, name: &str, found: &ArgMatches) -> Result<Command, AllocError>
+/// The command of this name, which is neither `format` nor `run`, with what was found after it.
+fn other_of(alloc: Global, name: &str, found: &ArgMatches) -> Result<Command, CliFault>
     requires format { name.now ≢ codes "format" }
     requires run { name.now ≢ codes "run" }
-    ensures { IfOk result (IsEntered (Some (name.now, rows_of (found_of found.now)))) }
+    ensures command { IfOk result (IsEntered (Some (name.now, rows_of (found_of found.now)))) }
+    ensures fault { IfErr result (IsMisread (IsMisspelled (Some (name.now, rows_of (found_of found.now))))) }
 {
     if name == "check" {
         check_of(alloc, found)
@@ -242,11 +273,11 @@ fn numberless(alloc: Global, name: &str, found: &ArgMatches) -> Result<Command, 
     } else if name == "explain" {
         explain_of(alloc, found)
     } else {
-        run_of(alloc, name, found)
+        Ok(run_of(alloc, name, found)?)
     }
 }
 
-/// The command of this name, with what was found behind it.
+/// The command of this name, with what was found after it.
 fn named(alloc: Global, name: &str, found: &ArgMatches) -> Result<Command, CliFault>
     ensures command { IfOk result (IsEntered (Some (name.now, rows_of (found_of found.now)))) }
     ensures fault { IfErr result (IsMisread (IsMisspelled (Some (name.now, rows_of (found_of found.now))))) }
@@ -256,7 +287,7 @@ fn named(alloc: Global, name: &str, found: &ArgMatches) -> Result<Command, CliFa
     } else if name == "run" {
         serving_of(alloc, found)
     } else {
-        Ok(numberless(alloc, name, found)?)
+        other_of(alloc, name, found)
     }
 }
 
@@ -267,11 +298,14 @@ fn entered(alloc: Global, matches: &ArgMatches) -> Result<Command, CliFault>
 {
     match matches.subcommand() {
         Some((name, found)) => named(alloc, name, found),
-        None => Ok(Command::Try { script: None }),
+        None => Ok(Command::Try {
+            script: None,
+            stop: false,
+        }),
     }
 }
 
-/// What a parse that gave no command stands for: a text to be shown, or a fault.
+/// What a parse that gave no command represents: a text to be shown, or a fault.
 fn shown(alloc: Global, error: &clap::Error) -> Result<Command, CliFault>
     ensures command { (words : List Text) → IsFaultAt words error.now → IfOk result (IsCommandOf words) }
     ensures fault { (words : List Text) → IsFaultAt words error.now → IfErr result (IsFaultOf words) }
@@ -287,8 +321,8 @@ fn shown(alloc: Global, error: &clap::Error) -> Result<Command, CliFault>
     }
 }
 
-/// The command that these words name: those behind the program's name, in any spelling and place
-/// that `clap` takes. `Usage` where they name none, and `NoMemory`.
+/// The command that these words name: those after the program's name, in any spelling and place
+/// that `clap` takes. `Usage` if they name none, and `NoMemory`.
 pub fn command_of(alloc: Global, words: &[&str]) -> Result<Command, CliFault>
     ensures command { IfOk result (IsCommandOf (map (λ word. word.now) words.now)) }
     ensures fault { IfErr result (IsFaultOf (map (λ word. word.now) words.now)) }

@@ -5,6 +5,7 @@ mod command;
 mod numbers;
 mod parsers;
 mod run_words;
+mod waits;
 
 pub use command::{CliFault, Command, command_of};
 pub use numbers::Numbers;

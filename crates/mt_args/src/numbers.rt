@@ -48,7 +48,7 @@ pub(crate) fn count_within(
     }
 }
 
-/// What stands before the first colon, and what stands behind it; `None` where there is no colon.
+/// What stands before the first colon, and what stands after it; `None` if there is no colon.
 fn split_at_colon(bytes: &[u8]) -> Option<(&[u8], &[u8])>
     ensures found { IfSome result (λ p. (bytes.now ≡ p.0.now ++ 58 ∷ p.1.now) × IsUncut p.0.now) }
     ensures none { IfNone result (IsUncut bytes.now) }
@@ -107,7 +107,7 @@ fn counter_of(alloc: Global, word: &[u8]) -> Result<Option<(i64, i64, i64)>, All
     }
 }
 
-/// The counters that these words spell, or `None` where one of them spells none. The only error is want of memory.
+/// The counters that these words spell, or `None` if one of them spells none. The only error is want of memory.
 pub(crate) fn counters_of(
     alloc: Global,
     words: &[&str],

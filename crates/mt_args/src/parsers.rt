@@ -48,16 +48,33 @@ const DEVICE: Argument = Argument {
     help: "The device's file",
 };
 
-/// `try [SCRIPT]`
+/// How long a file is waited for, of each command on a device in a file.
+const WAIT: Argument = Argument {
+    id: "wait",
+    form: Form::Value("SECONDS"),
+    help: "How long to wait for a file that is open in another program, 0 to 3600; 0 if it is not given",
+};
+
+/// What ends a script, of each command that runs one.
+const STOP: Argument = Argument {
+    id: "stop",
+    form: Form::Flag,
+    help: "A script ends at the first line that is refused with anything but 9 and 14",
+};
+
+/// `try [--stop] [SCRIPT]`
 const TRY: Entry = Entry {
     name: "try",
     about: "Run one script over a device in memory and print its transcript",
     examples: None,
-    arguments: &[Argument {
-        id: "script",
-        form: Form::Optional("SCRIPT"),
-        help: "The script's file; without it, standard input",
-    }],
+    arguments: &[
+        STOP,
+        Argument {
+            id: "script",
+            form: Form::Optional("SCRIPT"),
+            help: "The script's file; without it, standard input",
+        },
+    ],
 };
 
 /// `schedule [FILE]`
@@ -72,7 +89,7 @@ const SCHEDULE: Entry = Entry {
     }],
 };
 
-/// `check [--pages] FILE`
+/// `check [--pages] [--wait SECONDS] FILE`
 const CHECK: Entry = Entry {
     name: "check",
     about: "Tell what the log of a device holds, without a write",
@@ -83,16 +100,18 @@ const CHECK: Entry = Entry {
             form: Form::Flag,
             help: "Look at each page too, as a restart would find it",
         },
+        WAIT,
         DEVICE,
     ],
 };
 
-/// `format FILE PAGES AREA RELATIONS [COUNTER..]`
+/// `format [--wait SECONDS] FILE PAGES AREA RELATIONS [COUNTER..]`
 const FORMAT: Entry = Entry {
     name: "format",
     about: "Make a device with an empty base",
     examples: Some(FORMAT_EXAMPLES),
     arguments: &[
+        WAIT,
         Argument {
             id: "file",
             form: Form::Required("FILE"),
@@ -121,23 +140,23 @@ const FORMAT: Entry = Entry {
     ],
 };
 
-/// `dump FILE`
+/// `dump [--wait SECONDS] FILE`
 const DUMP: Entry = Entry {
     name: "dump",
     about: "Open a device, as after a crash, and print its rows and counters",
     examples: Some(DUMP_EXAMPLES),
-    arguments: &[DEVICE],
+    arguments: &[WAIT, DEVICE],
 };
 
-/// `explain FILE`
+/// `explain [--wait SECONDS] FILE`
 const EXPLAIN: Entry = Entry {
     name: "explain",
     about: "Tell the log of a device as a history, without a write",
     examples: Some(EXPLAIN_EXAMPLES),
-    arguments: &[DEVICE],
+    arguments: &[WAIT, DEVICE],
 };
 
-/// `run [--frames N] FILE WORKERS SCRIPT..`
+/// `run [--frames N] [--wait SECONDS] [--stop] FILE WORKERS SCRIPT..`
 const RUN: Entry = Entry {
     name: "run",
     about: "Open a device, serve scripts to it and print their transcripts",
@@ -148,6 +167,8 @@ const RUN: Entry = Entry {
             form: Form::Value("N"),
             help: "Pages that the kernel keeps in frames, 32 to 4096; 256 where it is not given",
         },
+        WAIT,
+        STOP,
         DEVICE,
         Argument {
             id: "workers",
@@ -264,7 +285,7 @@ fn argument_of<'a>(alloc: Global, argument: &Argument) -> Arg<'a>
     }
 }
 
-/// The parser with these arguments behind those that it has.
+/// The parser with these arguments after those that it has.
 fn with_arguments<'a>(
     alloc: Global,
     mut parser: Parser<'a>,
@@ -297,7 +318,7 @@ fn parser_of<'a>(alloc: Global, entry: &Entry) -> Result<Parser<'a>, AllocError>
     with_arguments(alloc, without_arguments(alloc, entry), entry.arguments)
 }
 
-/// The parser with these commands behind those that it has.
+/// The parser with these commands after those that it has.
 fn with_commands<'a>(
     alloc: Global,
     mut parser: Parser<'a>,

@@ -4,13 +4,14 @@ ghost use Rattle.clap.specs.Words.{first_of, found_of, rows_of};
 ghost use Rattle.mt_args.specs.CommandLines.{scripts_at, AreFrames, AreNoFrames, IsEntered, IsMisread, IsMisspelled};
 ghost use Rattle.mt_args.specs.Spelling.{IsNoneWithin, SpellsWithin};
 
-use crate::command::{CliFault, Command, misspelled, required_file, text_in};
+use crate::command::{CliFault, Command, flag_in, misspelled, required_file, text_in};
 use crate::numbers::count_within;
+use crate::waits::wait_in;
 use clap::ArgMatches;
 use mt_base::limits::{MAX_FRAMES, MAX_WORKERS, MIN_FRAMES};
 use std::alloc::{AllocError, Global};
 
-/// Frames where none are asked for.
+/// Frames if none are asked for.
 const FRAMES: usize = 256;
 
 const FRAMES_RULE: &str =
@@ -25,8 +26,13 @@ const WORKERS_RULE: &str =
 For more information, try '--help'.
 ";
 
-/// The number within limits that a word spells. `Usage` where it spells none, with the text of that rule.
-fn number_within(
+const STOP_RULE: &str = "error: --stop wants one worker
+
+For more information, try '--help'.
+";
+
+/// The number within limits that a word spells. `Usage` if it spells none, with the text of that rule.
+pub(crate) fn number_within(
     alloc: Global,
     word: &str,
     low: u64,
@@ -82,7 +88,7 @@ fn scripts_in(alloc: Global, found: &ArgMatches) -> Result<Vec<String>, AllocErr
     }
 }
 
-/// `run`, with what was found behind its name.
+/// `run`, with what was found after its name. `Usage` too if it is to stop, and has several workers.
 pub(crate) fn serving_of(alloc: Global, found: &ArgMatches) -> Result<Command, CliFault>
     ensures command { IfOk result (IsEntered (Some (codes "run", rows_of (found_of found.now)))) }
     ensures fault { IfErr result (IsMisread (IsMisspelled (Some (codes "run", rows_of (found_of found.now))))) }
@@ -95,6 +101,11 @@ pub(crate) fn serving_of(alloc: Global, found: &ArgMatches) -> Result<Command, C
         MAX_WORKERS as u64,
         WORKERS_RULE,
     )?;
+    let wait = wait_in(alloc, found)?;
+    let stop = flag_in(found, "stop");
+    if stop && workers > 1 {
+        return Err(misspelled(alloc, STOP_RULE));
+    }
     let file = required_file(alloc, found)?;
     let scripts = scripts_in(alloc, found)?;
     Ok(Command::Run {
@@ -102,5 +113,7 @@ pub(crate) fn serving_of(alloc: Global, found: &ArgMatches) -> Result<Command, C
         file,
         workers,
         scripts,
+        wait,
+        stop,
     })
 }

@@ -121,15 +121,15 @@ not_at_once_then old mid new file scripts was now _ kept (failed_at_once texts x
 
 -- ---- so many workers
 
-module _ (workers : ℕ) (old new : Files) (file : List ℕ) (scripts : List (List Line)) (was now : Option (List ℕ)) where
-  pub by_several : 1 < workers → IsServedAtOnce old new file scripts was now → AreServedBy workers old new file scripts was now
+module _ (stop : Bool) (workers : ℕ) (old new : Files) (file : List ℕ) (scripts : List (List Line)) (was now : Option (List ℕ)) where
+  pub by_several : 1 < workers → IsServedAtOnce old new file scripts was now → AreServedBy stop workers old new file scripts was now
   by_several several x = (λ one. absurd (omega (arith, one, several)), λ u. x)
 
-  pub by_one : workers ≤ 1 → IsServedIn old new file scripts was now → AreServedBy workers old new file scripts was now
+  pub by_one : workers ≤ 1 → IsServedIn stop old new file scripts was now → AreServedBy stop workers old new file scripts was now
   by_one one x = (λ u. x, λ several. absurd (omega (arith, one, several)))
 
-  pub not_by_several : (fault : Fault) → 1 < workers → IsUnservedAtOnce old new file scripts was now fault → AreUnservedBy workers old new file scripts was now fault
+  pub not_by_several : (fault : Fault) → 1 < workers → IsUnservedAtOnce old new file scripts was now fault → AreUnservedBy stop workers old new file scripts was now fault
   not_by_several fault several x = (λ one. absurd (omega (arith, one, several)), λ u. x)
 
-  pub not_by_one : (fault : Fault) → workers ≤ 1 → IsUnservedIn old new file scripts was now fault → AreUnservedBy workers old new file scripts was now fault
+  pub not_by_one : (fault : Fault) → workers ≤ 1 → IsUnservedIn stop old new file scripts was now fault → AreUnservedBy stop workers old new file scripts was now fault
   not_by_one fault one x = (λ u. x, λ several. absurd (omega (arith, one, several)))

@@ -1,9 +1,11 @@
 -- Why a device is refused, by its log or by its pages.
-use Rattle.std.proofs.Common.{ℕ, List, Bool, true, false}
+use Rattle.std.proofs.Common.{ℕ, List, Bool, true, false, inr, Result, Ok, Err, IfErr}
 use Rattle.mt_base.specs.declared.refusal.Refusal.{Refusal}
 use Rattle.mt_base.specs.declared.refusal.Refusal.TheVariants.{NoMemory, DeviceFailed, NotFormatted, BadFormat}
 use Rattle.mt_replay.specs.Refused.{BreaksFormat, BreaksLog, IsCause, in_log}
-use Rattle.mt_cli.specs.Checks.{IsRefusedFor}
+use Rattle.mt_folder.proofs.FolderLemmas.{held_known}
+use Rattle.mt_folder.specs.Folders.{Files, IsHeld, known_in}
+use Rattle.mt_cli.specs.Checks.{IsRefusedFor, IsUntold}
 
 -- the same refusal, where what breaks the one rule breaks the other
 pub cause_by : (P Q : List ℕ → ℕ → Type 0) (c : List ℕ) (failed : Type 0) (why : Refusal) → ((at : ℕ) → P c at → Q c at) → IsCause P c failed why → IsCause Q c (Unit {0}) why
@@ -16,3 +18,8 @@ cause_by P Q c failed _ f m = absurd m
 pub refused_by_log : (pages : Bool) (c : List ℕ) (failed : Type 0) (why : Refusal) → IsCause BreaksLog c failed why → IsRefusedFor pages c why
 refused_by_log true c failed why m = cause_by BreaksLog BreaksFormat c failed why (λ at b. in_log b) m
 refused_by_log false c failed why m = cause_by BreaksLog BreaksLog c failed why (λ at b. b) m
+
+-- why nothing is reported of a file whose bytes are refused
+pub untold_of : {T : Type 0} (pages : Bool) (files : Files) (name c : List ℕ) (r : Result T Refusal) → IsHeld files name c → IfErr r (IsRefusedFor pages c) → IfErr r (IsUntold pages (known_in files name))
+untold_of pages files name c (Ok report) held cause = tt
+untold_of pages files name c (Err why) held cause = inr (c, held_known files name c held, cause)

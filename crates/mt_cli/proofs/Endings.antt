@@ -16,6 +16,7 @@ use Rattle.mt_cli.specs.Explains.{HasExplained}
 use Rattle.mt_cli.specs.Events.{IsSchedule}
 use Rattle.mt_folder.specs.Folders.{Files}
 use Rattle.mt_folder.specs.declared.reason.Reason.{Reason}
+use Rattle.mt_alone.specs.declared.stops.Stop.{Stop}
 use Rattle.mt_cli.specs.Serves.{HasRunScripts, HaveServedOn, IsServedAtOnce, IsServedIn}
 use Rattle.mt_model.specs.Model.{Base}
 use Rattle.mt_script.specs.declared.lines.Line.{Line}
@@ -30,13 +31,13 @@ keeps_kept (Some x) None c p q = absurd p
 keeps_kept (Some x) (Some y) None p q = absurd q
 keeps_kept (Some x) (Some y) (Some z) p q = q ∙ p
 
-tried_kept : {D : Type 0} (g : Ghosts D) (bytes was mid now : Option (List ℕ)) → IsTried g bytes was mid → Keeps mid now → IsTried g bytes was now
-tried_kept g bytes was mid now done kept =
+tried_kept : {D : Type 0} (g : Ghosts D) (stop : Bool) (bytes was mid now : Option (List ℕ)) → IsTried g stop bytes was mid → Keeps mid now → IsTried g stop bytes was now
+tried_kept g stop bytes was mid now done kept =
     let t = done.tried.2 in record {
       tried = (
         done.tried.0,
         done.tried.1,
-        record { kernel = t.kernel; stands = t.stands; answers = t.answers; last = t.last; ran = t.ran; told = appends_kept was mid now _ t.told kept },
+        record { kernel = t.kernel; stands = t.stands; answers = t.answers; last = t.last; at = t.at; ran = t.ran; ends = t.ends; told = appends_kept was mid now _ t.told kept },
       );
     }
 
@@ -49,11 +50,13 @@ dumped_kept bytes was mid now done kept = record { survey = done.survey; of = do
 explained_kept : (bytes was mid now : Option (List ℕ)) → HasExplained bytes was mid → Keeps mid now → HasExplained bytes was now
 explained_kept bytes was mid now done kept = record { batches = done.batches; of = done.of; told = appends_kept was mid now _ done.told kept }
 
-served_kept : (relations counters : ℕ) (b : Base) (scripts : List (List Line)) (was mid now : Option (List ℕ)) (d : List ℕ) → HaveServedOn relations counters b scripts was mid d → Keeps mid now → HaveServedOn relations counters b scripts was now d
-served_kept relations counters b scripts was mid now d x kept = record { transcripts = x.transcripts; last = x.last; played = x.played; told = appends_kept was mid now _ x.told kept; stands = x.stands }
+served_kept : (stop : Bool) (ending : Option Stop) (relations counters : ℕ) (b : Base) (scripts : List (List Line)) (was mid now : Option (List ℕ)) (d : List ℕ) → HaveServedOn stop ending relations counters b scripts was mid d → Keeps mid now
+    → HaveServedOn stop ending relations counters b scripts was now d
+served_kept stop ending relations counters b scripts was mid now d x kept =
+    record { transcripts = x.transcripts; last = x.last; at = x.at; played = x.played; ended = x.ended; told = appends_kept was mid now _ x.told kept; stands = x.stands }
 
-in_turn_kept : (old new : Files) (file : List ℕ) (scripts : List (List Line)) (was mid now : Option (List ℕ)) → IsServedIn old new file scripts was mid → Keeps mid now → IsServedIn old new file scripts was now
-in_turn_kept old new file scripts was mid now x kept =
+in_turn_kept : (stop : Bool) (old new : Files) (file : List ℕ) (scripts : List (List Line)) (was mid now : Option (List ℕ)) → IsServedIn stop old new file scripts was mid → Keeps mid now → IsServedIn stop old new file scripts was now
+in_turn_kept stop old new file scripts was mid now x kept =
     let s = x.served.some in
     record {
       before = x.before;
@@ -61,21 +64,21 @@ in_turn_kept old new file scripts was mid now x kept =
       held = x.held;
       put = x.put;
       served = record {
-        some = (s.0, s.1, s.2, served_kept s.0 s.1 s.2 scripts was mid now x.behind s.3 kept);
-        stood_for = λ n m b can. served_kept n m b scripts was mid now x.behind (x.served.stood_for n m b can) kept;
+        some = (s.0, s.1, s.2, served_kept stop None s.0 s.1 s.2 scripts was mid now x.behind s.3 kept);
+        stood_for = λ n m b can. served_kept stop None n m b scripts was mid now x.behind (x.served.stood_for n m b can) kept;
       };
     }
 
 at_once_kept : (old new : Files) (file : List ℕ) (scripts : List (List Line)) (was mid now : Option (List ℕ)) → IsServedAtOnce old new file scripts was mid → Keeps mid now → IsServedAtOnce old new file scripts was now
 at_once_kept old new file scripts was mid now x kept = record { texts = x.texts; served = x.served; told = appends_kept was mid now _ x.told kept }
 
-run_kept : (workers : ℕ) (old new : Files) (file : List ℕ) (names : List (List ℕ)) (input was mid now : Option (List ℕ)) → HasRunScripts workers old new file names input was mid → Keeps mid now
-    → HasRunScripts workers old new file names input was now
-run_kept workers old new file names input was mid now done kept = record {
+run_kept : (stop : Bool) (workers : ℕ) (old new : Files) (file : List ℕ) (names : List (List ℕ)) (input was mid now : Option (List ℕ)) → HasRunScripts stop workers old new file names input was mid → Keeps mid now
+    → HasRunScripts stop workers old new file names input was now
+run_kept stop workers old new file names input was mid now done kept = record {
   scripts = done.scripts;
   read = done.read;
   served = (
-    λ one. in_turn_kept old new file done.scripts was mid now (done.served.0 one) kept,
+    λ one. in_turn_kept stop old new file done.scripts was mid now (done.served.0 one) kept,
     λ several. at_once_kept old new file done.scripts was mid now (done.served.1 several) kept,
   );
 }
@@ -86,13 +89,13 @@ module _ {D : Type 0} (g : Ghosts D) where
       record { events = done.events; spelled = done.spelled; answers = done.answers; ran = done.ran; told = appends_kept was mid now _ done.told kept }
 
   pub done_kept : (command : Command) (a : Around) (was mid now : Option (List ℕ)) → IsDone g command a was mid → Keeps mid now → IsDone g command a was now
-  done_kept (Try script) a was mid now done kept = (tried_kept g _ was mid now done.0 kept, done.1)
+  done_kept (Try script stop) a was mid now done kept = (tried_kept g stop _ was mid now done.0 kept, done.1)
   done_kept (Schedule file) a was mid now done kept = (scheduled_kept _ was mid now done.0 kept, done.1)
-  done_kept (Check file pages) a was mid now done kept = (checked_kept pages _ was mid now done.0 kept, done.1)
-  done_kept (Format file numbers) a was mid now done kept = (done.0, keeps_kept was mid now done.1 kept)
-  done_kept (Dump file) a was mid now done kept = (dumped_kept _ was mid now done.0 kept, done.1)
-  done_kept (Explain file) a was mid now done kept = (explained_kept _ was mid now done.0 kept, done.1)
-  done_kept (Run frames file workers scripts) a was mid now done kept = run_kept workers _ _ _ _ _ was mid now done kept
+  done_kept (Check file pages wait) a was mid now done kept = (checked_kept pages _ was mid now done.0 kept, done.1)
+  done_kept (Format file numbers wait) a was mid now done kept = (done.0, keeps_kept was mid now done.1 kept)
+  done_kept (Dump file wait) a was mid now done kept = (dumped_kept _ was mid now done.0 kept, done.1)
+  done_kept (Explain file wait) a was mid now done kept = (explained_kept _ was mid now done.0 kept, done.1)
+  done_kept (Run frames file workers scripts wait stop) a was mid now done kept = run_kept stop workers _ _ _ _ _ was mid now done kept
   done_kept (Show text) a was mid now done kept = (appends_kept was mid now _ done.0 kept, done.1)
 
   -- the output failed within the answers of a run

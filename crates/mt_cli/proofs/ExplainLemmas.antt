@@ -1,5 +1,5 @@
 -- What a device tells of its log.
-use Rattle.std.proofs.Common.{◌≡◌, ◌⊎◌, inl, inr, false, ℕ, List, Result, Ok, Err, IfErr, IfOk, sym, subst}
+use Rattle.std.proofs.Common.{◌≡◌, ◌⊎◌, inl, inr, ℕ, List, Result, Ok, Err, IfOk, sym, subst}
 use Rattle.mt_base.specs.declared.refusal.Refusal.{Refusal}
 use Rattle.mt_base.specs.declared.refusal.Refusal.TheVariants as refusal
 use Rattle.mt_frame.specs.declared.slots.MasterSlot.{MasterSlot}
@@ -7,7 +7,6 @@ use Rattle.mt_log.specs.Masters.{BreaksMaster, IsUnformatted}
 use Rattle.mt_log.specs.declared.batch.Batch.{Batch}
 use Rattle.mt_replay.specs.Refused.{BreaksLog, IsCause, in_master}
 use Rattle.mt_folder.proofs.FolderLemmas.{held_known}
-use Rattle.mt_cli.specs.Checks.{IsUntold}
 use Rattle.mt_cli.specs.Explains.{AreBatchesIn, IsLogIn, IsLogOf}
 use Rattle.mt_folder.specs.Folders.{Files, IsHeld, known_in}
 
@@ -23,7 +22,3 @@ log_cause c F why (inr (inr bad)) = subst (IsCause BreaksLog c (Unit {0})) (sym 
 pub log_in : {T E : Type 0} (items : T → List Batch) (files : Files) (name c : List ℕ) (r : Result T E) → IsHeld files name c → IfOk r (λ bs. IsLogOf c (items bs)) → IfOk r (λ bs. IsLogIn (known_in files name) (items bs))
 log_in items files name c (Ok bs) held log = (c, held_known files name c held, log)
 log_in items files name c (Err why) held log = tt
-
-pub untold_in : {T : Type 0} (files : Files) (name c : List ℕ) (r : Result T Refusal) → IsHeld files name c → IfErr r (IsCause BreaksLog c (Unit {0})) → IfErr r (IsUntold false (known_in files name))
-untold_in files name c (Ok bs) held cause = tt
-untold_in files name c (Err why) held cause = inr (c, held_known files name c held, cause)

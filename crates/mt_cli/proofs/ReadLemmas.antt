@@ -8,7 +8,7 @@ use Rattle.mt_script.specs.Scripts.{IsScript}
 use Rattle.mt_alone.specs.Sessions.{lines_in}
 use Rattle.mt_script.specs.declared.reader.Script.{Script}
 use Rattle.mt_script.specs.declared.lines.Line.{Line}
-use Rattle.mt_folder.specs.Folders.{AreKept, Files, known_in}
+use Rattle.mt_folder.specs.Folders.{AreKept, Files, ReadsAll, known_in}
 use Rattle.mt_script.specs.declared.words.ScriptWord.{ScriptWord}
 use Rattle.mt_cli.specs.declared.read_faults.ReadFault.{ReadFault}
 use Rattle.mt_cli.specs.declared.read_faults.ReadFault.TheVariants.{Refused}
@@ -28,6 +28,11 @@ held_by_file files (Some name) input = go (is_input name)
 pub has_file : (name : Option (List ℕ)) → is_fed name ≡ false → is_some (file_in name) ≡ true
 has_file None is = cc
 has_file (Some name) is = ap (λ (t : Bool). is_some (cond t None (Some name))) is
+
+-- what holds of the bytes that a reader of a file has before it holds of the file's
+pub by_reader : (held remaining : Option (List ℕ)) (P : List ℕ → Type 0) → ReadsAll held remaining → IfSome remaining P → IfSome held P
+by_reader None remaining P reads is = tt
+by_reader (Some bytes) remaining P reads is = subst (λ (o : Option (List ℕ)). IfSome o P) reads is
 
 -- what is known of the input is still so
 abbrev pub IsKnown : Option (List ℕ) → Option (List ℕ) → Type 0

@@ -1,5 +1,5 @@
 -- Scripts that were served to a device, and to a file.
-use Rattle.std.proofs.Common.{◌≡◌, ◌∙◌, ◌+◌, inl, inr, ℕ, true, false, List, length, Option, None, Result, Ok, Err, IfErr, IsErrAnd, IsOk, OnOk, refl, sym, ap, subst}
+use Rattle.std.proofs.Common.{◌≡◌, ◌∙◌, ◌+◌, inl, ℕ, Bool, List, length, Option, None, Some, Result, Ok, Err, IfErr, IfOk, OnOk, refl, sym, ap, subst}
 use mathlib.Core.Logic.{∥∥₁_elim, ∥∥₁_map, ∥∥₁_prop}
 use Rattle.mt_disk.specs.declared.device.Device.{Ghosts}
 use Rattle.mt_live.specs.Machine.{State, start}
@@ -12,7 +12,6 @@ use Rattle.mt_alone.proofs.TurnoverLemmas.{runs_first}
 use Rattle.mt_txn.specs.Restarted.{FindsCommits}
 use Rattle.mt_txn.specs.Shown.{Restarts, SameSchema, StaysRestarting}
 use Rattle.mt_txn.specs.declared.kernel.Kernel.{Kernel}
-use Rattle.mt_base.specs.declared.refusal.Refusal.TheVariants as refusal
 use Rattle.mt_alone.specs.Driven.{IsBeside}
 use Rattle.mt_alone.specs.Plays.{Play}
 use Rattle.mt_alone.specs.Turnovers.{IsCutOff, IsLeftBy, StandsForMore, why_in}
@@ -20,16 +19,18 @@ use Rattle.mt_alone.specs.Sessions.{AreCutShort, HasServed, HaveServed, HavePlay
 use Rattle.mt_script.specs.declared.answers.Answer.{Answer}
 use Rattle.mt_script.specs.declared.lines.Line.{Line}
 use Rattle.mt_alone.specs.declared.rotation.NotServed.{NotServed}
-use Rattle.mt_alone.specs.declared.rotation.NotServed.TheVariants.{Kept, Ended}
+use Rattle.mt_alone.specs.declared.rotation.NotServed.TheVariants.{Kept}
 use Rattle.mt_alone.specs.declared.script_run.RunFault.{RunFault}
 use Rattle.mt_alone.specs.declared.script_run.RunFault.TheVariants as run
 use Rattle.mt_folder.proofs.FolderLemmas.{kept_then, put_then}
-use Rattle.mt_cli.proofs.Trials.{ended_by, played}
+use Rattle.mt_alone.specs.Stops.{scripts_to}
+use Rattle.mt_alone.specs.declared.stops.Stop.{Stop}
+use Rattle.mt_cli.proofs.Trials.{ended_among, played}
 use Rattle.mt_folder.specs.Folders.{AreKept, Files, IsFileRefusal, IsHeld, IsLent, Puts}
-use Rattle.mt_cli.specs.Serves.{AreEndedBy, AreShortOn, HasNotRun, HaveServedOn, IsOnBase, IsServedIn, IsShortOf, IsShortWithin, unheard_session, short_session, IsUnservedIn, unserved, no_device, StandForAll, StandForMore, first_on, fault_of, unread_scripts}
+use Rattle.mt_cli.specs.Serves.{AreShortOn, AreUnserved, HasNotRun, HaveServedOn, IsOnBase, IsServedIn, IsShortOf, IsShortWithin, ServesFrom, unheard_session, short_session, IsUnservedIn, unserved, no_device, StandForAll, StandForMore, cut_among, end_of, first_on, stopped_among, unread_scripts}
 use Rattle.mt_cli.specs.Reads.{HasNoScript}
 use Rattle.mt_cli.specs.declared.faults.Fault.{Fault}
-use Rattle.mt_cli.specs.declared.faults.Fault.TheVariants.{Output, Refused, Unread, Unscheduled}
+use Rattle.mt_cli.specs.declared.faults.Fault.TheVariants.{Output, Refused, Stopped, Unread, Unscheduled}
 use Rattle.std.specs.Io.KnownBytes.{Keeps}
 
 module _ {D : Type 0} {g : Ghosts D} (seen : D → List ℕ) (may_leave : D → List ℕ → Type 0) where
@@ -77,30 +78,22 @@ module _ {D : Type 0} {g : Ghosts D} (seen : D → List ℕ) (may_leave : D → 
 
   -- ---- serving
 
-  pub served_on : (relations counters : ℕ) (b : Base) (k n : Kernel D g) (scripts : List (List Line)) (was now : Option (List ℕ)) (c : List ℕ) → IsOpened seen may_leave relations counters b k → SameSchema k n → StaysRestarting seen may_leave k n
-      → StandsEach seen may_leave k (λ p. HaveServed seen may_leave p k scripts was now n)
-      → ((first : Base) → Restarts seen may_leave first n → ∥ FindsCommits n.relations n.counters first n.core c ∥₁) → HaveServedOn relations counters b scripts was now c
-  served_on relations counters b k n scripts was now c opened schema stays ran finds =
+  pub served_on : (stop : Bool) (ending : Option Stop) (relations counters : ℕ) (b : Base) (k n : Kernel D g) (scripts : List (List Line)) (was now : Option (List ℕ)) (c : List ℕ) → IsOpened seen may_leave relations counters b k → SameSchema k n → StaysRestarting seen may_leave k n
+      → StandsEach seen may_leave k (λ p. HaveServed seen may_leave stop ending p k scripts was now n)
+      → ((first : Base) → Restarts seen may_leave first n → ∥ FindsCommits n.relations n.counters first n.core c ∥₁) → HaveServedOn stop ending relations counters b scripts was now c
+  served_on stop ending relations counters b k n scripts was now c opened schema stays ran finds =
       let x = ran (first_on b) (beside_first relations counters b k opened) opened.restarts in
       record {
         transcripts = x.transcripts;
         last = x.play;
-        played = all_played relations counters (first_on b, k) (x.play, n) scripts x.transcripts opened.relations_are opened.counters_are x.served;
+        at = x.at;
+        ended = x.close;
+        played = all_played relations counters (first_on b, k) (x.play, n) (scripts_to ending scripts) x.transcripts opened.relations_are opened.counters_are x.served;
         told = x.told;
         stands = stands_all relations counters b x.play n c (schema.0 ∙ opened.relations_are) (schema.1 ∙ opened.counters_are) (stays b opened.restarts) x.beside finds;
       }
 
   module _ (faults : D → ℕ) where
-    -- why a run ended of which this is left
-    ended_among : (relations counters : ℕ) (left : NotServed D g) (q : Play) → IsLeftBy seen may_leave faults relations counters left q → AreEndedBy (why_in left)
-    ended_among relations counters (Kept run.Output n) q x = tt
-    ended_among relations counters (Kept (run.Refused why) n) q x = inl (ended_by seen may_leave faults n (run.Refused why) x.0.1)
-    ended_among relations counters (Ended run.Output device) q x = tt
-    ended_among relations counters (Ended (run.Refused refusal.NoMemory) device) q x = inl (inl refl)
-    ended_among relations counters (Ended (run.Refused refusal.DeviceFailed) device) q x = inl (inr refl)
-    ended_among relations counters (Ended (run.Refused refusal.LogFull) device) q x = inr refl
-    ended_among relations counters (Ended (run.Refused why) device) q x = absurd x.0
-
     -- what the device stands for behind whatever play it was left so
     abbrev LeavesStanding : Base → NotServed D g → List ℕ → Type 0
     LeavesStanding b left d = (relations counters : ℕ) (q : Play) → q.first ≡ b → IsLeftBy seen may_leave faults relations counters left q → StandForMore relations counters b q.book d
@@ -119,7 +112,7 @@ module _ {D : Type 0} {g : Ghosts D} (seen : D → List ℕ) (may_leave : D → 
       last = x.play;
       ran = played seen may_leave relations counters (p, begun) (x.play, x.last) x.before x.answers (over.schema.0 ∙ rs) (over.schema.1 ∙ cs) x.ran;
       told = x.told;
-      ended = ended_among k.relations k.counters left x.play x.left;
+      ended = ended_among seen may_leave faults k.relations k.counters left x.play x.left;
       stand = subst (λ (X : Type 0). X) (λ i. StandForMore (rs i) (cs i) b x.play.book d)
           (stands k.relations k.counters x.play (runs_first seen may_leave (p, begun) (x.play, x.last) x.before x.answers x.ran ∙ first) x.left);
     }
@@ -137,10 +130,10 @@ module _ {D : Type 0} {g : Ghosts D} (seen : D → List ℕ) (may_leave : D → 
     within relations counters b p k i lines was now _ d rs cs first stands beside restarts (cut_script mid left told cut) =
         short_session mid (why_in left) told (short_of relations counters b (in_session p i) k lines mid now left d rs cs first stands cut)
 
-    pub short_on : (relations counters : ℕ) (b : Base) (k : Kernel D g) (scripts : List (List Line)) (was now : Option (List ℕ)) (left : NotServed D g) (device : D) (d : List ℕ) → IsOpened seen may_leave relations counters b k → may_leave device d
+    pub short_on : (stop : Bool) (relations counters : ℕ) (b : Base) (k : Kernel D g) (scripts : List (List Line)) (was now : Option (List ℕ)) (left : NotServed D g) (device : D) (d : List ℕ) → IsOpened seen may_leave relations counters b k → may_leave device d
         → ((r m : ℕ) (q : Play) → IsLeftBy seen may_leave faults r m left q → StandsForMore may_leave r m q device)
-        → StandsEach seen may_leave k (λ p. AreCutShort seen may_leave faults p k scripts was now left) → AreShortOn relations counters b scripts was now d (why_in left)
-    short_on relations counters b k scripts was now left device d opened leaves stands cut =
+        → StandsEach seen may_leave k (λ p. AreCutShort seen may_leave faults stop p k scripts was now left) → AreShortOn relations counters b scripts was now d (why_in left)
+    short_on stop relations counters b k scripts was now left device d opened leaves stands cut =
         let x = cut (first_on b) (beside_first relations counters b k opened) opened.restarts in
         let kept = schema_kept (first_on b, k) (x.ran.play, x.last) x.before x.ran.transcripts x.ran.served in
         let first = first_kept (first_on b, k) (x.ran.play, x.last) x.before x.ran.transcripts x.ran.served in
@@ -165,15 +158,21 @@ pub on_base : (c : List ℕ) (On Opened : ℕ → ℕ → Base → Type 0) → (
 on_base c On Opened on n m b first can = record { some = (n, m, b, on n m b first); stood_for = λ n m b stands. on n m b (can n m b stands) }
 
 -- how a command ends is how its run did
-pub ok_through : (P : Type 0) (r : Result (Unit {0}) RunFault) (e : Result (Unit {0}) Fault) → OnOk e (IsOk r) → OnOk r P → OnOk e P
-ok_through P (Ok x) (Ok y) is p = p
-ok_through P (Err why) (Ok y) is p = let bad : false ≡ true = is in absurd cc
-ok_through P r (Err fault) is p = tt
+module _ (stop : Bool) (c d : List ℕ) (scripts : List (List Line)) (was now : Option (List ℕ)) (Opened : ℕ → ℕ → Base → Type 0) (relations counters : ℕ) (b : Base) (first : Opened relations counters b)
+    (can : (n m : ℕ) (x : Base) → CanRestart n m c x → Opened n m x) where
+  -- so far they were served on each base that it was opened on
+  abbrev Served : Option Stop → Type 0
+  Served ending = (n m : ℕ) (x : Base) → Opened n m x → HaveServedOn stop ending n m x scripts was now d
 
-pub err_through : (Q : RunFault → Type 0) (r : Result (Unit {0}) RunFault) (e : Result (Unit {0}) Fault) → IfErr e (λ fault. IsErrAnd r (λ why. fault ≡ fault_of why)) → IfErr r Q → IfErr e (λ fault. (why : RunFault) × Q why × (fault ≡ fault_of why))
-err_through Q r (Ok y) is q = tt
-err_through Q (Ok x) (Err fault) is q = absurd is
-err_through Q (Err why) (Err fault) is q = (why, q, is)
+  pub served_by : (r : Result (Option Stop) RunFault) → IfOk r Served → OnOk (end_of r) (ServesFrom stop None c scripts was now d)
+  served_by (Ok None) on = on_base c (λ n m x. HaveServedOn stop None n m x scripts was now d) Opened on relations counters b first can
+  served_by (Ok (Some at)) on = tt
+  served_by (Err why) on = tt
+
+  pub unserved_by : (r : Result (Option Stop) RunFault) → IfOk r Served → IfErr r (λ why. (n m : ℕ) (x : Base) → Opened n m x → AreShortOn n m x scripts was now d why) → IfErr (end_of r) (AreUnserved stop c scripts was now d)
+  unserved_by (Ok None) on short = tt
+  unserved_by (Ok (Some at)) on short = stopped_among at (on_base c (λ n m x. HaveServedOn stop (Some at) n m x scripts was now d) Opened on relations counters b first can)
+  unserved_by (Err why) on short = cut_among why _ (on_base c (λ n m x. AreShortOn n m x scripts was now d why) Opened short relations counters b first can) refl
 
 -- ---- the file
 
@@ -184,8 +183,8 @@ put_back old mid new name d lent put = record { told = put.told ∙ lent.told; h
 pub held_before : (old mid : Files) (name bytes : List ℕ) → AreKept old mid → IsHeld mid name bytes → IsHeld old name bytes
 held_before old mid name bytes kept held = λ is. sym (kept.all name) ∙ held (kept.told ∙ is)
 
-pub served_then : (old mid new : Files) (name : List ℕ) (scripts : List (List Line)) (was now : Option (List ℕ)) → AreKept old mid → IsServedIn mid new name scripts was now → IsServedIn old new name scripts was now
-served_then old mid new name scripts was now kept x = record {
+pub served_then : (stop : Bool) (old mid new : Files) (name : List ℕ) (scripts : List (List Line)) (was now : Option (List ℕ)) → AreKept old mid → IsServedIn stop mid new name scripts was now → IsServedIn stop old new name scripts was now
+served_then stop old mid new name scripts was now kept x = record {
   before = x.before;
   behind = x.behind;
   held = held_before old mid name x.before kept x.held;
@@ -193,14 +192,16 @@ served_then old mid new name scripts was now kept x = record {
   served = x.served;
 }
 
-pub unserved_then : (old mid new : Files) (name : List ℕ) (scripts : List (List Line)) (was now : Option (List ℕ)) (fault : Fault) → AreKept old mid → IsUnservedIn mid new name scripts was now fault → IsUnservedIn old new name scripts was now fault
-unserved_then old mid new name scripts was now _ kept (no_device why cause still keeps) =
+pub unserved_then : (stop : Bool) (old mid new : Files) (name : List ℕ) (scripts : List (List Line)) (was now : Option (List ℕ)) (fault : Fault) → AreKept old mid → IsUnservedIn stop mid new name scripts was now fault
+    → IsUnservedIn stop old new name scripts was now fault
+unserved_then stop old mid new name scripts was now _ kept (no_device why cause still keeps) =
     no_device why (subst (λ (o : Option (List ℕ)). IsFileRefusal o why) (kept.all name) cause) (kept_then old mid new kept still) keeps
-unserved_then old mid new name scripts was now _ kept (unserved before behind fault held put x) = unserved before behind fault (held_before old mid name before kept held) (put_then old mid new name behind kept put) x
+unserved_then stop old mid new name scripts was now _ kept (unserved before behind fault held put x) = unserved before behind fault (held_before old mid name before kept held) (put_then old mid new name behind kept put) x
 
 -- a script was not read
-pub unread_of : (workers : ℕ) (old new : Files) (file : List ℕ) (names : List (List ℕ)) (input was now : Option (List ℕ)) (fault : Fault) → HasNoScript old input names fault → AreKept old new → Keeps was now → HasNotRun workers old new file names input was now fault
-unread_of workers old new file names input was now Output bad kept keeps = absurd bad
-unread_of workers old new file names input was now (Refused why) bad kept keeps = absurd bad
-unread_of workers old new file names input was now (Unscheduled why) bad kept keeps = absurd bad
-unread_of workers old new file names input was now (Unread why at) x kept keeps = unread_scripts at why x kept keeps
+pub unread_of : (stop : Bool) (workers : ℕ) (old new : Files) (file : List ℕ) (names : List (List ℕ)) (input was now : Option (List ℕ)) (fault : Fault) → HasNoScript old input names fault → AreKept old new → Keeps was now → HasNotRun stop workers old new file names input was now fault
+unread_of stop workers old new file names input was now Output bad kept keeps = absurd bad
+unread_of stop workers old new file names input was now (Refused why) bad kept keeps = absurd bad
+unread_of stop workers old new file names input was now (Stopped at) bad kept keeps = absurd bad
+unread_of stop workers old new file names input was now (Unscheduled why) bad kept keeps = absurd bad
+unread_of stop workers old new file names input was now (Unread why at) x kept keeps = unread_scripts at why x kept keeps

@@ -1,5 +1,5 @@
 -- A trial, from its first schema on.
-use Rattle.std.proofs.Common.{◌≡◌, ◌∙◌, inl, inr, ℕ, List, [], ◌∷◌, length, Option, None, refl, ap, subst}
+use Rattle.std.proofs.Common.{◌≡◌, ◌∙◌, inl, inr, ℕ, Bool, List, [], ◌∷◌, length, Option, None, Some, Ok, IfErr, OnOk, refl, ap, subst}
 use Rattle.mt_base.specs.declared.refusal.Refusal.{Refusal}
 use Rattle.mt_base.specs.declared.refusal.Refusal.TheVariants as refusal
 use Rattle.mt_disk.specs.declared.device.Device.{Ghosts}
@@ -9,7 +9,8 @@ use Rattle.mt_model.specs.declared.rows.Row.{Row}
 use Rattle.mt_model.specs.Rows.{value_at}
 use Rattle.mt_model.specs.Tables.{count_at}
 use Rattle.mt_model.specs.Views.{rows_of}
-use Rattle.mt_txn.specs.Shown.{Shows}
+use Rattle.mt_restart.specs.Rotated.{GoesOver}
+use Rattle.mt_txn.specs.Shown.{Restarts, Shows}
 use Rattle.mt_txn.specs.declared.kernel.Kernel.{Kernel}
 use Rattle.mt_restart.specs.Schemas.{counters_in, relations_in, schema_base}
 use Rattle.mt_restart.specs.declared.schema.Schema.{Schema}
@@ -17,11 +18,16 @@ use Rattle.mt_script.specs.declared.lines.Line.{Line}
 use Rattle.mt_script.specs.declared.answers.Answer.{Answer}
 use Rattle.mt_alone.specs.declared.script_run.RunFault.{RunFault}
 use Rattle.mt_alone.specs.declared.script_run.RunFault.TheVariants as run
-use Rattle.mt_alone.specs.Driven.{IsBeside}
+use Rattle.mt_alone.specs.declared.rotation.NotServed.{NotServed}
+use Rattle.mt_alone.specs.declared.rotation.NotServed.TheVariants.{Kept, Ended}
+use Rattle.mt_alone.specs.declared.stops.Stop.{Stop}
 use Rattle.mt_alone.specs.Plays.{Play, IsTurn, acts, refuses, Runs, starts, goes_on, HasPlayed}
-use Rattle.mt_alone.specs.Runs.{HasRun, HasTurned, IsCutShort, IsEndedFor}
-use Rattle.mt_cli.specs.Performs.{HasTried, IsFirst, IsFirstSchema, IsShort, StandsFirst}
-use Rattle.mt_cli.specs.Serves.{IsEndedBy}
+use Rattle.mt_alone.specs.Runs.{HasTurned, IsEndedFor}
+use Rattle.mt_alone.specs.Stops.{IsStopIn}
+use Rattle.mt_alone.specs.Turnovers.{BesideFrom, HasRunOut, IsCutOff, IsLeftBy, why_in}
+use Rattle.mt_alone.proofs.TurnoverLemmas.{resting_over}
+use Rattle.mt_cli.specs.Performs.{HasTried, IsCutTrial, IsFirst, IsFirstSchema, IsShort, StandsFirst, stopped}
+use Rattle.mt_cli.specs.Serves.{AreEndedBy, end_of}
 
 first_play : Schema → Play
 first_play schema = record { session = 1; first = schema_base schema; base = schema_base schema; book = []; under_way = None }
@@ -47,13 +53,14 @@ turn_of relations counters p _ l _ (refuses why (inl fault)) = refuses why (inl 
 turn_of relations counters p _ l _ (refuses why (inr (want, due))) = refuses why (inr (want, tt))
 
 module _ {D : Type 0} {g : Ghosts D} (seen : D → List ℕ) (may_leave : D → List ℕ → Type 0) where
-  pub stands_first : (schema : Schema) (k : Kernel D g) → IsFirstSchema schema → Shows seen may_leave (schema_base schema) (start (schema_base schema)) k → (k.relations ≡ relations_in schema) × (k.counters ≡ length (counters_in schema))
+  pub stands_first : (schema : Schema) (k : Kernel D g) → IsFirstSchema schema → Shows seen may_leave (schema_base schema) (start (schema_base schema)) k → Restarts seen may_leave (schema_base schema) k → (k.relations ≡ relations_in schema) × (k.counters ≡ length (counters_in schema))
       → StandsFirst seen may_leave k
   unfolding first_play
-  stands_first schema k first shows made = record {
+  stands_first schema k first shows restarts made = record {
     play = first_play schema;
     first = is_first schema first;
     beside = record { shown = ∣ (schema_base schema, start (schema_base schema), shows, (record { first_is = refl; book = refl; base = refl }, λ u. refl)) ∣₁; nothing = refl };
+    restarts = restarts;
     relations = made.0 ∙ first.relations;
     counters = made.1 ∙ ap (λ (ns : List Count). length ns) first.counters;
   }
@@ -73,33 +80,57 @@ module _ {D : Type 0} {g : Ghosts D} (seen : D → List ℕ) (may_leave : D → 
       (subst (λ (X : Type 0). X) (λ i. IsTurn ((kept.0 ∙ rs) i) ((kept.1 ∙ cs) i) (λ line why. Unit {0}) m.0 line answer e.0) own)
 
   module _ (faults : D → ℕ) where
-    pub ended_by : (n : Kernel D g) (why : RunFault) → IsEndedFor faults n why → IsEndedBy why
+    ended_by : (n : Kernel D g) (why : RunFault) → IsEndedFor faults n why → AreEndedBy why
     ended_by n run.Output ended = tt
-    ended_by n (run.Refused refusal.NoMemory) ended = inl refl
-    ended_by n (run.Refused y) ended = inr (ended (λ e. cc)).0
+    ended_by n (run.Refused refusal.NoMemory) ended = inl (inl refl)
+    ended_by n (run.Refused y) ended = inl (inr (ended (λ e. cc)).0)
+
+    -- why a run ended of which this is left
+    pub ended_among : (relations counters : ℕ) (left : NotServed D g) (q : Play) → IsLeftBy seen may_leave faults relations counters left q → AreEndedBy (why_in left)
+    ended_among relations counters (Kept run.Output n) q x = tt
+    ended_among relations counters (Kept (run.Refused why) n) q x = ended_by n (run.Refused why) x.0.1
+    ended_among relations counters (Ended run.Output device) q x = tt
+    ended_among relations counters (Ended (run.Refused refusal.NoMemory) device) q x = inl (inl refl)
+    ended_among relations counters (Ended (run.Refused refusal.DeviceFailed) device) q x = inl (inr refl)
+    ended_among relations counters (Ended (run.Refused refusal.LogFull) device) q x = inr refl
+    ended_among relations counters (Ended (run.Refused why) device) q x = absurd x.0
 
 module _ {D : Type 0} (g : Ghosts D) where
-  pub tried_of : (k n : Kernel D g) (lines : List Line) (was now : Option (List ℕ)) → StandsFirst g.seen g.may_leave k
-      → ((p : Play) → p.session ≡ 1 → IsBeside g.seen g.may_leave p None k → HasRun g.seen g.may_leave p k lines was now n) → HasTried g lines was now
-  tried_of k n lines was now at ran =
-      let x = ran at.play at.first.session at.beside in
+  -- so does one that goes on as it, with its log turned over
+  stands_over : (k n : Kernel D g) → StandsFirst g.seen g.may_leave k → GoesOver g.seen g.may_leave k n → StandsFirst g.seen g.may_leave n
+  stands_over k n at over = record {
+    play = at.play;
+    first = at.first;
+    beside = resting_over g.seen g.may_leave at.play k n at.beside at.restarts over;
+    restarts = over.restarts at.play.first at.restarts;
+    relations = over.schema.0 ∙ at.relations;
+    counters = over.schema.1 ∙ at.counters;
+  }
+
+  pub tried_of : (stop : Bool) (ending : Option Stop) (k n : Kernel D g) (lines : List Line) (was now : Option (List ℕ)) → StandsFirst g.seen g.may_leave k → IsStopIn 1 lines ending
+      → BesideFrom g.seen g.may_leave 1 None k (λ p. HasRunOut g.seen g.may_leave stop ending p k lines was now n) → HasTried g stop ending lines was now
+  unfolding stands_over
+  tried_of stop ending k n lines was now at within ran =
+      let (begun, over, x) = ran at.play at.first.session at.beside at.restarts in
       record {
-        kernel = k;
-        stands = at;
+        kernel = begun;
+        stands = stands_over k begun at over;
         answers = x.answers;
         last = (x.play, x.last);
+        at = within;
         ran = x.ran;
+        ends = x.ends;
         told = x.told;
       }
 
-  pub short_of : (k n : Kernel D g) (lines : List Line) (was now : Option (List ℕ)) (why : RunFault) → StandsFirst g.seen g.may_leave k
-      → ((p : Play) → p.session ≡ 1 → IsBeside g.seen g.may_leave p None k → IsCutShort g.seen g.may_leave g.faults p k lines was now n why)
-      → ((p : Play) → p.session ≡ 1 → IsBeside g.seen g.may_leave p None k → IsEndedFor g.faults n why) → IsShort g lines was now why
-  short_of k n lines was now why at cut ended =
-      let x = cut at.play at.first.session at.beside in
+  pub short_of : (k : Kernel D g) (lines : List Line) (was now : Option (List ℕ)) (left : NotServed D g) → StandsFirst g.seen g.may_leave k
+      → BesideFrom g.seen g.may_leave 1 None k (λ p. IsCutOff g.seen g.may_leave g.faults p k lines was now left) → IsShort g lines was now (why_in left)
+  unfolding stands_over
+  short_of k lines was now left at cut =
+      let (begun, over, x) = cut at.play at.first.session at.beside at.restarts in
       record {
-        kernel = k;
-        stands = at;
+        kernel = begun;
+        stands = stands_over k begun at over;
         before = x.before;
         rest = x.rest;
         split = x.split;
@@ -107,5 +138,14 @@ module _ {D : Type 0} (g : Ghosts D) where
         last = (x.play, x.last);
         ran = x.ran;
         told = x.told;
-        ended = ended_by g.seen g.may_leave g.faults n why (ended at.play at.first.session at.beside);
+        ended = ended_among g.seen g.may_leave g.faults k.relations k.counters left x.play x.left;
       }
+
+  -- how `try` ends whose lines ran so far
+  pub tried_end : (stop : Bool) (ending : Option Stop) (lines : List Line) (was now : Option (List ℕ)) → HasTried g stop ending lines was now → OnOk (end_of (Ok ending)) (HasTried g stop None lines was now)
+  tried_end stop None lines was now x = x
+  tried_end stop (Some at) lines was now x = tt
+
+  pub stopped_end : (stop : Bool) (ending : Option Stop) (lines : List Line) (was now : Option (List ℕ)) → HasTried g stop ending lines was now → IfErr (end_of (Ok ending)) (IsCutTrial g stop lines was now)
+  stopped_end stop None lines was now x = tt
+  stopped_end stop (Some at) lines was now x = stopped at x

@@ -1,5 +1,6 @@
 -- What is reported of a command that did not end well.
-use Rattle.std.specs.Prelude.{ℕ, List, [], ◌∷◌, ◌++◌, Option, Some, None, cond, codes, get_or, length, map, nat_lt, string_bytes, ◌==◌}
+use Rattle.std.specs.Prelude.{ℕ, List, [], ◌∷◌, ◌++◌, ◌-◌, Option, Some, None, cond, codes, get_or, length, map, nat_lt, string_bytes, ◌==◌}
+use Rattle.std.specs.Fmt.{decimal}
 use Rattle.mt_base.specs.declared.limits.TheConstants.{MASTER_BYTES}
 use Rattle.mt_base.specs.declared.refusal.Refusal.{Refusal}
 use Rattle.mt_base.specs.declared.refusal.Refusal.TheVariants as refusal
@@ -11,7 +12,7 @@ use Rattle.mt_script.specs.declared.answers.Answer.TheVariants.{Refused as Refus
 use Rattle.mt_args.specs.declared.command.Command.{Command}
 use Rattle.mt_args.specs.declared.command.Command.TheVariants.{Try, Schedule, Check, Format, Dump, Explain, Run, Show}
 use Rattle.mt_cli.specs.declared.faults.Fault.{Fault}
-use Rattle.mt_cli.specs.declared.faults.Fault.TheVariants.{Output, Refused, Unread, Unscheduled}
+use Rattle.mt_cli.specs.declared.faults.Fault.TheVariants.{Output, Refused, Stopped, Unread, Unscheduled}
 use Rattle.mt_folder.specs.Reasons.{reason_text}
 use Rattle.mt_folder.specs.declared.reason.Reason.{Reason}
 use Rattle.mt_cli.specs.Excess.{excess_in, excess_text}
@@ -26,17 +27,18 @@ use Rattle.mt_cli.specs.declared.read_faults.TextFault.TheVariants.{Overlong, De
 abbrev pub fault_line : Fault → List ℕ
 fault_line Output = codes "the output cannot be written\n"
 fault_line (Refused why) = answer_text (RefusedLine why) ++ 10 ∷ []
+fault_line (Stopped at) = answer_text (RefusedLine at.why) ++ 10 ∷ []
 fault_line (Unread why at) = answer_text (RefusedLine (refusal_in why)) ++ 10 ∷ []
 fault_line (Unscheduled why) = answer_text (RefusedLine (refusal_in why)) ++ 10 ∷ []
 
--- what to do about bytes that break the format at a place: below 8192 it is a master slot, which tells the length
+-- what to do about bytes that break the format at a place: below 8192 it is a master slot, which holds the length
 abbrev pub advice_at : ℕ → List ℕ
 advice_at place = cond (nat_lt place MASTER_BYTES) (codes "the file is shorter than its first bytes tell, or these are damaged; take a copy that is whole")
     (codes "the bytes at that place are none that a device can have; keep a copy of the file")
 
--- what to do where memory was wanting: frames are what `run` takes
+-- what to do if memory was wanting: frames are what `run` takes
 abbrev pub memory_advice : Command → List ℕ
-memory_advice (Run frames file workers scripts) = codes "there is not enough memory; `run` takes less with fewer frames"
+memory_advice (Run frames file workers scripts wait stop) = codes "there is not enough memory; `run` takes less with fewer frames"
 memory_advice _ = codes "there is not enough memory"
 
 -- why a file is not had: the reason, if the folder knows it
@@ -63,7 +65,7 @@ advice_on command reason _ = codes "see docs/MANUAL.md"
 
 -- what is said of one that is a device; `run` takes it before its scripts
 abbrev pub device_advice : Command → List ℕ
-device_advice (Run frames file workers scripts) = codes "that is a device, and no script; FILE comes first"
+device_advice (Run frames file workers scripts wait stop) = codes "that is a device, and no script; FILE comes first"
 device_advice (Schedule file) = codes "that is a device, and no schedule"
 device_advice _ = codes "that is a device, and no script"
 
@@ -95,9 +97,14 @@ module _ {W : Type 0} (form : W → List ℕ) (all_words : List ℕ) where
 
 -- ---- a fault
 
+-- where a run stopped
+abbrev pub stop_advice : ℕ → List ℕ
+stop_advice line = codes "line " ++ (decimal line ++ codes " was refused so, and nothing after it ran")
+
 abbrev pub advice_of : Command → Option Reason → Fault → List ℕ
 advice_of command reason Output = codes "see that its disk has room and that its reader goes on; what was committed stands"
 advice_of command reason (Refused why) = advice_on command reason why
+advice_of command reason (Stopped at) = stop_advice at.line
 advice_of command reason (Unread why at) = unread_advice script_form script_words command reason why
 advice_of command reason (Unscheduled why) = unread_advice event_form event_words command reason why
 
@@ -110,26 +117,27 @@ shown_name name = cond (is_input name) (codes "standard input") (shown_file name
 
 -- the file that a command names first, or the input
 abbrev pub named_in : Command → List ℕ
-named_in (Try None) = codes "standard input"
-named_in (Try (Some name)) = shown_name (string_bytes name)
+named_in (Try None stop) = codes "standard input"
+named_in (Try (Some name) stop) = shown_name (string_bytes name)
 named_in (Schedule None) = codes "standard input"
 named_in (Schedule (Some name)) = shown_name (string_bytes name)
-named_in (Check file pages) = shown_file (string_bytes file)
-named_in (Format file numbers) = shown_file (string_bytes file)
-named_in (Dump file) = shown_file (string_bytes file)
-named_in (Explain file) = shown_file (string_bytes file)
-named_in (Run frames file workers scripts) = shown_file (string_bytes file)
+named_in (Check file pages wait) = shown_file (string_bytes file)
+named_in (Format file numbers wait) = shown_file (string_bytes file)
+named_in (Dump file wait) = shown_file (string_bytes file)
+named_in (Explain file wait) = shown_file (string_bytes file)
+named_in (Run frames file workers scripts wait stop) = shown_file (string_bytes file)
 named_in (Show text) = codes "mtk"
 
 -- the script at this place of those that it names, of which all but `run` name one
 abbrev pub script_in : Command → ℕ → List ℕ
-script_in (Run frames file workers scripts) at = shown_name (get_or (map string_bytes scripts.items) at [])
+script_in (Run frames file workers scripts wait stop) at = shown_name (get_or (map string_bytes scripts.items) at [])
 script_in command at = named_in command
 
 -- the file or the stream that a fault of a command is about
 abbrev pub about : Command → Fault → List ℕ
 about command Output = codes "standard output"
 about command (Refused why) = named_in command
+about command (Stopped at) = script_in command (at.session - 1)
 about command (Unread why at) = script_in command at
 about command (Unscheduled why) = named_in command
 

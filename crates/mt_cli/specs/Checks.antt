@@ -29,7 +29,7 @@ abbrev pub report_text : Report → List ℕ
 report_text r = concat (number_line (codes "epoch ") r.epoch ∷ number_line (codes "area ") r.area ∷ number_line (codes "batches ") r.batches ∷ number_line (codes "records ") r.records
     ∷ number_line (codes "commits ") r.commits ∷ [])
 
--- the last line, where the pages were looked at
+-- the last line, if the pages were looked at
 abbrev pub pages_text : Bool → List ℕ
 pages_text true = codes "pages ok\n"
 pages_text false = []
@@ -43,7 +43,7 @@ check_text pages r = report_text r ++ pages_text pages
 abbrev pub IsSurveyed : List ℕ → Type 0
 IsSurveyed c = (survey : Survey) × IsInspected c survey
 
--- the report is that of these bytes, which are inspected where that was asked for
+-- the report is that of these bytes, which are inspected if that was asked for
 pub record Tells (pages : Bool) (c : List ℕ) (report : Report) : Type 0 where
   pub log : IsReport c report
   pub pages_too : pages ≡ true → IsSurveyed c
@@ -55,7 +55,7 @@ IsRefusedFor false c why = IsCause BreaksLog c (Unit {0}) why
 
 -- ---- of which file
 
--- these bytes are those of the file, where they are known
+-- these bytes are those of the file, if they are known
 abbrev pub IsOf : Option (List ℕ) → List ℕ → Type 0
 IsOf bytes c = IfSome bytes (λ held. c ≡ held)
 
@@ -72,7 +72,7 @@ pub record HasChecked (pages : Bool) (bytes was now : Option (List ℕ)) : Type 
   pub of : TellsOf pages bytes report
   pub told : Appends was now (check_text pages report)
 
--- why a check did not end well: nothing is written where nothing is reported, and else the output failed within the lines
+-- why a check did not end well: nothing is written if nothing is reported, and else the output failed within the lines
 pub data IsUnchecked (pages : Bool) (bytes was now : Option (List ℕ)) : Fault → Type 0 where
   untold : (why : Refusal) → IsUntold pages bytes why → Keeps was now → IsUnchecked pages bytes was now (Refused why)
   unheard_check : (report : Report) → TellsOf pages bytes report → AppendsFront was now (check_text pages report) → IsUnchecked pages bytes was now Output

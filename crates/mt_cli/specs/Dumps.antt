@@ -19,7 +19,7 @@ use Rattle.mt_cli.specs.Checks.{IsOf, number_line}
 use Rattle.mt_folder.specs.Folders.{AreKept, Files, IsFileRefusal, IsHeld, Puts}
 use Rattle.mt_explain.specs.Listings.{counter_lines, row_line}
 use Rattle.mt_cli.specs.declared.faults.Fault.{Fault}
-use Rattle.mt_cli.specs.declared.faults.Fault.TheVariants.{Output, Refused, Unread, Unscheduled}
+use Rattle.mt_cli.specs.declared.faults.Fault.TheVariants.{Output, Refused, Stopped, Unread, Unscheduled}
 
 -- ---- what is printed
 
@@ -71,7 +71,7 @@ pub record StandsOn (old new : Files) (name : List ℕ) : Type 0 where
   pub put : Puts old new name after
   pub same : StandAs before after
 
--- where the device was refused so, each file is as before, or the one of this name represents the same
+-- if the device was refused so, each file is as before, or the one of this name represents the same
 pub record AreLeft (old new : Files) (name : List ℕ) (why : Refusal) : Type 0 where
   pub stands : AreKept old new ⊎ StandsOn old new name
   pub early : IsEarly why → AreKept old new
@@ -83,14 +83,15 @@ pub record HasDumped (bytes was now : Option (List ℕ)) : Type 0 where
   pub ordered : IsOrdered (rows_of survey.base)
   pub told : Appends was now (dump_text survey)
 
--- why a dump did not end well: nothing is written where nothing is reported, and else the output failed within the lines
+-- why a dump did not end well: nothing is written if nothing is reported, and else the output failed within the lines
 pub data IsUndumped (bytes was now : Option (List ℕ)) : Fault → Type 0 where
   unopened : (why : Refusal) → IsUnopened bytes why → Keeps was now → IsUndumped bytes was now (Refused why)
   unheard_dump : (survey : Survey) → DumpsOf bytes survey → AppendsFront was now (dump_text survey) → IsUndumped bytes was now Output
 
--- what becomes of the files where it did not
+-- what becomes of the files if it did not
 abbrev pub AreLeftBy : Files → Files → List ℕ → Fault → Type 0
 AreLeftBy old new name Output = StandsOn old new name
 AreLeftBy old new name (Refused why) = AreLeft old new name why
+AreLeftBy old new name (Stopped at) = ⊥
 AreLeftBy old new name (Unread why at) = ⊥
 AreLeftBy old new name (Unscheduled why) = ⊥

@@ -41,7 +41,7 @@ IsEvent Rotate = ⊤
 abbrev pub SpellsEvent : List ℕ → Event → Type 0
 SpellsEvent bytes event = SpellsIn event_text IsEvent bytes event
 
--- an event that the bytes spell, or none where they spell none
+-- an event that the bytes spell, or none if they spell none
 abbrev pub ReadsEvent : List ℕ → Option Event → Type 0
 ReadsEvent bytes o = ReadsIn event_text IsEvent bytes o
 

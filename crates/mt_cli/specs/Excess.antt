@@ -21,7 +21,8 @@ abbrev pub counter_excess : List (ℤ × ℤ × ℤ) → Excess
 counter_excess [] = Nothing
 counter_excess (t ∷ more) = cond (is_counter t.0 t.1 t.2) (counter_excess more) (Counter t.0 t.1 t.2)
 
--- of the numbers of a format the first in the order of the command line, where the count of the counters stands before them
+-- of the numbers of a format the first in the order of the command line, if the count of the counters stands before
+-- them
 abbrev pub counters_excess : List (ℤ × ℤ × ℤ) → Excess
 counters_excess counters = cond (nat_le (length counters) MAX_COUNTERS) (counter_excess counters) (Counters (length counters))
 
@@ -32,8 +33,8 @@ excess_of n =
 
 -- of a command: of `run` it is the number of its scripts
 abbrev pub excess_in : Command → Excess
-excess_in (Format file numbers) = excess_of numbers
-excess_in (Run frames file workers scripts) = cond (lies_within 1 MAX_SESSIONS (length scripts.items)) Nothing (Scripts (length scripts.items))
+excess_in (Format file numbers wait) = excess_of numbers
+excess_in (Run frames file workers scripts wait stop) = cond (lies_within 1 MAX_SESSIONS (length scripts.items)) Nothing (Scripts (length scripts.items))
 excess_in _ = Nothing
 
 -- ---- what is printed

@@ -25,7 +25,7 @@ pub record AreBatchesIn (c : List ℕ) (slot : MasterSlot) (batches : List Batch
 abbrev pub IsLogOf : List ℕ → List Batch → Type 0
 IsLogOf c batches = (slot : MasterSlot) × AreBatchesIn c slot batches
 
--- of the file's bytes, where they are known
+-- of the file's bytes, if they are known
 abbrev pub IsLogIn : Option (List ℕ) → List Batch → Type 0
 IsLogIn bytes batches = (c : List ℕ) × IsOf bytes c × IsLogOf c batches
 
@@ -38,7 +38,7 @@ pub record HasExplained (bytes was now : Option (List ℕ)) : Type 0 where
   pub of : IsLogIn bytes batches
   pub told : Appends was now (explained batches)
 
--- why they were not: nothing is written where nothing is reported, and else the output failed within the lines
+-- why they were not: nothing is written if nothing is reported, and else the output failed within the lines
 pub data IsUnexplained (bytes was now : Option (List ℕ)) : Fault → Type 0 where
   untold_log : (why : Refusal) → IsUntold false bytes why → Keeps was now → IsUnexplained bytes was now (Refused why)
   unheard_log : (batches : List Batch) → IsLogIn bytes batches → AppendsFront was now (explained batches) → IsUnexplained bytes was now Output

@@ -1,11 +1,12 @@
 -- What the program's commands do.
-use Rattle.std.specs.Prelude.{ℕ, pos, ◌≡◌, ◌⊎◌, List, [], ◌∷◌, ◌++◌, length, Option, None, IfSome, map, option_map, string_bytes}
+use Rattle.std.specs.Prelude.{ℕ, pos, ◌≡◌, ◌⊎◌, Bool, List, [], ◌∷◌, ◌++◌, length, Option, Some, None, IfSome, map, option_map, string_bytes}
 use Rattle.std.specs.Io.KnownBytes.{Appends, Keeps}
 use Rattle.mt_cli.specs.declared.commands.TheConstants.{AREA_MIB, PAGES}
 use Rattle.mt_base.specs.Limits.{device_bytes_of}
 use Rattle.mt_base.specs.declared.refusal.Refusal.{Refusal}
 use Rattle.mt_disk.specs.declared.device.Device.{Ghosts}
 use Rattle.mt_model.specs.Views.{rows_of}
+use Rattle.mt_txn.specs.Shown.{Restarts}
 use Rattle.mt_txn.specs.declared.kernel.Kernel.{Kernel}
 use Rattle.mt_restart.specs.Schemas.{counters_in, device_bytes, relations_in, schema_base}
 use Rattle.mt_restart.specs.declared.schema.Schema.{Schema}
@@ -16,11 +17,13 @@ use Rattle.mt_args.specs.declared.command.Command.{Command}
 use Rattle.mt_args.specs.declared.command.Command.TheVariants.{Try, Schedule, Check, Format, Dump, Explain, Run, Show}
 use Rattle.mt_args.specs.declared.numbers.Numbers.{Numbers}
 use Rattle.mt_cli.specs.declared.faults.Fault.{Fault}
-use Rattle.mt_cli.specs.declared.faults.Fault.TheVariants.{Output, Refused, Unread, Unscheduled}
+use Rattle.mt_cli.specs.declared.faults.Fault.TheVariants.{Output, Refused, Stopped, Unread, Unscheduled}
 use Rattle.mt_alone.specs.declared.script_run.RunFault.{RunFault}
+use Rattle.mt_alone.specs.declared.stops.Stop.{Stop}
 use Rattle.mt_script.specs.Answers.{AppendsFront, transcript_text}
 use Rattle.mt_alone.specs.Driven.{IsBeside}
 use Rattle.mt_alone.specs.Plays.{Play, Runs}
+use Rattle.mt_alone.specs.Stops.{Ends, IsStopIn, lines_to, why_stopped}
 use Rattle.mt_cli.specs.Advice.{told_of, unread_text}
 use Rattle.mt_cli.specs.Checks.{HasChecked, IsUnchecked}
 use Rattle.mt_args.specs.CommandLines.{IsCommandOf}
@@ -34,7 +37,7 @@ use Rattle.mt_cli.specs.EventWords.{event_word}
 use Rattle.mt_cli.specs.Reads.{IsUnread, IsUnreadScript, source_of}
 use Rattle.mt_cli.specs.declared.event_words.EventWord.{EventWord}
 use Rattle.mt_cli.specs.declared.read_faults.ReadFault.{ReadFault}
-use Rattle.mt_cli.specs.Serves.{HasNotRun, HasRunScripts, IsEndedBy, fault_of}
+use Rattle.mt_cli.specs.Serves.{AreEndedBy, HasNotRun, HasRunScripts, fault_of}
 use Rattle.mt_cli.specs.Tellings.{told_lines}
 use Rattle.mt_script.specs.Scripts.{IsScript}
 use Rattle.mt_alone.specs.Runs.{HasTurned, IsToldFor, last_line}
@@ -58,27 +61,30 @@ pub record IsFirst (p : Play) : Type 0 where
   pub book : p.book ≡ []
   pub nothing : p.under_way ≡ None
 
--- a kernel stands beside it
+-- a kernel stands beside it, and can be restarted from its base
 pub record StandsFirst {D : Type 0} {g : Ghosts D} (seen : D → List ℕ) (may_leave : D → List ℕ → Type 0) (k : Kernel D g) : Type 0 where
   pub play : Play
   pub first : IsFirst play
   pub beside : IsBeside seen may_leave play None k
+  pub restarts : Restarts seen may_leave play.first k
   pub relations : k.relations ≡ 2
   pub counters : k.counters ≡ 1
 
--- `try` ran these lines on such a kernel. Each was answered as the model does, or refused for a cause that a kernel beside the play had then; the
--- texts of the answers were written.
-pub record HasTried {D : Type 0} (g : Ghosts D) (lines : List Line) (was now : Option (List ℕ)) : Type 0 where
+-- `try` ran these lines on such a kernel, or those up to the line that stopped it. Each was answered as the model does,
+-- or refused for a cause that a kernel beside the play had then; the texts of the answers were written.
+pub record HasTried {D : Type 0} (g : Ghosts D) (stop : Bool) (ending : Option Stop) (lines : List Line) (was now : Option (List ℕ)) : Type 0 where
   pub kernel : Kernel D g
   pub stands : StandsFirst g.seen g.may_leave kernel
   pub answers : List Answer
   pub last : Play × Kernel D g
-  pub ran : Runs (HasTurned g.seen g.may_leave) (stands.play, kernel) lines answers last
+  pub at : IsStopIn 1 lines ending
+  pub ran : Runs (HasTurned g.seen g.may_leave) (stands.play, kernel) (lines_to ending lines) answers last
+  pub ends : Ends stop (why_stopped ending) answers
   pub told : Appends was now (transcript_text (answers ++ last_line last.0.under_way))
 
--- those that the bytes spell, where they are known
-pub record IsTried {D : Type 0} (g : Ghosts D) (bytes was now : Option (List ℕ)) : Type 0 where
-  pub tried : (lines : List Line) × IfSome bytes (λ bs. IsScript bs lines) × HasTried g lines was now
+-- those that the bytes spell, if they are known
+pub record IsTried {D : Type 0} (g : Ghosts D) (stop : Bool) (bytes was now : Option (List ℕ)) : Type 0 where
+  pub tried : (lines : List Line) × IfSome bytes (λ bs. IsScript bs lines) × HasTried g stop None lines was now
 
 -- a kernel over such a device, formatted for that schema, answered these events so, and did what the answers say
 pub record HaveRun {D : Type 0} (g : Ghosts D) (events : List Event) (answers : List Told) : Type 0 where
@@ -87,7 +93,7 @@ pub record HaveRun {D : Type 0} (g : Ghosts D) (events : List Event) (answers : 
   pub standing : Standing D g
   pub ran : ∥ HasRunTo g.seen g.may_leave g.moment g.left_since g.faults (relations_in schema) (length (counters_in schema)) (schema_base schema) events answers standing ∥₁
 
--- those that the bytes spell, where they are known, and the texts of the answers were written
+-- those that the bytes spell, if they are known, and the texts of the answers were written
 pub record IsScheduled {D : Type 0} (g : Ghosts D) (bytes was now : Option (List ℕ)) : Type 0 where
   pub events : List Event
   pub spelled : IfSome bytes (λ bs. IsSchedule bs events)
@@ -103,21 +109,21 @@ pub record Around : Type 0 where
 
 -- what a command leaves on the output once it is done, and of the files
 abbrev pub IsDone : {D : Type 0} → Ghosts D → Command → Around → Option (List ℕ) → Option (List ℕ) → Type 0
-IsDone g (Try script) a was now = IsTried g (source_of a.before (option_map string_bytes script) a.input) was now × AreKept a.before a.after
+IsDone g (Try script stop) a was now = IsTried g stop (source_of a.before (option_map string_bytes script) a.input) was now × AreKept a.before a.after
 IsDone g (Schedule file) a was now = IsScheduled g (source_of a.before (option_map string_bytes file) a.input) was now × AreKept a.before a.after
-IsDone g (Check file pages) a was now = HasChecked pages (known_in a.before (string_bytes file)) was now × AreKept a.before a.after
-IsDone g (Format file numbers) a was now = Formats numbers a.before a.after (string_bytes file) × Keeps was now
-IsDone g (Dump file) a was now = HasDumped (known_in a.before (string_bytes file)) was now × StandsOn a.before a.after (string_bytes file)
-IsDone g (Explain file) a was now = HasExplained (known_in a.before (string_bytes file)) was now × AreKept a.before a.after
-IsDone g (Run frames file workers scripts) a was now = HasRunScripts workers a.before a.after (string_bytes file) (map string_bytes scripts.items) a.input was now
+IsDone g (Check file pages wait) a was now = HasChecked pages (known_in a.before (string_bytes file)) was now × AreKept a.before a.after
+IsDone g (Format file numbers wait) a was now = Formats numbers a.before a.after (string_bytes file) × Keeps was now
+IsDone g (Dump file wait) a was now = HasDumped (known_in a.before (string_bytes file)) was now × StandsOn a.before a.after (string_bytes file)
+IsDone g (Explain file wait) a was now = HasExplained (known_in a.before (string_bytes file)) was now × AreKept a.before a.after
+IsDone g (Run frames file workers scripts wait stop) a was now = HasRunScripts stop workers a.before a.after (string_bytes file) (map string_bytes scripts.items) a.input was now
 IsDone g (Show text) a was now = Appends was now (string_bytes text) × AreKept a.before a.after
 
 -- and what the command that words name leaves there
 abbrev pub IsWordsDone : {D : Type 0} → Ghosts D → List (List ℕ) → Around → Option (List ℕ) → Option (List ℕ) → Type 0
 IsWordsDone g words a was now = (command : Command) × IsCommandOf words command × IsDone g command a was now
 
--- the line of a fault of a command was written, and after it what it is about and what to do, or a beginning of that. The folder's call
--- failed for this reason, if one did.
+-- the line of a fault of a command was written, and after it what it is about and what to do, or a beginning of that.
+-- The folder's call failed for this reason, if one did.
 abbrev pub IsToldOf : Command → Option Reason → Fault → Option (List ℕ) → Option (List ℕ) → Type 0
 IsToldOf command reason fault was now = AppendsFront was now (told_of command reason fault)
 
@@ -142,20 +148,23 @@ pub record IsShort {D : Type 0} (g : Ghosts D) (lines : List Line) (was now : Op
   pub last : Play × Kernel D g
   pub ran : Runs (HasTurned g.seen g.may_leave) (stands.play, kernel) before answers last
   pub told : IsToldFor was now answers why
-  pub ended : IsEndedBy why
+  pub ended : AreEndedBy why
 
--- why these lines did not run to their end: nothing is written where no kernel is made, and else the
--- run was cut short
-pub data IsCutTrial {D : Type 0} (g : Ghosts D) (lines : List Line) (was now : Option (List ℕ)) : Fault → Type 0 where
-  unmade : (why : Refusal) → IsUnmade why → Keeps was now → IsCutTrial g lines was now (Refused why)
-  cut : (why : RunFault) (fault : Fault) → IsShort g lines was now why → fault ≡ fault_of why → IsCutTrial g lines was now fault
+-- why these lines did not run to their end: nothing is written if no kernel is made, and else a line stopped
+-- the run, or it was cut short
+pub data IsCutTrial {D : Type 0} (g : Ghosts D) (stop : Bool) (lines : List Line) (was now : Option (List ℕ)) : Fault → Type 0 where
+  unmade : (why : Refusal) → IsUnmade why → Keeps was now → IsCutTrial g stop lines was now (Refused why)
+  stopped : (at : Stop) → HasTried g stop (Some at) lines was now → IsCutTrial g stop lines was now (Stopped at)
+  cut : (why : RunFault) (fault : Fault) → IsShort g lines was now why → fault ≡ fault_of why
+      → IsCutTrial g stop lines was now fault
 
--- why a script of these bytes was not run to its end: nothing is written where it is not read
-pub data IsUntried {D : Type 0} (g : Ghosts D) (bytes was now : Option (List ℕ)) : Fault → Type 0 where
-  unread : (why : ReadFault ScriptWord) → IsUnreadScript bytes why → Keeps was now → IsUntried g bytes was now (Unread why 0)
-  untried : (lines : List Line) (fault : Fault) → IfSome bytes (λ bs. IsScript bs lines) → IsCutTrial g lines was now fault → IsUntried g bytes was now fault
+-- why a script of these bytes was not run to its end: nothing is written if it is not read
+pub data IsUntried {D : Type 0} (g : Ghosts D) (stop : Bool) (bytes was now : Option (List ℕ)) : Fault → Type 0 where
+  unread : (why : ReadFault ScriptWord) → IsUnreadScript bytes why → Keeps was now
+      → IsUntried g stop bytes was now (Unread why 0)
+  untried : (lines : List Line) (fault : Fault) → IfSome bytes (λ bs. IsScript bs lines) → IsCutTrial g stop lines was now fault → IsUntried g stop bytes was now fault
 
--- why a schedule of these bytes did not run to its end: nothing is written where it is not read or no kernel is made,
+-- why a schedule of these bytes did not run to its end: nothing is written if it is not read or no kernel is made,
 -- and else the output failed within the texts of the answers
 pub data IsUnscheduled {D : Type 0} (g : Ghosts D) (bytes was now : Option (List ℕ)) : Fault → Type 0 where
   unspelled : (why : ReadFault EventWord) → IsUnread event_text IsEvent event_word bytes why → Keeps was now → IsUnscheduled g bytes was now (Unscheduled why)
@@ -167,22 +176,23 @@ pub data IsUnscheduled {D : Type 0} (g : Ghosts D) (bytes was now : Option (List
 abbrev pub IsFormatFault : Numbers → Fault → Type 0
 IsFormatFault numbers Output = ⊥
 IsFormatFault numbers (Refused why) = IsUnformed numbers why
+IsFormatFault numbers (Stopped at) = ⊥
 IsFormatFault numbers (Unread why at) = ⊥
 IsFormatFault numbers (Unscheduled why) = ⊥
 
 -- what a command that ended with this fault left on the output, and of the files
 abbrev pub IsUndone : {D : Type 0} → Ghosts D → Command → Around → Option (List ℕ) → Option (List ℕ) → Fault → Type 0
-IsUndone g (Try script) a was now fault = IsUntried g (source_of a.before (option_map string_bytes script) a.input) was now fault × AreKept a.before a.after
+IsUndone g (Try script stop) a was now fault = IsUntried g stop (source_of a.before (option_map string_bytes script) a.input) was now fault × AreKept a.before a.after
 IsUndone g (Schedule file) a was now fault = IsUnscheduled g (source_of a.before (option_map string_bytes file) a.input) was now fault × AreKept a.before a.after
-IsUndone g (Check file pages) a was now fault = IsUnchecked pages (known_in a.before (string_bytes file)) was now fault × AreKept a.before a.after
-IsUndone g (Format file numbers) a was now fault = IsFormatFault numbers fault × AreKept a.before a.after × Keeps was now
-IsUndone g (Dump file) a was now fault = IsUndumped (known_in a.before (string_bytes file)) was now fault × AreLeftBy a.before a.after (string_bytes file) fault
-IsUndone g (Explain file) a was now fault = IsUnexplained (known_in a.before (string_bytes file)) was now fault × AreKept a.before a.after
-IsUndone g (Run frames file workers scripts) a was now fault = HasNotRun workers a.before a.after (string_bytes file) (map string_bytes scripts.items) a.input was now fault
+IsUndone g (Check file pages wait) a was now fault = IsUnchecked pages (known_in a.before (string_bytes file)) was now fault × AreKept a.before a.after
+IsUndone g (Format file numbers wait) a was now fault = IsFormatFault numbers fault × AreKept a.before a.after × Keeps was now
+IsUndone g (Dump file wait) a was now fault = IsUndumped (known_in a.before (string_bytes file)) was now fault × AreLeftBy a.before a.after (string_bytes file) fault
+IsUndone g (Explain file wait) a was now fault = IsUnexplained (known_in a.before (string_bytes file)) was now fault × AreKept a.before a.after
+IsUndone g (Run frames file workers scripts wait stop) a was now fault = HasNotRun stop workers a.before a.after (string_bytes file) (map string_bytes scripts.items) a.input was now fault
 IsUndone g (Show text) a was now fault = (fault ≡ Output) × AppendsFront was now (string_bytes text) × AreKept a.before a.after
 
--- A command ended with a fault, or it was done and the output could not be flushed. The error output reports it, and what to do, or has a
--- beginning of that.
+-- A command ended with a fault, or it was done and the output could not be flushed. The error output reports it, and
+-- what to do, or has a beginning of that.
 pub record IsGivenUp {D : Type 0} (g : Ghosts D) (command : Command) (reason : Option Reason) (a : Around) (was now old new : Option (List ℕ)) : Type 0 where
   pub given_up : (fault : Fault) × (mid : Option (List ℕ)) × (IsUndone g command a was mid fault ⊎ (IsDone g command a was mid × (fault ≡ Output)))
       × Keeps mid now × IsToldOf command reason fault old new

@@ -1,4 +1,4 @@
--- Scripts that are read by name: from files, and from the input where the name is a dash.
+-- Scripts that are read by name: from files, and from the input if the name is a dash.
 use Rattle.std.specs.Prelude.{ℕ, ◌≡◌, Bool, cond, false, true, List, [], ◌∷◌, ◌++◌, Option, Some, None, IfSome, bytes_eq, codes, length, nat_eq, nat_lt}
 use Rattle.std.specs.List.{starts_with}
 use Rattle.mt_base.specs.declared.refusal.Refusal.{Refusal}
@@ -27,7 +27,7 @@ is_input name = bytes_eq name (codes "-")
 abbrev pub bytes_at : Files → List ℕ → Option (List ℕ) → Option (List ℕ)
 bytes_at files name input = cond (is_input name) input (known_in files name)
 
--- the bytes of a script or a schedule, where they are known: of the input if there is no name
+-- the bytes of a script or a schedule, if they are known: of the input if there is no name
 abbrev pub source_of : Files → Option (List ℕ) → Option (List ℕ) → Option (List ℕ)
 source_of files None input = input
 source_of files (Some name) input = bytes_at files name input
@@ -93,13 +93,13 @@ IsUnreadScript bytes why = IsUnread line_text IsInGrammar script_word bytes why
 abbrev pub input_behind : List ℕ → Option (List ℕ) → Option (List ℕ)
 input_behind name input = cond (is_input name) None input
 
--- One script is read, and the input only where the name represents it.
+-- One script is read, and the input only if the name represents it.
 pub record IsReadAt (files : Files) (input : Option (List ℕ)) (name : List ℕ) (lines : List Line) (later : Option (List ℕ)) : Type 0 where
   pub spelled : IfSome (bytes_at files name input) (λ bs. IsScript bs lines)
   pub untouched : is_input name ≡ false → later ≡ input
 
--- The scripts of these names are read one after the other: the bytes of each are its lines, where they are known. So much is known of the
--- input then.
+-- The scripts of these names are read one after the other: the bytes of each are its lines, if they are known. So
+-- much is known of the input then.
 pub data AreRead (files : Files) (input : Option (List ℕ)) : List (List ℕ) → List (List Line) → Option (List ℕ) → Type 0 where
   none_read : AreRead files input [] [] input
   one_read : (names : List (List ℕ)) (scripts : List (List Line)) (left : Option (List ℕ)) (name : List ℕ) (lines : List Line)
@@ -125,5 +125,6 @@ pub record AreUnread (files : Files) (input : Option (List ℕ)) (names : List (
 abbrev pub HasNoScript : Files → Option (List ℕ) → List (List ℕ) → Fault → Type 0
 HasNoScript files input names (fault.Unread why at) = AreUnread files input names at why
 HasNoScript files input names (fault.Unscheduled why) = ⊥
+HasNoScript files input names (fault.Stopped at) = ⊥
 HasNoScript files input names (fault.Refused why) = ⊥
 HasNoScript files input names fault.Output = ⊥

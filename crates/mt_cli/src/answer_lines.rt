@@ -15,7 +15,7 @@ use mt_txn::{AbortStepped, Called, KernelForced, Stepped};
 use mt_world::Answer;
 use std::io::Write;
 
-/// Writes a line of a word and the number behind it.
+/// Writes a line of a word and the number after it.
 pub(crate) fn write_number<W: Write>(writer: &mut W, word: &str, number: u64) -> Result<(), Unheard>
     ensures all { OnOk result (Appends (W.contents writer.old) (W.contents writer.new)
         (word.now ++ (decimal number ++ 10 ∷ []))) }
@@ -72,7 +72,7 @@ fn write_backed<W: Write>(writer: &mut W, backed: AbortStepped) -> Result<(), Un
     }
 }
 
-/// Writes the name of a transaction behind a space.
+/// Writes the name of a transaction after a space.
 fn write_name<W: Write>(writer: &mut W, name: TxnNo) -> Result<(), Unheard>
     ensures all { OnOk result (Appends (W.contents writer.old) (W.contents writer.new) (name_text name)) }
     ensures front { OnErr result (AppendsFront (W.contents writer.old) (W.contents writer.new) (name_text name)) }
@@ -83,7 +83,7 @@ fn write_name<W: Write>(writer: &mut W, name: TxnNo) -> Result<(), Unheard>
     put(writer, digits.as_bytes())
 }
 
-/// Writes the names of transactions, each behind a space.
+/// Writes the names of transactions, each after a space.
 fn write_names<W: Write>(writer: &mut W, names: &[TxnNo]) -> Result<(), Unheard>
     ensures all { OnOk result (Appends (W.contents writer.old) (W.contents writer.new)
         (concat (map name_text names.now))) }
@@ -136,7 +136,7 @@ fn write_flushed<W: Write>(writer: &mut W, flushed: Flushed) -> Result<(), Unhea
     }
 }
 
-/// Writes what a kernel answered to an event, as one line. Where the writer fails, it has written a beginning of
+/// Writes what a kernel answered to an event, as one line. If the writer fails, it has written a beginning of
 /// the line.
 pub(crate) fn write_told<W: Write>(writer: &mut W, answer: &Answer) -> Result<(), Unheard>
     ensures all { OnOk result (Appends (W.contents writer.old) (W.contents writer.new) (told_line answer.now)) }
@@ -157,7 +157,7 @@ pub(crate) fn write_told<W: Write>(writer: &mut W, answer: &Answer) -> Result<()
     }
 }
 
-/// Writes what a kernel answered to events, a line each. Where the writer fails, it has written a beginning of
+/// Writes what a kernel answered to events, a line each. If the writer fails, it has written a beginning of
 /// them.
 pub(crate) fn write_all_told<W: Write>(writer: &mut W, answers: &[Answer]) -> Result<(), Unheard>
     ensures all { OnOk result (Appends (W.contents writer.old) (W.contents writer.new) (told_lines answers.now)) }

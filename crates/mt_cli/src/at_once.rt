@@ -11,6 +11,7 @@ ghost use Rattle.mt_txn.specs.Turned.{HasNobody};
 ghost use Rattle.mt_cli.specs.Serves.{AreServedAtOnce, IsEndOf, IsServedAtOnce, IsUnservedAtOnce, session_text, texts_in_order};
 
 use crate::faults::Fault;
+use crate::waits::Patience;
 use itoa::Buffer;
 use mt_base::Refusal;
 use mt_base::limits::MAX_SESSIONS;
@@ -24,13 +25,16 @@ use std::alloc::Global;
 use std::io::Write;
 use std::sync::Wait;
 use std::thread::Threads;
+use std::time::Clock;
 
-/// Which device is served: the name of its file, the pages in frames, and how many workers serve it.
+/// Which device is served: the name of its file, the pages in frames, how many workers serve it, and whether one worker
+/// is to stop at a refusal.
 #[derive(Clone, Copy)]
 pub(crate) struct Service<'a> {
     pub name: &'a str,
     pub frames: usize,
     pub workers: usize,
+    pub stop: bool,
 }
 
 /// What scripts that were served at once leave: their transcripts, the device, and whether it failed meanwhile.
@@ -47,7 +51,7 @@ fn is_cut_off<D: Device>(kernel: &Kernel<D>) -> bool
     kernel.has_failed() || !kernel.has_nobody()
 }
 
-/// Takes the device out of a kernel behind all sessions.
+/// Takes the device out of a kernel under all sessions.
 fn left_behind<D: Device + Drop>(kernel: Kernel<D>, transcripts: Vec<Transcript>) -> Behind<D>
     ensures { (c : List ℕ) (scripts : List (List Line)) → IsServedOn D.seen D.may_leave c kernel
         → AreTold (is_failed kernel) scripts transcripts.items kernel.core.book.items
@@ -87,7 +91,7 @@ fn serve_over_at_once<
     Ok(left_behind(kernel, transcripts))
 }
 
-/// Writes the line of a session, and its transcript. Where the writer fails, it has written a beginning of them.
+/// Writes the line of a session, and its transcript. If the writer fails, it has written a beginning of them.
 fn write_session<W: Write>(
     writer: &mut W,
     session: usize,
@@ -106,7 +110,7 @@ fn write_session<W: Write>(
     )
 }
 
-/// Writes transcripts in order, as sessions from 1 on. Where the writer fails, it has written a beginning of them.
+/// Writes transcripts in order, as sessions from 1 on. If the writer fails, it has written a beginning of them.
 fn write_sessions<W: Write>(writer: &mut W, transcripts: &[Transcript]) -> Result<(), Unheard>
     ensures all { OnOk result (Appends (W.contents writer.old) (W.contents writer.new)
         (texts_in_order transcripts.now)) }
@@ -119,7 +123,7 @@ fn write_sessions<W: Write>(writer: &mut W, transcripts: &[Transcript]) -> Resul
     Ok(())
 }
 
-/// Writes the transcripts of scripts that were served, and tells how the command ends. It ends by the device's
+/// Writes the transcripts of scripts that were served, and answers how the command ends. It ends by the device's
 /// failure, if it failed meanwhile, and else by that of the output, if that failed.
 fn tell_sessions<O: Write>(
     out: &mut O,
@@ -142,16 +146,17 @@ fn tell_sessions<O: Write>(
     }
 }
 
-/// Serves scripts by several workers to the device in the file of this name, and writes their transcripts. The gate is told
-/// of what it wants to be told of meanwhile.
+/// Serves scripts by several workers to the device in the file of this name, and writes their transcripts. The gate
+/// is called at what it wants to see meanwhile.
 pub(crate) fn serve_file_at_once<
     F: Folder,
     O: Write,
     G: Gate + Drop + Send + Sync,
-    R: Threads + Wait + Sync,
+    R: Threads + Wait + Clock + Sync,
 >(
     rt: &R,
     alloc: Global,
+    patience: &Patience<'_, R>,
     folder: &mut F,
     service: Service,
     scripts: Vec<Script>,
@@ -163,7 +168,7 @@ pub(crate) fn serve_file_at_once<
     ensures unserved { IfErr result (IsUnservedAtOnce (F.files folder.old) (F.files folder.new) service.entry.name.now
         (map lines_in scripts.items) (O.contents out.old) (O.contents out.new)) }
 {
-    let device = match folder.device(service.name) {
+    let device = match patience.device(folder, service.name) {
         Ok(device) => device,
         Err(refusal) => return Err(Fault::Refused(refusal)),
     };

@@ -1,4 +1,4 @@
-// `check`: what is told of the device in a file, without a write.
+// `check`: what is reported of the device in a file, by a copy of it.
 ghost use Rattle.std.specs.Prelude.{◌≡◌, IfErr, IfOk, OnErr, OnOk, map};
 ghost use Rattle.std.specs.List.{concat};
 ghost use Rattle.std.specs.Io.KnownBytes.{Appends};
@@ -9,6 +9,7 @@ ghost use Rattle.mt_folder.specs.Folders.{AreKept, known_in};
 
 use crate::answer_lines::write_number;
 use crate::faults::Fault;
+use crate::waits::Patience;
 use mt_base::Refusal;
 use mt_disk::Device;
 use mt_folder::Folder;
@@ -16,6 +17,7 @@ use mt_restart::{Report, inspect, report};
 use mt_script::{Unheard, put};
 use std::alloc::Global;
 use std::io::Write;
+use std::time::Clock;
 
 /// Has the pages of a device inspected.
 fn look_at_pages<D: Device>(alloc: Global, device: &mut D) -> Result<(), Refusal>
@@ -27,7 +29,7 @@ fn look_at_pages<D: Device>(alloc: Global, device: &mut D) -> Result<(), Refusal
     Ok(())
 }
 
-/// What is told of a device, whose pages are inspected too where that is asked for.
+/// The report on a device, whose pages are inspected too if that is asked for.
 fn told_of<D: Device>(alloc: Global, device: &mut D, pages: bool) -> Result<Report, Refusal>
     ensures told { IfOk result (Tells pages (D.seen device.old)) }
     ensures cause { IfErr result (IsRefusedFor pages (D.seen device.old)) }
@@ -40,9 +42,10 @@ fn told_of<D: Device>(alloc: Global, device: &mut D, pages: bool) -> Result<Repo
     Ok(told)
 }
 
-/// What is told of the device in the file of this name.
-fn told_of_file<F: Folder>(
+/// What is reported of the device in the file of this name.
+fn told_of_file<F: Folder, R: Clock>(
     alloc: Global,
+    patience: &Patience<'_, R>,
     folder: &mut F,
     name: &str,
     pages: bool,
@@ -51,13 +54,11 @@ fn told_of_file<F: Folder>(
     ensures cause { IfErr result (IsUntold pages (known_in (F.files folder.old) name.now)) }
     ensures kept { AreKept (F.files folder.old) (F.files folder.new) }
 {
-    let mut device = folder.device(name)?;
-    let told = told_of(alloc, &mut device, pages);
-    folder.back(name, device);
-    told
+    let mut device = patience.copy(folder, name)?;
+    told_of(alloc, &mut device, pages)
 }
 
-/// Writes a line for each of these figures: its word, and its number behind it.
+/// Writes a line for each of these figures: its word, and its number after it.
 pub(crate) fn write_figures<W: Write>(
     writer: &mut W,
     figures: &[(&str, u64)],
@@ -96,7 +97,7 @@ fn last_line(pages: bool) -> &'static str
     if pages { "pages ok\n" } else { "" }
 }
 
-/// Writes what a check tells.
+/// Writes the report of a check.
 fn write_check<W: Write>(writer: &mut W, report: &Report, pages: bool) -> Result<(), Unheard>
     ensures all { OnOk result (Appends (W.contents writer.old) (W.contents writer.new)
         (check_text pages report.now)) }
@@ -107,10 +108,11 @@ fn write_check<W: Write>(writer: &mut W, report: &Report, pages: bool) -> Result
     put(writer, last_line(pages).as_bytes())
 }
 
-/// Does `check`: tells what the log of the device in a file holds, and that its pages break no rule where that is asked
-/// for. The device is only read. Where it is refused, nothing is written.
-pub(crate) fn perform_check<F: Folder, O: Write>(
+/// Does `check`: reports what the log of the device in a file holds, and that its pages break no rule if that is asked
+/// for. The file is only read. If the check is refused, nothing is written.
+pub(crate) fn perform_check<F: Folder, O: Write, R: Clock>(
     alloc: Global,
+    patience: &Patience<'_, R>,
     folder: &mut F,
     name: &str,
     pages: bool,
@@ -122,7 +124,7 @@ pub(crate) fn perform_check<F: Folder, O: Write>(
         (O.contents out.old) (O.contents out.new)) }
     ensures kept { AreKept (F.files folder.old) (F.files folder.new) }
 {
-    match told_of_file(alloc, folder, name, pages) {
+    match told_of_file(alloc, patience, folder, name, pages) {
         Ok(report) => match write_check(out, &report, pages) {
             Ok(()) => Ok(()),
             Err(_) => Err(Fault::Output),

@@ -1,5 +1,5 @@
 // The commands, done.
-ghost use Rattle.std.specs.Prelude.{◌≡◌, ◌≢◌, ◌≤◌, IfOk, IfErr, IfSome, IsOk, MatchResult, codes, OnOk, OnErr, length, map, option_map};
+ghost use Rattle.std.specs.Prelude.{◌≡◌, ◌≢◌, ◌≤◌, IfOk, IfErr, IfSome, IsOk, MatchResult, None, codes, OnOk, OnErr, length, map, option_map};
 ghost use Rattle.mt_disk.specs.Memory.{content};
 ghost use Rattle.mt_script.specs.Answers.{AppendsFront};
 ghost use Rattle.mt_args.specs.CommandLines.{IsMistaken};
@@ -19,9 +19,10 @@ use crate::explain_command::perform_explain;
 use crate::faults::{Fault, tell, tell_unread};
 use crate::format_command::perform_format;
 use crate::named_inputs::lines_of;
-use crate::run_command::perform_run;
+use crate::run_command::{ended, perform_run};
 use crate::schedules::ScheduleGrammar;
-use mt_alone::{RunFault, run_alone};
+use crate::waits::Patience;
+use mt_alone::run_script;
 use mt_args::{CliFault, Command, command_of};
 use mt_base::Refusal;
 use mt_base::limits::device_bytes;
@@ -36,8 +37,9 @@ use std::alloc::Global;
 use std::io::{Read, Write};
 use std::sync::Wait;
 use std::thread::Threads;
+use std::time::Clock;
 
-/// The status of a command that was done; refusals within a transcript count as done.
+/// The status of a command that was done; refusals within a transcript count as done, unless one is to stop it.
 const DONE: u8 = 0;
 
 /// The status of a command that was refused, or whose output could not be written.
@@ -101,37 +103,46 @@ fn kernel_over<D: Device + Drop>(alloc: Global, device: D) -> Result<Kernel<D>, 
 fn run_over<D: Device + Drop, O: Write>(
     alloc: Global,
     device: D,
+    stop: bool,
     script: &Script,
     out: &mut O,
 ) -> Result<(), Fault>
     requires { device_bytes_of PAGES AREA_MIB ≤ length (D.seen device) }
-    ensures tried { OnOk result (HasTried D.Device script.now.lines.items
+    ensures tried { OnOk result (HasTried D.Device stop None script.now.lines.items
         (O.contents out.old) (O.contents out.new)) }
-    ensures cut { IfErr result (IsCutTrial D.Device script.now.lines.items
+    ensures cut { IfErr result (IsCutTrial D.Device stop script.now.lines.items
         (O.contents out.old) (O.contents out.new)) }
 {
-    let mut kernel = match kernel_over(alloc, device) {
+    let kernel = match kernel_over(alloc, device) {
         Ok(kernel) => kernel,
         Err(refusal) => return Err(Fault::Refused(refusal)),
     };
-    let ran = run_alone(&mut kernel, 1, script, out);
-    let _device = kernel.into_device();
-    match ran {
-        Ok(()) => Ok(()),
-        Err(RunFault::Output) => Err(Fault::Output),
-        Err(RunFault::Refused(refusal)) => Err(Fault::Refused(refusal)),
+    match run_script(alloc, kernel, FRAMES, 1, stop, script, out) {
+        Ok((kernel, stopped)) => {
+            let _device = kernel.into_device();
+            ended(Ok(stopped))
+        }
+        Err(left) => {
+            let (why, _device) = left.into_device();
+            ended(Err(why))
+        }
     }
 }
 
 /// Runs a script over a device in memory, and writes its transcript.
-fn try_script<O: Write>(alloc: Global, script: &Script, out: &mut O) -> Result<(), Fault>
-    ensures tried { OnOk result (HasTried ⟦<MemDevice as Device>⟧ script.now.lines.items
+fn try_script<O: Write>(
+    alloc: Global,
+    stop: bool,
+    script: &Script,
+    out: &mut O,
+) -> Result<(), Fault>
+    ensures tried { OnOk result (HasTried ⟦<MemDevice as Device>⟧ stop None script.now.lines.items
         (O.contents out.old) (O.contents out.new)) }
-    ensures cut { IfErr result (IsCutTrial ⟦<MemDevice as Device>⟧ script.now.lines.items
+    ensures cut { IfErr result (IsCutTrial ⟦<MemDevice as Device>⟧ stop script.now.lines.items
         (O.contents out.old) (O.contents out.new)) }
 {
     match first_device(alloc) {
-        Ok(device) => run_over(alloc, device, script, out),
+        Ok(device) => run_over(alloc, device, stop, script, out),
         Err(refusal) => Err(Fault::Refused(refusal)),
     }
 }
@@ -141,19 +152,20 @@ fn perform_try<F: Folder, I: Read, O: Write>(
     alloc: Global,
     folder: &mut F,
     name: Option<&str>,
+    stop: bool,
     input: &mut I,
     out: &mut O,
 ) -> Result<(), Fault>
-    ensures tried { OnOk result (IsTried ⟦<MemDevice as Device>⟧
+    ensures tried { OnOk result (IsTried ⟦<MemDevice as Device>⟧ stop
         (source_of (F.files folder.old) (option_map (λ n. n.now) name.entry) (I.remaining input.old))
         (O.contents out.old) (O.contents out.new)) }
-    ensures untried { IfErr result (IsUntried ⟦<MemDevice as Device>⟧
+    ensures untried { IfErr result (IsUntried ⟦<MemDevice as Device>⟧ stop
         (source_of (F.files folder.old) (option_map (λ n. n.now) name.entry) (I.remaining input.old))
         (O.contents out.old) (O.contents out.new)) }
     ensures kept { AreKept (F.files folder.old) (F.files folder.new) }
 {
     match lines_of::<ScriptGrammar, F, I>(alloc, folder, name, input) {
-        Ok(lines) => try_script(alloc, &Script::new(lines), out),
+        Ok(lines) => try_script(alloc, stop, &Script::new(lines), out),
         Err(why) => Err(Fault::Unread(why, 0)),
     }
 }
@@ -254,7 +266,13 @@ fn show<O: Write>(text: &str, out: &mut O) -> Result<(), Fault>
 }
 
 /// Does a command.
-fn do_command<F: Folder, I: Read, O: Write, G: Gate + Drop + Send + Sync, R: Threads + Wait + Sync>(
+fn do_command<
+    F: Folder,
+    I: Read,
+    O: Write,
+    G: Gate + Drop + Send + Sync,
+    R: Threads + Wait + Clock + Sync,
+>(
     rt: &R,
     alloc: Global,
     command: &Command,
@@ -270,37 +288,45 @@ fn do_command<F: Folder, I: Read, O: Write, G: Gate + Drop + Send + Sync, R: Thr
         (record { before = F.files folder.old; after = F.files folder.new; input = I.remaining input.old })
         (O.contents out.old) (O.contents out.new)) }
 {
+    let patience = Patience::of(rt, command);
     match command {
-        Command::Try { script: Some(name) } => {
-            perform_try(alloc, folder, Some(name.as_str()), input, out)
-        }
-        Command::Try { script: None } => perform_try(alloc, folder, None, input, out),
+        Command::Try {
+            script: Some(name),
+            stop,
+        } => perform_try(alloc, folder, Some(name.as_str()), *stop, input, out),
+        Command::Try { script: None, stop } => perform_try(alloc, folder, None, *stop, input, out),
         Command::Schedule { file: Some(name) } => {
             perform_schedule(alloc, folder, Some(name.as_str()), input, out)
         }
         Command::Schedule { file: None } => perform_schedule(alloc, folder, None, input, out),
-        Command::Check { file, pages } => {
-            perform_check(alloc, folder, file.as_str(), *pages, out)
+        Command::Check { file, pages, .. } => {
+            perform_check(alloc, &patience, folder, file.as_str(), *pages, out)
         }
-        Command::Format { file, numbers } => {
-            perform_format(alloc, folder, file.as_str(), numbers)
+        Command::Format { file, numbers, .. } => {
+            perform_format(alloc, &patience, folder, file.as_str(), numbers)
         }
-        Command::Dump { file } => perform_dump(alloc, folder, file.as_str(), out),
-        Command::Explain { file } => perform_explain(alloc, folder, file.as_str(), out),
+        Command::Dump { file, .. } => perform_dump(alloc, &patience, folder, file.as_str(), out),
+        Command::Explain { file, .. } => {
+            perform_explain(alloc, &patience, folder, file.as_str(), out)
+        }
         Command::Run {
             frames,
             file,
             workers,
             scripts,
+            stop,
+            ..
         } => {
             let service = Service {
                 name: file.as_str(),
                 frames: *frames,
                 workers: *workers,
+                stop: *stop,
             };
             perform_run(
                 rt,
                 alloc,
+                &patience,
                 folder,
                 service,
                 scripts.as_slice(),
@@ -315,25 +341,27 @@ fn do_command<F: Folder, I: Read, O: Write, G: Gate + Drop + Send + Sync, R: Thr
 
 /// Does a command, and answers the status of the program:
 ///
-/// - 0: it was done. Refusals within a transcript count as done.
+/// - 0: it was done. Refusals within a transcript count as done, unless the command is to stop at one.
 /// - 1: it was refused, or `out` could not be written. The refusal's text is on `err`, with the file that it is about
-///   in a line after it, and what to do or why the folder's call failed. An input that cannot be read, and a file that is not there or cannot be
-///   read, is refusal 2.
+/// in a line after it, and what to do or why the folder's call failed. An input that cannot be read, and a file that
+/// is not there or cannot be   read, is refusal 2.
 ///
-/// A script or a schedule is read whole before any of it runs, and all scripts of `run` before the first of them runs.
-/// A device is only read by `check` and `explain`, and where `format` is refused each file is as it was. A device that
-/// is opened by `dump` is written to, and stands for what it stood for. `run` serves one script after the other where it
-/// has one worker, and else all at once, by threads; it may wait then. It gives the device back to its file, but where
-/// serving by several workers is refused: what the file has is not told then. Each other file is as it was.
+/// A script or a schedule is read whole before any of it runs, and all scripts of `run` before the first of them
+/// runs. A device is only read by `check` and `explain`, and if `format` is refused each file is as it was. A device
+/// that is opened by `dump` is written to, and represents what it represented. `run` serves one script after the
+/// other if it has one worker, and else all at once, by threads; it may wait then. It gives the device back to its
+/// file, but if serving by several workers is refused: what the file has is not stated then. Each other file is as it
+/// was. By one worker `run`, and `try`, stop at a refused line if they are to: at the first that is not refused with
+/// `Escrow` or `Die`.
 ///
-/// The gate is told where sessions stand that are served at once, of what it wants to be told of.
+/// The gate is called at the points of sessions served at once that it wants to see.
 pub fn perform<
     F: Folder,
     I: Read,
     O: Write,
     E: Write,
     G: Gate + Drop + Send + Sync,
-    R: Threads + Wait + Sync,
+    R: Threads + Wait + Clock + Sync,
 >(
     rt: &R,
     alloc: Global,
@@ -356,15 +384,15 @@ pub fn perform<
     finish(command, &folder.reason(), done, out, err)
 }
 
-/// Does the command that these words name, those behind the program's name, and answers the status. That is the
-/// status of [`perform`], or 2 with what is wrong on `err` where they name none.
+/// Does the command that these words name, those after the program's name, and answers the status. That is the
+/// status of [`perform`], or 2 with what is wrong on `err` if they name none.
 pub fn perform_words<
     F: Folder,
     I: Read,
     O: Write,
     E: Write,
     G: Gate + Drop + Send + Sync,
-    R: Threads + Wait + Sync,
+    R: Threads + Wait + Clock + Sync,
 >(
     rt: &R,
     alloc: Global,
@@ -381,7 +409,8 @@ pub fn perform_words<
         (O.contents out.old) (O.contents out.new) }
     ensures told { result ≡ 1 → IsWordsTold (E.contents err.old) (E.contents err.new) }
     ensures given_up { result ≡ 1 → IsWordsGivenUp ⟦<MemDevice as Device>⟧ (map (λ word. word.now) words.now)
-        (F.why folder.new) (record { before = F.files folder.old; after = F.files folder.new; input = I.remaining input.old })
+        (F.why folder.new)
+        (record { before = F.files folder.old; after = F.files folder.new; input = I.remaining input.old })
         (O.contents out.old) (O.contents out.new) (E.contents err.old) (E.contents err.new) }
     ensures misused { result ≡ 2 → IsMistaken (map (λ word. word.now) words.now) × (out.new ≡ out.old)
         × (folder.new ≡ folder.old) }

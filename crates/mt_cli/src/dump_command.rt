@@ -12,6 +12,7 @@ ghost use Rattle.mt_folder.specs.Folders.{IsUnmade, known_in};
 
 use crate::check_command::write_figures;
 use crate::faults::Fault;
+use crate::waits::Patience;
 use mt_base::Refusal;
 use mt_disk::Device;
 use mt_explain::{write_counters, write_rows};
@@ -22,6 +23,7 @@ use mt_script::Unheard;
 use mt_txn::Kernel;
 use std::alloc::Global;
 use std::io::Write;
+use std::time::Clock;
 
 /// Pages that the kernel keeps in frames: as few as it may, since a survey needs none.
 const FRAMES: usize = 32;
@@ -54,13 +56,18 @@ fn survey_of<D: Device + Drop>(alloc: Global, device: D) -> (Result<Survey, Refu
 }
 
 /// Opens the device in the file of this name, and surveys it.
-fn survey_of_file<F: Folder>(alloc: Global, folder: &mut F, name: &str) -> Result<Survey, Refusal>
+fn survey_of_file<F: Folder, R: Clock>(
+    alloc: Global,
+    patience: &Patience<'_, R>,
+    folder: &mut F,
+    name: &str,
+) -> Result<Survey, Refusal>
     ensures told { IfOk result (DumpsOf (known_in (F.files folder.old) name.now)) }
     ensures cause { IfErr result (IsUnopened (known_in (F.files folder.old) name.now)) }
     ensures stands { OnOk result (StandsOn (F.files folder.old) (F.files folder.new) name.now) }
     ensures left { IfErr result (AreLeft (F.files folder.old) (F.files folder.new) name.now) }
 {
-    let device = folder.device(name)?;
+    let device = patience.device(folder, name)?;
     let surveyed = survey_of(alloc, device);
     let (told, device) = surveyed;
     folder.back(name, device);
@@ -92,11 +99,12 @@ fn write_dump<W: Write>(writer: &mut W, survey: &Survey) -> Result<(), Unheard>
     write_counters(writer, survey.base.counters())
 }
 
-/// Does `dump`: opens the device in a file, as a restart does, and prints its base. The file then stands for what it
-/// stood for. Where that is refused, but for want of memory or a failed device, each file is as it was. Nothing is
+/// Does `dump`: opens the device in a file, as a restart does, and prints its base. The file then represents what it
+/// represented. If that is refused, but for want of memory or a failed device, each file is as it was. Nothing is
 /// written to the output before the device is surveyed.
-pub(crate) fn perform_dump<F: Folder, O: Write>(
+pub(crate) fn perform_dump<F: Folder, O: Write, R: Clock>(
     alloc: Global,
+    patience: &Patience<'_, R>,
     folder: &mut F,
     name: &str,
     out: &mut O,
@@ -108,7 +116,7 @@ pub(crate) fn perform_dump<F: Folder, O: Write>(
     ensures stands { OnOk result (StandsOn (F.files folder.old) (F.files folder.new) name.now) }
     ensures left { IfErr result (AreLeftBy (F.files folder.old) (F.files folder.new) name.now) }
 {
-    match survey_of_file(alloc, folder, name) {
+    match survey_of_file(alloc, patience, folder, name) {
         Ok(survey) => match write_dump(out, &survey) {
             Ok(()) => Ok(()),
             Err(_) => Err(Fault::Output),

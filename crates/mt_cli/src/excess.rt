@@ -93,13 +93,8 @@ pub(crate) fn excess_in(command: &Command) -> Excess
     ensures { result ≡ excess_in command.now }
 {
     match command {
-        Command::Format { file: _, numbers } => excess_of(numbers),
-        Command::Run {
-            frames: _,
-            file: _,
-            workers: _,
-            scripts,
-        } => {
+        Command::Format { numbers, .. } => excess_of(numbers),
+        Command::Run { scripts, .. } => {
             let many = scripts.len() as u64;
             if lies_within(1, MAX_SESSIONS as u64, many) {
                 Excess::Nothing

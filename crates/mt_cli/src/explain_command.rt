@@ -1,4 +1,4 @@
-// `explain`: the log of the device in a file as a history, without a write.
+// `explain`: the log of the device in a file as a history, by a copy of it.
 ghost use Rattle.std.specs.Prelude.{◌≡◌, false, IfErr, IfOk, OnOk};
 ghost use Rattle.mt_base.specs.declared.refusal.Refusal.{Refusal};
 ghost use Rattle.mt_replay.specs.Refused.{BreaksLog, IsCause};
@@ -7,6 +7,7 @@ ghost use Rattle.mt_cli.specs.Explains.{HasExplained, IsLogIn, IsLogOf, IsUnexpl
 ghost use Rattle.mt_folder.specs.Folders.{AreKept, known_in};
 
 use crate::faults::Fault;
+use crate::waits::Patience;
 use mt_base::Refusal;
 use mt_disk::Device;
 use mt_explain::{History, history_of, write_history};
@@ -15,6 +16,7 @@ use mt_log::{Batch, ruling_slot};
 use mt_replay::read_area;
 use std::alloc::Global;
 use std::io::Write;
+use std::time::Clock;
 
 /// The log of a device.
 fn log_of<D: Device>(alloc: Global, device: &mut D) -> Result<Vec<Batch>, Refusal>
@@ -28,31 +30,40 @@ fn log_of<D: Device>(alloc: Global, device: &mut D) -> Result<Vec<Batch>, Refusa
 }
 
 /// The log of the device in the file of this name.
-fn log_of_file<F: Folder>(alloc: Global, folder: &mut F, name: &str) -> Result<Vec<Batch>, Refusal>
+fn log_of_file<F: Folder, R: Clock>(
+    alloc: Global,
+    patience: &Patience<'_, R>,
+    folder: &mut F,
+    name: &str,
+) -> Result<Vec<Batch>, Refusal>
     ensures log { IfOk result (λ batches. IsLogIn (known_in (F.files folder.old) name.now) batches.items) }
     ensures cause { IfErr result (IsUntold false (known_in (F.files folder.old) name.now)) }
     ensures kept { AreKept (F.files folder.old) (F.files folder.new) }
 {
-    let mut device = folder.device(name)?;
-    let told = log_of(alloc, &mut device);
-    folder.back(name, device);
-    told
+    let mut device = patience.copy(folder, name)?;
+    log_of(alloc, &mut device)
 }
 
-/// What the log of the device in the file of this name tells.
-fn history_of_file<F: Folder>(alloc: Global, folder: &mut F, name: &str) -> Result<History, Refusal>
+/// What the log of the device in the file of this name holds.
+fn history_of_file<F: Folder, R: Clock>(
+    alloc: Global,
+    patience: &Patience<'_, R>,
+    folder: &mut F,
+    name: &str,
+) -> Result<History, Refusal>
     ensures told { IfOk result (RecountsLog (known_in (F.files folder.old) name.now)) }
     ensures cause { IfErr result (IsUntold false (known_in (F.files folder.old) name.now)) }
     ensures kept { AreKept (F.files folder.old) (F.files folder.new) }
 {
-    let batches = log_of_file(alloc, folder, name)?;
+    let batches = log_of_file(alloc, patience, folder, name)?;
     history_of(alloc, batches)
 }
 
-/// Does `explain`: writes a line for each record of the log of the device in a file, and then what a restart would do. The
-/// device is only read. Where it is refused, nothing is written.
-pub(crate) fn perform_explain<F: Folder, O: Write>(
+/// Does `explain`: writes a line for each record of the log of the device in a file, and then what a restart would do.
+/// The file is only read. If the command is refused, nothing is written.
+pub(crate) fn perform_explain<F: Folder, O: Write, R: Clock>(
     alloc: Global,
+    patience: &Patience<'_, R>,
     folder: &mut F,
     name: &str,
     out: &mut O,
@@ -63,7 +74,7 @@ pub(crate) fn perform_explain<F: Folder, O: Write>(
         (O.contents out.old) (O.contents out.new)) }
     ensures kept { AreKept (F.files folder.old) (F.files folder.new) }
 {
-    match history_of_file(alloc, folder, name) {
+    match history_of_file(alloc, patience, folder, name) {
         Ok(history) => match write_history(out, &history) {
             Ok(()) => Ok(()),
             Err(_) => Err(Fault::Output),

@@ -1,14 +1,16 @@
-// Why a command did not end well, and what is told of it.
+// Why a command did not end well, and what is printed of it.
 ghost use Rattle.std.specs.Prelude.{◌≡◌, ◌++◌, [], OnOk, OnErr, codes, get_or, map, string_bytes};
 ghost use Rattle.std.specs.Io.KnownBytes.{Appends};
 ghost use Rattle.mt_script.specs.Answers.{AppendsFront};
 ghost use Rattle.mt_cli.specs.Performs.{IsToldOf};
-ghost use Rattle.mt_cli.specs.Advice.{about, advice_at, advice_line, advice_of, advice_on, device_advice, fault_line, file_advice, line_advice, memory_advice, named_in, script_advice, script_in, shown_file, shown_name, told_of, unread_advice, unread_text};
+ghost use Rattle.mt_cli.specs.Advice.{about, advice_at, advice_line, advice_of, advice_on, device_advice, fault_line, file_advice, line_advice, memory_advice, named_in, script_advice, script_in, shown_file, shown_name, stop_advice, told_of, unread_advice, unread_text};
 
 use crate::event_words::EventWord;
 use crate::excess::{excess_in, write_excess};
 use crate::read_faults::{ReadFault, TextFault};
 use crate::schedules::ScheduleGrammar;
+use itoa::Buffer;
+use mt_alone::Stop;
 use mt_args::Command;
 use mt_base::Refusal;
 use mt_base::limits::MASTER_BYTES;
@@ -25,13 +27,15 @@ pub(crate) enum Fault {
     Output,
     /// What was asked for was refused.
     Refused(Refusal),
+    /// A line of a script was refused, and the run was to stop there.
+    Stopped(Stop),
     /// The script at this place of those that are named, from 0, was not read.
     Unread(ReadFault<ScriptWord>, usize),
     /// The schedule was not read.
     Unscheduled(ReadFault<EventWord>),
 }
 
-/// What is told of an output that cannot be written.
+/// What is printed of an output that cannot be written.
 const NO_OUTPUT: &str = "the output cannot be written\n";
 
 /// What the input is called.
@@ -40,10 +44,10 @@ const INPUT: &str = "standard input";
 /// What the output is called.
 const OUTPUT: &str = "standard output";
 
-/// What the program is called, where no file is meant.
+/// What the program is called, if no file is meant.
 const PROGRAM: &str = "mtk";
 
-/// A file's name, as people are told it: one without a letter is shown, too.
+/// A file's name, as people see it: one without a letter is shown, too.
 fn shown(name: &str) -> &str
     ensures { result.now ≡ shown_file name.now }
 {
@@ -57,7 +61,7 @@ fn shown_script(name: &str) -> &str
     if name == "-" { INPUT } else { shown(name) }
 }
 
-/// What people are told of the name of the script at a place of those that are named.
+/// What people see of the name of the script at a place of those that are named.
 fn script_name(scripts: &[String], at: usize) -> &str
     ensures { result.now ≡ shown_name (get_or (map string_bytes scripts.now) at []) }
 {
@@ -72,20 +76,18 @@ fn named_in(command: &Command) -> &str
     ensures { result.now ≡ named_in command.now }
 {
     match command {
-        Command::Try { script: Some(name) } => shown_script(name.as_str()),
-        Command::Try { script: None } => INPUT,
+        Command::Try {
+            script: Some(name),
+            ..
+        } => shown_script(name.as_str()),
+        Command::Try { script: None, .. } => INPUT,
         Command::Schedule { file: Some(name) } => shown_script(name.as_str()),
         Command::Schedule { file: None } => INPUT,
-        Command::Check { file, pages: _ } => shown(file.as_str()),
-        Command::Format { file, numbers: _ } => shown(file.as_str()),
-        Command::Dump { file } => shown(file.as_str()),
-        Command::Explain { file } => shown(file.as_str()),
-        Command::Run {
-            frames: _,
-            file,
-            workers: _,
-            scripts: _,
-        } => shown(file.as_str()),
+        Command::Check { file, .. } => shown(file.as_str()),
+        Command::Format { file, .. } => shown(file.as_str()),
+        Command::Dump { file, .. } => shown(file.as_str()),
+        Command::Explain { file, .. } => shown(file.as_str()),
+        Command::Run { file, .. } => shown(file.as_str()),
         Command::Show { text: _ } => PROGRAM,
     }
 }
@@ -95,12 +97,7 @@ fn script_in(command: &Command, at: usize) -> &str
     ensures { result.now ≡ script_in command.now at }
 {
     match command {
-        Command::Run {
-            frames: _,
-            file: _,
-            workers: _,
-            scripts,
-        } => script_name(scripts.as_slice(), at),
+        Command::Run { scripts, .. } => script_name(scripts.as_slice(), at),
         _ => named_in(command),
     }
 }
@@ -112,6 +109,7 @@ fn name_for<'a>(command: &'a Command, fault: &Fault) -> &'a str
     match fault {
         Fault::Output => OUTPUT,
         Fault::Refused(_) => named_in(command),
+        Fault::Stopped(stop) => script_in(command, (stop.session as usize).saturating_sub(1)),
         Fault::Unread(_, at) => script_in(command, *at),
         Fault::Unscheduled(_) => named_in(command),
     }
@@ -126,6 +124,7 @@ fn write_fault<W: Write>(writer: &mut W, fault: &Fault) -> Result<(), Unheard>
     match fault {
         Fault::Output => put(writer, NO_OUTPUT.as_bytes()),
         Fault::Refused(refusal) => write_answer(writer, &Answer::Refused(*refusal)),
+        Fault::Stopped(stop) => write_answer(writer, &Answer::Refused(stop.why)),
         Fault::Unread(why, _) => write_answer(writer, &Answer::Refused(why.refusal())),
         Fault::Unscheduled(why) => write_answer(writer, &Answer::Refused(why.refusal())),
     }
@@ -142,17 +141,12 @@ fn advice_at(place: u64) -> &'static str
     }
 }
 
-/// What to do where memory was wanting.
+/// What to do if memory was wanting.
 fn memory_advice(command: &Command) -> &'static str
     ensures { result.now ≡ memory_advice command.now }
 {
     match command {
-        Command::Run {
-            frames: _,
-            file: _,
-            workers: _,
-            scripts: _,
-        } => "there is not enough memory; `run` takes less with fewer frames",
+        Command::Run { .. } => "there is not enough memory; `run` takes less with fewer frames",
         _ => "there is not enough memory",
     }
 }
@@ -179,7 +173,7 @@ fn script_advice(reason: &Option<Reason>) -> &'static str
     }
 }
 
-/// Writes what to do about a refusal of a command, where the folder's call failed for this reason.
+/// Writes what to do about a refusal of a command, if the folder's call failed for this reason.
 fn write_advice_on<W: Write>(
     writer: &mut W,
     command: &Command,
@@ -213,12 +207,7 @@ fn device_advice(command: &Command) -> &'static str
     ensures { result.now ≡ device_advice command.now }
 {
     match command {
-        Command::Run {
-            frames: _,
-            file: _,
-            workers: _,
-            scripts: _,
-        } => "that is a device, and no script; FILE comes first",
+        Command::Run { .. } => "that is a device, and no script; FILE comes first",
         Command::Schedule { file: _ } => "that is a device, and no schedule",
         _ => "that is a device, and no script",
     }
@@ -294,6 +283,24 @@ fn write_unread_advice<G: Grammar, W: Write>(
     }
 }
 
+/// Writes at which line of its script a run stopped.
+fn write_stop<W: Write>(writer: &mut W, line: usize) -> Result<(), Unheard>
+    ensures all { OnOk result (Appends (W.contents writer.old) (W.contents writer.new) (stop_advice line)) }
+    ensures front { OnErr result (AppendsFront (W.contents writer.old) (W.contents writer.new)
+        (stop_advice line)) }
+{
+    let mut digits = Buffer::new();
+    let digits = digits.format(line);
+    put_all(
+        writer,
+        &[
+            b"line ",
+            digits.as_bytes(),
+            b" was refused so, and nothing after it ran",
+        ],
+    )
+}
+
 /// Writes what to do about a fault of a command.
 fn write_advice<W: Write>(
     writer: &mut W,
@@ -312,6 +319,7 @@ fn write_advice<W: Write>(
             b"see that its disk has room and that its reader goes on; what was committed stands",
         ),
         Fault::Refused(refusal) => write_advice_on(writer, command, reason, refusal),
+        Fault::Stopped(stop) => write_stop(writer, stop.line),
         Fault::Unread(why, _) => {
             write_unread_advice::<ScriptGrammar, W>(writer, command, reason, why)
         }

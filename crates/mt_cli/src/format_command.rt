@@ -5,13 +5,15 @@ ghost use Rattle.mt_cli.specs.Formattings.{AreNarrow, AreWithin, Formats, IsSche
 ghost use Rattle.mt_cli.specs.Performs.{IsFormatFault};
 
 use crate::faults::Fault;
+use crate::waits::Patience;
 use mt_args::Numbers;
 use mt_base::Refusal;
 use mt_folder::Folder;
 use mt_restart::{Schema, format};
 use std::alloc::Global;
+use std::time::Clock;
 
-/// Pages, MiB of a log area and relations, where each fits its type.
+/// Pages, MiB of a log area and relations, if each fits its type.
 fn narrowed(numbers: &Numbers) -> Option<(u16, u8, u16)>
     ensures { MatchOption result (¬ AreWithin numbers.now) (AreNarrow numbers.now) }
 {
@@ -27,7 +29,7 @@ fn narrowed(numbers: &Numbers) -> Option<(u16, u8, u16)>
     }
 }
 
-/// The schema of these numbers. Refused by `BadLength` where one is outside its limits, and by `NoMemory`.
+/// The schema of these numbers. Refused by `BadLength` if one is outside its limits, and by `NoMemory`.
 fn schema_of(alloc: Global, numbers: &Numbers) -> Result<Schema, Refusal>
     ensures schema { IfOk result (IsSchemaOf numbers.now) }
     ensures cause { IfErr result (IsUnmadeOf numbers.now) }
@@ -44,14 +46,19 @@ fn schema_of(alloc: Global, numbers: &Numbers) -> Result<Schema, Refusal>
     }
 }
 
-/// Makes a device of a schema, and puts it in the place of this name once it is formatted. Where that fails, it is let
-/// go.
-fn put_formatted<F: Folder>(folder: &mut F, name: &str, schema: &Schema) -> Result<(), Refusal>
+/// Makes a device of a schema, and puts it in the place of this name once it is formatted. If that fails, the device is
+/// dropped.
+fn put_formatted<F: Folder, R: Clock>(
+    patience: &Patience<'_, R>,
+    folder: &mut F,
+    name: &str,
+    schema: &Schema,
+) -> Result<(), Refusal>
     ensures put { OnOk result (PutsFormatted schema.now (F.files folder.old) (F.files folder.new) name.now) }
     ensures why { IfErr result IsUnmade }
     ensures err { OnErr result (AreKept (F.files folder.old) (F.files folder.new)) }
 {
-    let mut device = folder.make(name, schema.device_len())?;
+    let mut device = patience.make(folder, name, schema.device_len())?;
     match format(&mut device, schema) {
         Ok(()) => folder.install(name, device),
         Err(refusal) => {
@@ -63,9 +70,10 @@ fn put_formatted<F: Folder>(folder: &mut F, name: &str, schema: &Schema) -> Resu
 
 /// Makes a device of the schema of these numbers in the file of this name, or in its place. Refused by `BadLength` if
 /// and only if a number is outside its limits, before any file is made. Refused by `NoMemory`, and by `DeviceFailed`
-/// where the file cannot be made or written. The folder is then as before.
-fn put_device<F: Folder>(
+/// if the file cannot be made or written. The folder is then as before.
+fn put_device<F: Folder, R: Clock>(
     alloc: Global,
+    patience: &Patience<'_, R>,
     folder: &mut F,
     name: &str,
     numbers: &Numbers,
@@ -75,12 +83,13 @@ fn put_device<F: Folder>(
     ensures err { OnErr result (AreKept (F.files folder.old) (F.files folder.new)) }
 {
     let schema = schema_of(alloc, numbers)?;
-    put_formatted(folder, name, &schema)
+    put_formatted(patience, folder, name, &schema)
 }
 
-/// Does `format`. Where it is refused, each file is as it was.
-pub(crate) fn perform_format<F: Folder>(
+/// Does `format`. If it is refused, each file is as it was.
+pub(crate) fn perform_format<F: Folder, R: Clock>(
     alloc: Global,
+    patience: &Patience<'_, R>,
     folder: &mut F,
     name: &str,
     numbers: &Numbers,
@@ -89,7 +98,7 @@ pub(crate) fn perform_format<F: Folder>(
     ensures cause { IfErr result (IsFormatFault numbers.now) }
     ensures err { OnErr result (AreKept (F.files folder.old) (F.files folder.new)) }
 {
-    match put_device(alloc, folder, name, numbers) {
+    match put_device(alloc, patience, folder, name, numbers) {
         Ok(()) => Ok(()),
         Err(refusal) => Err(Fault::Refused(refusal)),
     }

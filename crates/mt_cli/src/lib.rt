@@ -1,5 +1,5 @@
-//! The commands of `mtk`: what each of them does, and what is told where it is refused. Files and streams are passed in, so
-//! all of it runs in tests too; the program is one call of [`perform_words`].
+//! The commands of `mtk`: what each of them does, and what is reported if it is refused. Files and streams are passed
+//! in, so all of it runs in tests too; the program is one call of [`perform_words`].
 #![tactic(auto)]
 
 mod answer_lines;
@@ -17,6 +17,7 @@ mod read_faults;
 mod run_command;
 mod schedules;
 mod silence;
+mod waits;
 
 pub use commands::{perform, perform_words};
 pub use mt_shared::{Gate, Point};

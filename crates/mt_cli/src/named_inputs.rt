@@ -1,4 +1,4 @@
-// Scripts and schedules, read by name.
+// Scripts and schedules, read by name. No text is read further than the longest one could go.
 ghost use Rattle.std.specs.Prelude.{◌≡◌, ◌++◌, ◌<◌, length, OnOk, false, IfErr, IfOk, IfSome, is_some, map, option_map, string_bytes, true};
 ghost use Rattle.mt_script.specs.Grammars.{AreLines};
 ghost use Rattle.mt_alone.specs.Sessions.{lines_in};
@@ -88,7 +88,7 @@ fn overlong_lines<G: Grammar, I: Read>(
     }
 }
 
-/// The lines on standard input.
+/// The lines that an input has.
 fn input_lines<G: Grammar, I: Read>(
     alloc: Global,
     input: &mut I,
@@ -120,7 +120,10 @@ fn file_lines<G: Grammar, F: Folder>(
     ensures kept { AreKept (F.files folder.old) (F.files folder.new) }
 {
     match folder.script(name) {
-        Ok(bytes) => lines_within::<G>(alloc, bytes.as_slice()),
+        Ok(script) => {
+            let mut script = script;
+            input_lines::<G, F::Script>(alloc, &mut script)
+        }
         Err(refusal) => Err(ReadFault::Refused(refusal)),
     }
 }
@@ -194,7 +197,7 @@ fn script_of<F: Folder, I: Read>(
 }
 
 /// The scripts of these names, read one after the other; `-` is standard input, of which the first of that name has
-/// all. The folder is as before. Refused for the first that is not read: by `NoMemory`, or by `DeviceFailed` where
+/// all. The folder is as before. Refused for the first that is not read: by `NoMemory`, or by `DeviceFailed` if
 /// there is no such file or it cannot be read. By `BadLine` it is refused of its first line that is not in the
 /// grammar.
 pub(crate) fn scripts_of<F: Folder, I: Read>(

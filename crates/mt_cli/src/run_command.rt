@@ -1,16 +1,17 @@
 // `run`: scripts, served to the device in a file.
-ghost use Rattle.std.specs.Prelude.{◌≡◌, ◌≤◌, ℕ, IfErr, IsErrAnd, IsOk, OnOk, length, map, string_bytes};
+ghost use Rattle.std.specs.Prelude.{◌≡◌, ◌≤◌, ℕ, IfErr, IfOk, None, OnOk, length, map, string_bytes};
 ghost use Rattle.mt_base.specs.declared.limits.TheConstants.{MAX_SESSIONS};
 ghost use Rattle.mt_disk.specs.Disk.{Only};
 ghost use Rattle.mt_model.specs.Model.{Base};
 ghost use Rattle.mt_restart.specs.Resumed.{IsOpened};
 ghost use Rattle.mt_alone.specs.Sessions.{lines_in};
-ghost use Rattle.mt_cli.specs.Serves.{AreShortOn, AreUnserved, HasNotRun, HasRunScripts, HaveServedOn, IsServedIn, IsUnservedIn, ServesFrom, fault_of};
+ghost use Rattle.mt_cli.specs.Serves.{AreShortOn, AreUnserved, HasNotRun, HasRunScripts, HaveServedOn, IsServedIn, IsUnservedIn, ServesFrom, end_of};
 
 use crate::at_once::{Service, serve_file_at_once};
 use crate::faults::Fault;
 use crate::named_inputs::scripts_of;
-use mt_alone::{RunFault, run_sessions};
+use crate::waits::Patience;
+use mt_alone::{RunFault, Stop, run_sessions};
 use mt_base::Refusal;
 use mt_base::limits::MAX_SESSIONS;
 use mt_disk::Device;
@@ -23,27 +24,29 @@ use std::alloc::Global;
 use std::io::{Read, Write};
 use std::sync::Wait;
 use std::thread::Threads;
+use std::time::Clock;
 
 /// Serves scripts to a kernel that was just opened, and gives its device back.
 fn serve_opened<D: Device + Drop, O: Write>(
     alloc: Global,
     kernel: Kernel<D>,
     frames: usize,
+    stop: bool,
     scripts: &[Script],
     out: &mut O,
-) -> (Result<(), RunFault>, D)
+) -> (Result<Option<Stop>, RunFault>, D)
     requires few { length scripts.now ≤ MAX_SESSIONS }
-    ensures served { OnOk result.0 ((relations counters : ℕ) (b : Base)
-        → IsOpened D.seen D.may_leave relations counters b kernel → HaveServedOn relations counters b
+    ensures served { IfOk result.0 (λ stopped. (relations counters : ℕ) (b : Base)
+        → IsOpened D.seen D.may_leave relations counters b kernel → HaveServedOn stop stopped relations counters b
         (map lines_in scripts.now) (O.contents out.old) (O.contents out.new) (D.seen result.1)) }
     ensures short { IfErr result.0 (λ why. (relations counters : ℕ) (b : Base)
         → IsOpened D.seen D.may_leave relations counters b kernel → AreShortOn relations counters b
         (map lines_in scripts.now) (O.contents out.old) (O.contents out.new) (D.seen result.1) why) }
 {
-    match run_sessions(alloc, kernel, frames, scripts, out) {
-        Ok(kernel) => {
+    match run_sessions(alloc, kernel, frames, stop, scripts, out) {
+        Ok((kernel, stopped)) => {
             kernel.can_restart();
-            (Ok(()), kernel.into_device())
+            (Ok(stopped), kernel.into_device())
         }
         Err(left) => {
             let (why, device) = left.into_device();
@@ -52,13 +55,13 @@ fn serve_opened<D: Device + Drop, O: Write>(
     }
 }
 
-/// How a command ends whose run ended so.
-fn ended(ran: Result<(), RunFault>) -> Result<(), Fault>
-    ensures ok { OnOk result (IsOk ran) }
-    ensures err { IfErr result (λ fault. IsErrAnd ran (λ why. fault ≡ fault_of why)) }
+/// How a command ends whose run ended so. A line that stopped it is a fault.
+pub(crate) fn ended(ran: Result<Option<Stop>, RunFault>) -> Result<(), Fault>
+    ensures { result ≡ end_of ran }
 {
     match ran {
-        Ok(()) => Ok(()),
+        Ok(None) => Ok(()),
+        Ok(Some(stop)) => Err(Fault::Stopped(stop)),
         Err(RunFault::Output) => Err(Fault::Output),
         Err(RunFault::Refused(refusal)) => Err(Fault::Refused(refusal)),
     }
@@ -69,13 +72,14 @@ fn serve_over<D: Device + Drop, O: Write>(
     alloc: Global,
     device: D,
     frames: usize,
+    stop: bool,
     scripts: &[Script],
     out: &mut O,
 ) -> (Result<(), Fault>, D)
     requires settled { Only (D.seen device) (D.may_leave device) }
-    ensures served { OnOk result.0 (ServesFrom (D.seen device) (map lines_in scripts.now)
+    ensures served { OnOk result.0 (ServesFrom stop None (D.seen device) (map lines_in scripts.now)
         (O.contents out.old) (O.contents out.new) (D.seen result.1)) }
-    ensures unserved { IfErr result.0 (AreUnserved (D.seen device) (map lines_in scripts.now)
+    ensures unserved { IfErr result.0 (AreUnserved stop (D.seen device) (map lines_in scripts.now)
         (O.contents out.old) (O.contents out.new) (D.seen result.1)) }
 {
     if scripts.len() > MAX_SESSIONS {
@@ -83,57 +87,63 @@ fn serve_over<D: Device + Drop, O: Write>(
     }
     match open(alloc, device, frames) {
         Ok(kernel) => {
-            let (ran, device) = serve_opened(alloc, kernel, frames, scripts, out);
+            let (ran, device) = serve_opened(alloc, kernel, frames, stop, scripts, out);
             (ended(ran), device)
         }
         Err((refusal, device)) => (Err(Fault::Refused(refusal)), device),
     }
 }
 
-/// Serves scripts to the device in the file of this name.
-fn serve_file<F: Folder, O: Write>(
+/// Serves scripts to the device in the file of this name, one after the other.
+fn serve_file<F: Folder, O: Write, R: Clock>(
     alloc: Global,
+    patience: &Patience<'_, R>,
     folder: &mut F,
-    frames: usize,
-    name: &str,
+    service: Service,
     scripts: &[Script],
     out: &mut O,
 ) -> Result<(), Fault>
-    ensures served { OnOk result (IsServedIn (F.files folder.old) (F.files folder.new) name.now
-        (map lines_in scripts.now) (O.contents out.old) (O.contents out.new)) }
-    ensures unserved { IfErr result (IsUnservedIn (F.files folder.old) (F.files folder.new) name.now
-        (map lines_in scripts.now) (O.contents out.old) (O.contents out.new)) }
+    ensures served { OnOk result (IsServedIn service.entry.stop (F.files folder.old) (F.files folder.new)
+        service.entry.name.now (map lines_in scripts.now) (O.contents out.old) (O.contents out.new)) }
+    ensures unserved { IfErr result (IsUnservedIn service.entry.stop (F.files folder.old) (F.files folder.new)
+        service.entry.name.now (map lines_in scripts.now) (O.contents out.old) (O.contents out.new)) }
 {
-    let device = match folder.device(name) {
+    let device = match patience.device(folder, service.name) {
         Ok(device) => device,
         Err(refusal) => return Err(Fault::Refused(refusal)),
     };
-    let served = serve_over(alloc, device, frames, scripts, out);
+    let served = serve_over(alloc, device, service.frames, service.stop, scripts, out);
     let (told, device) = served;
-    folder.back(name, device);
+    folder.back(service.name, device);
     told
 }
 
 /// Does `run`: reads all scripts, then opens the device in the file of this name with so many frames, and serves the
-/// scripts to it. It serves them one after the other where there is one worker, and else at once. The device is then
+/// scripts to it. It serves them one after the other if there is one worker, and else at once. The device is then
 /// back in its file, and each other file is as it was. By one worker nothing is written to the output before the
 /// device is opened, and by several not before all scripts are served.
 ///
-/// Refused for the first script that is not read, and for a file that cannot be opened. Refused by `BadLength` where
-/// there are more than 64 scripts, and for what keeps the device from being opened. Further by one worker where a
-/// script does not run to its end, by `NoMemory`, `DeviceFailed` or `LogFull`. The file then stands for the commits until
-/// then, or for these and some that were under way. By several it is refused where the device failed meanwhile, by
-/// `DeviceFailed`, behind the transcripts. Where `serve` of mt_server is refused, it lets
-/// the device go: what its file has is not told.
+/// Refused for the first script that is not read, and for a file that cannot be opened. Refused by `BadLength` if
+/// there are more than 64 scripts, and for what keeps the device from being opened.
+///
+/// Further by one worker if a script does not run to its end, by `NoMemory`, `DeviceFailed` or `LogFull`. The file
+/// then represents the commits until then, or these and some that were under way. If that worker is to stop at a
+/// refusal, and a line is refused with anything but `Escrow` and `Die`, it is a fault with the line's place. The file
+/// then represents the commits until then.
+///
+/// Several workers do not stop at a refusal. By several it is refused if the device failed meanwhile, by
+/// `DeviceFailed`, after the transcripts. If `serve` of mt_server is refused, the device is dropped: what its file
+/// has is not known.
 pub(crate) fn perform_run<
     F: Folder,
     I: Read,
     O: Write,
     G: Gate + Drop + Send + Sync,
-    R: Threads + Wait + Sync,
+    R: Threads + Wait + Clock + Sync,
 >(
     rt: &R,
     alloc: Global,
+    patience: &Patience<'_, R>,
     folder: &mut F,
     service: Service,
     scripts: &[String],
@@ -141,11 +151,13 @@ pub(crate) fn perform_run<
     out: &mut O,
     gate: G,
 ) -> Result<(), Fault>
-    ensures ran { OnOk result (HasRunScripts service.entry.workers (F.files folder.old) (F.files folder.new)
-        service.entry.name.now (map string_bytes scripts.now) (I.remaining input.old)
+    ensures ran { OnOk result (HasRunScripts service.entry.stop service.entry.workers
+        (F.files folder.old) (F.files folder.new) service.entry.name.now (map string_bytes scripts.now)
+        (I.remaining input.old)
         (O.contents out.old) (O.contents out.new)) }
-    ensures not_run { IfErr result (HasNotRun service.entry.workers (F.files folder.old) (F.files folder.new)
-        service.entry.name.now (map string_bytes scripts.now) (I.remaining input.old)
+    ensures not_run { IfErr result (HasNotRun service.entry.stop service.entry.workers
+        (F.files folder.old) (F.files folder.new) service.entry.name.now (map string_bytes scripts.now)
+        (I.remaining input.old)
         (O.contents out.old) (O.contents out.new)) }
 {
     let scripts = match scripts_of(alloc, folder, scripts, input) {
@@ -153,14 +165,7 @@ pub(crate) fn perform_run<
         Err(fault) => return Err(fault),
     };
     if service.workers > 1 {
-        return serve_file_at_once(rt, alloc, folder, service, scripts, out, gate);
+        return serve_file_at_once(rt, alloc, patience, folder, service, scripts, out, gate);
     }
-    serve_file(
-        alloc,
-        folder,
-        service.frames,
-        service.name,
-        scripts.as_slice(),
-        out,
-    )
+    serve_file(alloc, patience, folder, service, scripts.as_slice(), out)
 }

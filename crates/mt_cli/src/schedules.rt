@@ -10,7 +10,7 @@ use mt_script::{Grammar, is_text_of, number_of, op_of, split_at_space};
 use mt_world::Event;
 use std::alloc::{AllocError, Global};
 
-/// `call T OPERATION`, of the words behind the first.
+/// `call T OPERATION`, of the words after the first.
 fn call_of(alloc: Global, words: &[u8]) -> Result<Option<Event>, AllocError>
     ensures { IfOk result (ReadsEvent (codes "call" ++ 32 ∷ words.now)) }
 {
@@ -26,7 +26,7 @@ fn call_of(alloc: Global, words: &[u8]) -> Result<Option<Event>, AllocError>
     }
 }
 
-/// `begin S`, where the number is one of a session.
+/// `begin S`, if the number is one of a session.
 fn begin_of(number: u64) -> Option<Event>
     ensures { ReadsEvent (codes "begin" ++ 32 ∷ decimal number) result }
 {
@@ -36,7 +36,7 @@ fn begin_of(number: u64) -> Option<Event>
     }
 }
 
-/// The event of a word and the number behind it.
+/// The event of a word and the number after it.
 fn numbered(word: &[u8], number: u64) -> Option<Event>
     requires unspaced { IsUnspaced word.now }
     requires other { word.now ≢ codes "call" }
@@ -57,7 +57,7 @@ fn numbered(word: &[u8], number: u64) -> Option<Event>
     }
 }
 
-/// The event of its first word and the words behind it.
+/// The event of its first word and the words after it.
 fn event_with(alloc: Global, word: &[u8], words: &[u8]) -> Result<Option<Event>, AllocError>
     requires { IsUnspaced word.now }
     ensures { IfOk result (ReadsEvent (word.now ++ 32 ∷ words.now)) }

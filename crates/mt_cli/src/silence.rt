@@ -1,7 +1,7 @@
 // A gate that nobody stands at.
 use mt_shared::{Gate, Point};
 
-/// Wants to be told of nothing.
+/// Wants to see nothing.
 #[derive(Drop)]
 pub struct Silence;
 

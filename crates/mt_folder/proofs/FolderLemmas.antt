@@ -7,7 +7,9 @@ use Rattle.std.proofs.lemmas.Bool.Decides.{nat_tests}
 use Rattle.std.proofs.lemmas.List.Folds.{find-append, find-set, find_past}
 use Rattle.std.proofs.lemmas.List.Quantifiers.{position-Some}
 use Rattle.std.proofs.lemmas.Slice.Eq.{bytes_eq-Decides}
-use Rattle.mt_folder.specs.Folders.{AreKept, Files, Gives, IsHeld, IsLent, IsThere, Puts, file_of, known_in}
+use Rattle.mt_base.specs.declared.refusal.Refusal.{Refusal}
+use Rattle.mt_folder.specs.declared.reason.Reason.{Reason}
+use Rattle.mt_folder.specs.Folders.{AreKept, Files, Gives, IsFileRefusal, IsHeld, IsLent, IsThere, KnowsWhy, Puts, file_of, known_in}
 
 File : Type 0
 File = List ℕ × List ℕ
@@ -154,7 +156,10 @@ added old new name bytes none is = record {
 pub not_there : (files : List (List ℕ × List ℕ)) (name : List ℕ) → None ≡ position (is_named name) files → IsThere (Some (λ n. file_of n files)) name → ⊥
 not_there files name none there = let none_held : file_of name files ≡ None = no_place name files none in let bad : false ≡ true = rw none_held at (there refl) in cc
 
--- ---- one change behind another
+-- ---- one change after another
+
+pub kept_still : (files : Files) → AreKept files files
+kept_still files = record { told = refl; all = λ name. refl }
 
 pub kept_then : (old mid new : Files) → AreKept old mid → AreKept mid new → AreKept old new
 kept_then old mid new before after = record { told = after.told ∙ before.told; all = λ name. after.all name ∙ before.all name }
@@ -165,3 +170,22 @@ put_then old mid new name bytes before after = record {
   held = after.held;
   others = λ other apart. after.others other apart ∙ before.all other;
 }
+
+pub lent_then : (old mid new : Files) (name : List ℕ) → AreKept old mid → IsLent mid new name → IsLent old new name
+lent_then old mid new name before after = record {
+  told = after.told ∙ before.told;
+  there = after.there;
+  others = λ other apart. after.others other apart ∙ before.all other;
+}
+
+-- ---- what is known after nothing has changed was known before
+
+pub refused_before : (old mid : Files) (name : List ℕ) (why : Refusal) → AreKept old mid → IsFileRefusal (known_in mid name) why → IsFileRefusal (known_in old name) why
+refused_before old mid name why kept is = subst (λ (held : Option (List ℕ)). IsFileRefusal held why) (kept.all name) is
+
+still_none : (old mid : Files) → is_some mid ≡ is_some old → old ≡ None → mid ≡ None
+still_none old None told none = refl
+still_none old (Some files) told none = let bad : true ≡ false = told ∙ ap is_some none in cc
+
+pub why_before : (old mid : Files) (why : Option Reason) → AreKept old mid → KnowsWhy mid why → KnowsWhy old why
+why_before old mid why kept knows = λ none. knows (still_none old mid kept.told none)

@@ -1,15 +1,15 @@
 -- Files, by name.
-use Rattle.std.specs.Prelude.{ℕ, ◌≡◌, ◌≢◌, ◌⊎◌, true, List, Option, Some, None, IsSome, bytes_eq, find, is_some, option_map, slice_set}
+use Rattle.std.specs.Prelude.{ℕ, ◌≡◌, ◌≢◌, ◌⊎◌, true, List, Option, Some, None, IfSome, IsSome, bytes_eq, find, is_some, option_map, slice_set}
 use Rattle.std.specs.List.{slice_index_or}
 use Rattle.mt_base.specs.declared.refusal.Refusal.{Refusal}
 use Rattle.mt_folder.specs.declared.reason.Reason.{Reason}
 use Rattle.mt_base.specs.declared.refusal.Refusal.TheVariants as refusal
 
--- what a folder holds under each name, where that is known
+-- what a folder holds under each name, if that is known
 abbrev pub Files : Type 0
 Files = Option (List ℕ → Option (List ℕ))
 
--- the bytes under a name, where they are known
+-- the bytes under a name, if they are known
 abbrev pub known_in : Files → List ℕ → Option (List ℕ)
 known_in None name = None
 known_in (Some files) name = files name
@@ -36,11 +36,15 @@ IsUnmade why = (why ≡ refusal.NoMemory) ⊎ (why ≡ refusal.DeviceFailed)
 abbrev pub KnowsWhy : Files → Option Reason → Type 0
 KnowsWhy files why = files ≡ None → IsSome why
 
--- the file of this name has these bytes, where files are known
+-- a reader has all bytes of a file before it, if those are known
+abbrev pub ReadsAll : Option (List ℕ) → Option (List ℕ) → Type 0
+ReadsAll held remaining = IfSome held (λ bytes. remaining ≡ Some bytes)
+
+-- the file of this name has these bytes, if files are known
 abbrev pub IsHeld : Files → List ℕ → List ℕ → Type 0
 IsHeld files name bytes = is_some files ≡ true → known_in files name ≡ Some bytes
 
--- there is a file of this name, where files are known
+-- there is a file of this name, if files are known
 abbrev pub IsThere : Files → List ℕ → Type 0
 IsThere files name = is_some files ≡ true → IsSome (known_in files name)
 

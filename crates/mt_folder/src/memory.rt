@@ -10,6 +10,7 @@ use mt_base::limits::PAGE_BYTES;
 use mt_base::{Bytes, Refusal};
 use mt_disk::MemDevice;
 use std::alloc::{AllocError, Global};
+use std::io::Cursor;
 
 /// A folder in memory, for tests: files by name, each of them a script or a device.
 #[derive(Drop)]
@@ -48,7 +49,7 @@ impl MemFolder {
             .position(|(own, _)| own.as_slice() == name.as_bytes())
     }
 
-    /// Adds a file behind the others.
+    /// Adds a file after the others.
     fn add(&mut self, name: &str, bytes: Vec<u8>) -> Result<(), Refusal>
         ensures added { OnOk result (self.new.files.items
             ≡ self.old.files.items ++ (name.now, bytes.items) ∷ []) }
@@ -103,12 +104,20 @@ impl Folder for MemFolder {
 
     type Device = MemDevice;
 
+    type Script = Cursor<Vec<u8>>;
+
     ghost files = { λ folder. Some (λ name. file_of name folder.files.items) };
 
     ghost why = { λ _. None };
 
-    fn script(&mut self, name: &str) -> Result<Vec<u8>, Refusal> {
-        self.copy_of(name)
+    fn script(&mut self, name: &str) -> Result<Cursor<Vec<u8>>, Refusal> {
+        let text = self.copy_of(name)?;
+        Ok(Cursor::new(text))
+    }
+
+    fn copy(&mut self, name: &str) -> Result<MemDevice, Refusal> {
+        let held = self.copy_of(name)?;
+        Ok(device_over(self.alloc, held)?)
     }
 
     fn device(&mut self, name: &str) -> Result<MemDevice, Refusal> {

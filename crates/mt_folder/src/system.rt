@@ -1,16 +1,17 @@
 // The files of the system.
 ghost use Rattle.std.specs.Prelude.{◌≡◌, None, IfErr, IfOk, IsSome, OnErr, OnOk, replicate};
+ghost use Rattle.mt_disk.specs.Disk.{Only};
 ghost use Rattle.mt_disk.specs.File.{IsFresh, copy_in};
-ghost use Rattle.mt_disk.specs.Memory.{content};
+ghost use Rattle.mt_disk.specs.Memory.{MayLeave, content};
 ghost use Rattle.mt_folder.specs.Folders.{IsFileRefusal, IsUnmade};
 
 use crate::folder::Folder;
 use crate::reason::Reason;
 use mt_base::Refusal;
-use mt_disk::FileDevice;
+use mt_disk::{FileDevice, MemDevice};
 use std::alloc::{AllocError, Global};
 use std::fs::{self, File, Metadata, OpenFile, OpenOptions, TryLockError};
-use std::io::{self, ErrorKind};
+use std::io::{self, ErrorKind, Read};
 use std::os::unix::fs::MetadataExt;
 use std::rt::Files;
 
@@ -20,6 +21,8 @@ use std::rt::Files;
 /// once it is installed. So a format that fails or is cut off leaves an older file of that name as it was. Nothing
 /// is removed that was not made here. An older file is locked from the making on, so of two programs that replace one
 /// file at once one is refused. A file that is open as a device, here or in another program, is not replaced.
+///
+/// A file that is copied is locked so that others may copy it too. The lock goes with the call.
 #[derive(Drop)]
 pub struct DiskFolder<'a, R> {
     rt: &'a R,
@@ -138,9 +141,9 @@ fn unplaced(why: &io::Error) -> Failure
     }
 }
 
-/// The reason for which the lock of an open file is not taken, or `None` if it is.
-fn lock_reason(file: &File) -> Option<Reason> {
-    match file.try_lock() {
+/// The reason for which a lock is not taken, or `None` if it is.
+fn lock_reason(taken: Result<(), TryLockError>) -> Option<Reason> {
+    match taken {
         Ok(()) => None,
         Err(TryLockError::WouldBlock) => Some(Reason::Open),
         Err(TryLockError::Error(_)) => Some(Reason::Other),
@@ -156,7 +159,7 @@ fn device_reason<R: Files<File = File>>(rt: &R, path: &str) -> Reason {
         Err(why) => return reason_of(why.kind()),
     }
     match OpenOptions::new().read(true).open(rt, path) {
-        Ok(file) => lock_reason(&file).unwrap_or(Reason::Other),
+        Ok(file) => lock_reason(file.try_lock()).unwrap_or(Reason::Other),
         Err(why) => reason_of(why.kind()),
     }
 }
@@ -190,6 +193,19 @@ fn leads_to<R: Files>(rt: &R, path: &str, file: &File) -> bool {
     }
 }
 
+/// Refused unless what is known of a file is that of a regular one.
+fn regular(known: &Metadata) -> Result<(), Failure>
+    ensures { IfErr result (λ failure. IsUnmade failure.refusal) }
+{
+    if known.is_dir() {
+        Err(failed(Reason::Folder))
+    } else if known.is_file() {
+        Ok(())
+    } else {
+        Err(failed(Reason::Irregular))
+    }
+}
+
 /// The file of this path with its lock, or `None` if there is none. Refused if it is no regular file, if it cannot be
 /// looked at, and if it is open as a device.
 fn kept_out<R: Files<File = File>>(rt: &R, path: &str) -> Result<Option<File>, Failure>
@@ -202,12 +218,7 @@ fn kept_out<R: Files<File = File>>(rt: &R, path: &str) -> Result<Option<File>, F
         Err(why) if why.kind() == ErrorKind::NotFound => return Err(failed(Reason::Irregular)),
         Err(why) => return Err(unplaced(&why)),
     };
-    if known.is_dir() {
-        return Err(failed(Reason::Folder));
-    }
-    if !known.is_file() {
-        return Err(failed(Reason::Irregular));
-    }
+    regular(&known)?;
     match OpenOptions::new().read(true).open(rt, path) {
         Ok(file) => locked(rt, path, file),
         Err(why) => Err(unmade(&why)),
@@ -218,7 +229,7 @@ fn kept_out<R: Files<File = File>>(rt: &R, path: &str) -> Result<Option<File>, F
 fn locked<R: Files<File = File>>(rt: &R, path: &str, file: File) -> Result<Option<File>, Failure>
     ensures { IfErr result (λ failure. IsUnmade failure.refusal) }
 {
-    if let Some(reason) = lock_reason(&file) {
+    if let Some(reason) = lock_reason(file.try_lock()) {
         return Err(failed(reason));
     }
     if leads_to(rt, path, &file) {
@@ -283,7 +294,7 @@ fn device_in(
     }
 }
 
-/// Gives a file a name that nothing has, by a link, since a rename would take the name from another. Where files have
+/// Gives a file a name that nothing has, by a link, since a rename would take the name from another. If files have
 /// one name alone, it is renamed.
 fn named<R: Files>(rt: &R, path: &str, name: &str) -> io::Result<()> {
     match fs::hard_link(rt, path, name) {
@@ -317,18 +328,71 @@ fn unnamed_for<R: Files<File = File>>(rt: &R, made: &Made, name: &str) -> Option
     }
 }
 
-/// The bytes of the file of this path.
-fn bytes_of<R: Files<File = File> + AllocGlobal>(rt: &R, path: &str) -> Result<Vec<u8>, Failure>
+/// The file of this path, open to be read. A folder, which can be opened and not read, is refused.
+fn script_at<R: Files<File = File>>(rt: &R, path: &str) -> Result<File, Failure>
     ensures { IfErr result (λ failure. IsUnmade failure.refusal) }
 {
-    match fs::read(rt, path) {
-        Ok(bytes) => Ok(bytes),
+    match OpenOptions::new().read(true).open(rt, path) {
+        Ok(file) => match file.metadata() {
+            Ok(known) if known.is_dir() => Err(failed(Reason::Folder)),
+            _ => Ok(file),
+        },
         Err(why) => Err(unmade(&why)),
     }
 }
 
-/// The device in the file of this path.
-fn device_at<R: Files<File = File> + AllocGlobal>(
+/// The regular file of this path, open to be read, with a lock that all who copy it share. No other file is opened.
+fn shared<R: Files<File = File>>(rt: &R, path: &str) -> Result<File, Failure>
+    ensures { IfErr result (λ failure. IsUnmade failure.refusal) }
+{
+    match fs::metadata(rt, path) {
+        Ok(known) => regular(&known)?,
+        Err(why) => return Err(unmade(&why)),
+    }
+    let file = match OpenOptions::new().read(true).open(rt, path) {
+        Ok(file) => file,
+        Err(why) => return Err(unmade(&why)),
+    };
+    match lock_reason(file.try_lock_shared()) {
+        Some(reason) => Err(failed(reason)),
+        None => Ok(file),
+    }
+}
+
+/// The length of an open file, whose bytes are synced first, so that none that are read can be lost any more.
+fn synced_len(file: &File) -> io::Result<u64> {
+    file.sync_all()?;
+    Ok(file.metadata()?.len())
+}
+
+/// The bytes of an open file, up to its length.
+fn bytes_in(alloc: Global, file: File) -> Result<Vec<u8>, Failure>
+    ensures { IfErr result (λ failure. IsUnmade failure.refusal) }
+{
+    let len = match synced_len(&file) {
+        Ok(len) => len,
+        Err(why) => return Err(unmade(&why)),
+    };
+    let mut file = file;
+    let mut bytes = vec![in alloc; 0u8; len as usize]?;
+    match file.read_exact(bytes.as_mut_slice()) {
+        Ok(()) => Ok(bytes),
+        Err(why) => Err(unmade(&why)),
+    }
+}
+
+/// A copy in memory of the device in the file of this path. It has no room for a write.
+fn copy_at<R: Files<File = File> + AllocGlobal>(rt: &R, path: &str) -> Result<MemDevice, Failure>
+    ensures settled { IfOk result (λ device. Only (content device) (MayLeave device)) }
+    ensures why { IfErr result (λ failure. IsUnmade failure.refusal) }
+{
+    let file = shared(rt, path)?;
+    let bytes = bytes_in(rt.alloc(), file)?;
+    Ok(MemDevice::new(rt.alloc(), bytes, 0, 0)?)
+}
+
+/// The device in the file of this path, asked for once.
+fn opened_at<R: Files<File = File> + AllocGlobal>(
     rt: &R,
     path: &str,
 ) -> Result<FileDevice<File>, Failure>
@@ -341,6 +405,23 @@ fn device_at<R: Files<File = File> + AllocGlobal>(
             refusal,
             reason: device_reason(rt, path),
         }),
+    }
+}
+
+/// The device in the file of this path. If what was in its way is gone, it is asked for once more.
+fn device_at<R: Files<File = File> + AllocGlobal>(
+    rt: &R,
+    path: &str,
+) -> Result<FileDevice<File>, Failure>
+    ensures fresh { IfOk result IsFresh }
+    ensures why { IfErr result (λ failure. IsUnmade failure.refusal) }
+{
+    match opened_at(rt, path) {
+        Ok(device) => Ok(device),
+        Err(failure) => match (failure.refusal, failure.reason) {
+            (Refusal::DeviceFailed, Reason::Other) => opened_at(rt, path),
+            _ => Err(failure),
+        },
     }
 }
 
@@ -405,14 +486,22 @@ impl<R: Files<File = File> + AllocGlobal> Folder for DiskFolder<'_, R> {
 
     type Device = FileDevice<File>;
 
+    type Script = File;
+
     ghost files = { λ _. None };
 
     ghost why = { λ folder. folder.reason };
 
-    fn script(&mut self, name: &str) -> Result<Vec<u8>, Refusal> {
-        let read = bytes_of(self.rt, name);
+    fn script(&mut self, name: &str) -> Result<File, Refusal> {
+        let read = script_at(self.rt, name);
         self.reason = reason_in(&read);
         Ok(read?)
+    }
+
+    fn copy(&mut self, name: &str) -> Result<MemDevice, Refusal> {
+        let copied = copy_at(self.rt, name);
+        self.reason = reason_in(&copied);
+        Ok(copied?)
     }
 
     fn device(&mut self, name: &str) -> Result<FileDevice<File>, Refusal> {

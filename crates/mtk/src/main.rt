@@ -29,8 +29,8 @@ const INPUT: i32 = 0;
 
 const LAST_STREAM: i32 = 2;
 
-/// Opens nothing under the lowest free number if that is one of a standard stream. It is opened the wrong way round, so
-/// that a stream which the program was started without is still one that cannot be read or written.
+/// Opens nothing under the lowest free number if that is one of a standard stream. It is opened the wrong way round,
+/// so that a stream which the program was started without is still one that cannot be read or written.
 fn stand_in<R: Files<File = File>>(rt: &R) -> Option<File> {
     let to_write = OpenOptions::new().write(true).open(rt, NOTHING).ok()?;
     if to_write.as_raw_fd() == INPUT {
@@ -46,7 +46,7 @@ fn stand_in<R: Files<File = File>>(rt: &R) -> Option<File> {
 }
 
 /// Does what the command line asks for, with this output and error output and the input and files of the system. It
-/// gives the status. How far a run has come is told as `progress` says. It fails where a word is not UTF-8, and where
+/// gives the status. How far a run has come is printed as `progress` says. It fails if a word is not UTF-8, and if
 /// there is no memory for the words.
 fn done<
     R: Runtime + Files<File = File> + AllocGlobal + Threads + Wait + Sync,
@@ -76,13 +76,13 @@ fn done<
     ))
 }
 
-/// Tells why the command line is not read, and gives the status.
+/// Prints why the command line is not read, and gives the status.
 fn unread<W: Write>(err: &mut W, why: ErrorKind) -> u8 {
     let text: &[u8] = match why {
         ErrorKind::OutOfMemory => { b"refused 1 NoMemory\nmtk: there is not enough memory\n" }
         _ => b"error: a word of the command line is not UTF-8\n",
     };
-    // where that cannot be told either, the status alone tells it
+    // if that cannot be printed either, the status alone says it
     let _told = err.write(text);
     match why {
         ErrorKind::OutOfMemory => REFUSED,

@@ -1,4 +1,4 @@
-// How far a run has come, told on a terminal.
+// How far a run has come, printed on a terminal.
 use itoa::Buffer;
 use mt_cli::{Gate, Point};
 use std::io::Write;
@@ -10,8 +10,8 @@ const EACH: u64 = 64;
 /// Goes back to the line's begin and deletes what stands there.
 const CLEARED: &[u8] = b"\r\x1b[K";
 
-/// Tells on a terminal how many transactions have committed, in a line that is drawn anew and deleted at the end. If it
-/// is none, nothing is told. What cannot be written is left out.
+/// Prints on a terminal how many transactions have committed, in a line that is drawn anew and deleted at the end. If
+/// it is none, nothing is printed. What cannot be written is left out.
 pub(crate) struct Progress<E: Write + Copy> {
     err: E,
     is_terminal: bool,
@@ -19,7 +19,7 @@ pub(crate) struct Progress<E: Write + Copy> {
 }
 
 impl<E: Write + Copy> Progress<E> {
-    /// Tells it on this output, if that is a terminal.
+    /// Prints on this output, if that is a terminal.
     pub(crate) fn new(err: E, is_terminal: bool) -> Progress<E> {
         Progress {
             err,

@@ -11,50 +11,73 @@ is_nothing : (o : Option ℕ) (b : Bool) → is_some o ≡ not b → b ≡ true 
 is_nothing None b is none = refl
 is_nothing (Some t) b is none = let e : true ≡ not true = is ∙ ap not none in absurd cc
 
-pub loop-line-init : goal.loop-line-init
-loop-line-init g c =
+pub loop-at-init : goal.loop-at-init
+loop-at-init g c =
     let D = g.D.Device in
-    none_through D.seen D.may_leave D.faults c.args.session c.args.kernel _
+    none_through D.seen D.may_leave D.faults c.args.stop c.args.session c.args.kernel _
 
 pub returns-in-Err-clause-cut : goal.returns-in-Err-clause-cut
 returns-in-Err-clause-cut g c =
     let D = g.D.Device in
-    let none : c.loop-line.live ≡ None = is_nothing c.loop-line.live c.is_none.result c.is_none.ensures c.if-is_none.true in
-    through_not_turned D.seen D.may_leave D.faults c.args.session c.args.kernel c.args.lines.now c.loop-line.line-index c.loop-line.live c.in-Err.why c.in-Err.device _ _ _ c.loop-line.kernel c.end_refused.result
-    none c.loop-line.invariant c.in-Err.ensures.out c.end_refused.ensures
+    let none : c.loop-at.live ≡ None = is_nothing c.loop-at.live c.is_none.result c.is_none.ensures c.if-is_none.true in
+    through_not_turned D.seen D.may_leave D.faults c.args.stop c.args.session c.args.kernel c.args.lines.now c.loop-at.at c.loop-at.live c.in-Err.why c.in-Err.device _ _ _ c.loop-at.kernel c.end_refused.result
+    none c.loop-at.invariant c.in-Err.ensures.out c.end_refused.ensures
 
 pub returns-in-Err-run_line-clause-cut : goal.returns-in-Err-run_line-clause-cut
 returns-in-Err-run_line-clause-cut g c =
     let D = g.D.Device in
-    let lt : c.loop-line.line-index < length c.args.lines.now = omega arith in
-    let through : GoesThrough D.seen D.may_leave c.args.session c.args.kernel (take c.loop-line.line-index c.args.lines.now) (g.W.Write.contents c.args.writer.now) (g.W.Write.contents c.loop-line.writer) c.loop-line.live c.if-is_none.kernel =
+    let lt : c.loop-at.at < length c.args.lines.now = omega arith in
+    let through : GoesThrough D.seen D.may_leave c.args.stop None c.args.session c.args.kernel (take c.loop-at.at c.args.lines.now) (g.W.Write.contents c.args.writer.now) (g.W.Write.contents c.loop-at.writer) c.loop-at.live c.if-is_none.kernel =
     elim c.if-is_none.branch [
       | then-is_none+then-is_due+in-Ok w ↦
           rw w.kernel-is
-          (turned_through D.seen D.may_leave D.faults c.args.session c.args.kernel (take c.loop-line.line-index c.args.lines.now) c.loop-line.live _ _ c.loop-line.kernel w.in-Ok.next
-          (is_nothing c.loop-line.live c.is_none.result c.is_none.ensures w.if-is_none.true) c.loop-line.invariant w.in-Ok.ensures.over)
-      | else-is_none w ↦ rw w.kernel-is c.loop-line.invariant
+          (turned_through D.seen D.may_leave D.faults c.args.stop c.args.session c.args.kernel (take c.loop-at.at c.args.lines.now) c.loop-at.live _ _ c.loop-at.kernel w.in-Ok.next
+          (is_nothing c.loop-at.live c.is_none.result c.is_none.ensures w.if-is_none.true) c.loop-at.invariant w.in-Ok.ensures.over)
+      | else-is_none w ↦ rw w.kernel-is c.loop-at.invariant
     ] in
-    line_not_through D.seen D.may_leave D.faults c.args.session c.args.kernel c.args.lines.now c.loop-line.line-index c.line-item.result c.loop-line.live _ _ _ c.if-is_none.kernel c.run_line.new.kernel c.in-Err-run_line.why lt c.line-item.is through
+    line_not_through D.seen D.may_leave D.faults c.args.stop c.args.session c.args.kernel c.args.lines.now c.loop-at.at c.index-lines-at.result c.loop-at.live _ _ _ c.if-is_none.kernel c.run_line.new.kernel c.in-Err-run_line.why lt c.index-lines-at.is through
     c.in-Err-run_line.ensures.cut c.in-Err-run_line.ensures.schema c.in-Err-run_line.ensures.restarts
 
-pub loop-line-preserved : goal.loop-line-preserved
-loop-line-preserved g c =
+pub returns-in-Some-clause-ran : goal.returns-in-Some-clause-ran
+returns-in-Some-clause-ran g c =
     let D = g.D.Device in
-    let lt : c.loop-line.line-index < length c.args.lines.now = omega arith in
-    let through : GoesThrough D.seen D.may_leave c.args.session c.args.kernel (take c.loop-line.line-index c.args.lines.now) (g.W.Write.contents c.args.writer.now) (g.W.Write.contents c.loop-line.writer) c.loop-line.live c.if-is_none.kernel =
+    let lt : c.loop-at.at < length c.args.lines.now = omega arith in
+    let through : GoesThrough D.seen D.may_leave c.args.stop None c.args.session c.args.kernel (take c.loop-at.at c.args.lines.now) (g.W.Write.contents c.args.writer.now) (g.W.Write.contents c.loop-at.writer) c.loop-at.live c.if-is_none.kernel =
     elim c.if-is_none.branch [
       | then-is_none+then-is_due+in-Ok w ↦
           rw w.kernel-is
-          (turned_through D.seen D.may_leave D.faults c.args.session c.args.kernel (take c.loop-line.line-index c.args.lines.now) c.loop-line.live _ _ c.loop-line.kernel w.in-Ok.next
-          (is_nothing c.loop-line.live c.is_none.result c.is_none.ensures w.if-is_none.true) c.loop-line.invariant w.in-Ok.ensures.over)
-      | else-is_none w ↦ rw w.kernel-is c.loop-line.invariant
+          (turned_through D.seen D.may_leave D.faults c.args.stop c.args.session c.args.kernel (take c.loop-at.at c.args.lines.now) c.loop-at.live _ _ c.loop-at.kernel w.in-Ok.next
+          (is_nothing c.loop-at.live c.is_none.result c.is_none.ensures w.if-is_none.true) c.loop-at.invariant w.in-Ok.ensures.over)
+      | else-is_none w ↦ rw w.kernel-is c.loop-at.invariant
     ] in
-    rw add-one
-    (line_through D.seen D.may_leave D.faults c.args.session c.args.kernel c.args.lines.now c.loop-line.line-index c.line-item.result c.loop-line.live c.in-Ok-run_line.now _ _ _ c.if-is_none.kernel c.run_line.new.kernel lt c.line-item.is through
-    c.in-Ok-run_line.ensures.told c.in-Ok-run_line.ensures.schema c.in-Ok-run_line.ensures.restarts)
+    rw add-one (rw c.in-Some.is (rw c.in-Some.is at
+    (line_through D.seen D.may_leave D.faults c.args.stop c.args.session c.args.kernel c.in-Ok-run_line.now.1 c.args.lines.now c.loop-at.at c.index-lines-at.result c.loop-at.live c.in-Ok-run_line.now.0 _ _ _ c.if-is_none.kernel c.run_line.new.kernel lt c.index-lines-at.is through
+    c.in-Ok-run_line.ensures.told c.in-Ok-run_line.ensures.schema c.in-Ok-run_line.ensures.restarts)))
+
+pub returns-in-Some-clause-at : goal.returns-in-Some-clause-at
+returns-in-Some-clause-at g c =
+    let lt : c.loop-at.at < length c.args.lines.now = omega arith in
+    (refl, omega arith, omega (arith, lt))
+
+pub loop-at-preserved : goal.loop-at-preserved
+loop-at-preserved g c =
+    let D = g.D.Device in
+    let lt : c.loop-at.at < length c.args.lines.now = omega arith in
+    let through : GoesThrough D.seen D.may_leave c.args.stop None c.args.session c.args.kernel (take c.loop-at.at c.args.lines.now) (g.W.Write.contents c.args.writer.now) (g.W.Write.contents c.loop-at.writer) c.loop-at.live c.if-is_none.kernel =
+    elim c.if-is_none.branch [
+      | then-is_none+then-is_due+in-Ok w ↦
+          rw w.kernel-is
+          (turned_through D.seen D.may_leave D.faults c.args.stop c.args.session c.args.kernel (take c.loop-at.at c.args.lines.now) c.loop-at.live _ _ c.loop-at.kernel w.in-Ok.next
+          (is_nothing c.loop-at.live c.is_none.result c.is_none.ensures w.if-is_none.true) c.loop-at.invariant w.in-Ok.ensures.over)
+      | else-is_none w ↦ rw w.kernel-is c.loop-at.invariant
+    ] in
+    rw add-one (rw c.in_default.is at
+    (line_through D.seen D.may_leave D.faults c.args.stop c.args.session c.args.kernel c.in-Ok-run_line.now.1 c.args.lines.now c.loop-at.at c.index-lines-at.result c.loop-at.live c.in-Ok-run_line.now.0 _ _ _ c.if-is_none.kernel c.run_line.new.kernel lt c.index-lines-at.is through
+    c.in-Ok-run_line.ensures.told c.in-Ok-run_line.ensures.schema c.in-Ok-run_line.ensures.restarts))
 
 pub returns-clause-ran : goal.returns-clause-ran
 returns-clause-ran g c =
-    let all : take c.loop-line.line-index c.args.lines.now ≡ c.args.lines.now = ap (λ n. take n c.args.lines.now) (omega arith) ∙ take-length c.args.lines.now in
-    rw all at c.loop-line.invariant
+    let end = c.loop-at.auto.at-end in
+    let last = c.loop-at-test.false in
+    let all : take c.loop-at.at c.args.lines.now ≡ c.args.lines.now = ap (λ n. take n c.args.lines.now) (omega (arith, end, last)) ∙ take-length c.args.lines.now in
+    rw all at c.loop-at.invariant

@@ -1,4 +1,4 @@
-use Rattle.std.proofs.Common.{◌≡◌, None, Some}
+use Rattle.std.proofs.Common.{◌≡◌, false, None, Some}
 use Rattle.std.proofs.lemmas.Result.{IfErr-weaker, on_ok_weaker}
 use Rattle.mt_alone.specs.Driven.{IsBeside}
 use Rattle.mt_alone.specs.Plays.{Play}
@@ -11,7 +11,7 @@ returns-in-Some-clause-ran g c =
     let D = g.D.Device in
     let k = c.args.kernel.now in
     let ran = rw c.in-Some.is at (rw c.lines.ensures at c.in_ok-txn.ensures.ran) in
-    on_ok_weaker c.end_live.result (λ ended. λ p own b. ended_run D.seen D.may_leave D.faults p k c.args.script.now.lines.items c.in-Some.txn _ _ _ c.run_lines.new.kernel c.end_live.new.kernel (ran p own b) ended) c.end_live.ensures.ended
+    on_ok_weaker c.end_live.result (λ ended. λ p own b. ended_run D.seen D.may_leave D.faults p k false None c.args.script.now.lines.items c.in-Some.txn _ _ _ c.run_lines.new.kernel c.end_live.new.kernel (ran p own b) ended) c.end_live.ensures.ended
 
 pub returns-in-Some-clause-cut : goal.returns-in-Some-clause-cut
 returns-in-Some-clause-cut g c =
@@ -22,7 +22,7 @@ returns-in-Some-clause-cut g c =
     (λ why. (p : Play) → IsBeside D.seen D.may_leave p (Some c.in-Some.txn) c.run_lines.new.kernel → IsCutAtEnd D.seen D.may_leave D.faults p (g.W.Write.contents c.run_lines.new.writer) (g.W.Write.contents c.end_live.new.writer) c.end_live.new.kernel why)
     (λ why. (p : Play) → p.session ≡ c.args.session → IsBeside D.seen D.may_leave p None k
     → IsCutShort D.seen D.may_leave D.faults p k c.args.script.now.lines.items (g.W.Write.contents c.args.writer.now) (g.W.Write.contents c.end_live.new.writer) c.end_live.new.kernel why)
-    (λ why cut p own b. end_cut D.seen D.may_leave D.faults p k c.args.script.now.lines.items c.in-Some.txn _ _ _ c.run_lines.new.kernel c.end_live.new.kernel why (ran p own b) cut) c.end_live.ensures.cut
+    (λ why cut p own b. end_cut D.seen D.may_leave D.faults p k false None c.args.script.now.lines.items c.in-Some.txn _ _ _ c.run_lines.new.kernel c.end_live.new.kernel why (ran p own b) cut) c.end_live.ensures.cut
 
 pub returns-in-Some-clause-why : goal.returns-in-Some-clause-why
 returns-in-Some-clause-why g c =
@@ -33,11 +33,11 @@ returns-in-Some-clause-why g c =
     (λ why. (p : Play) → IsBeside D.seen D.may_leave p (Some c.in-Some.txn) c.run_lines.new.kernel → IsCutAtEnd D.seen D.may_leave D.faults p (g.W.Write.contents c.run_lines.new.writer) (g.W.Write.contents c.end_live.new.writer) c.end_live.new.kernel why)
     (λ why. (p : Play) → p.session ≡ c.args.session → IsBeside D.seen D.may_leave p None k → IsEndedFor D.faults c.end_live.new.kernel why)
     (λ why cut p own b. cut_ended D.seen D.may_leave D.faults p k c.args.script.now.lines.items _ _ c.end_live.new.kernel why
-    (end_cut D.seen D.may_leave D.faults p k c.args.script.now.lines.items c.in-Some.txn _ _ _ c.run_lines.new.kernel c.end_live.new.kernel why (ran p own b) cut)) c.end_live.ensures.cut
+    (end_cut D.seen D.may_leave D.faults p k false None c.args.script.now.lines.items c.in-Some.txn _ _ _ c.run_lines.new.kernel c.end_live.new.kernel why (ran p own b) cut)) c.end_live.ensures.cut
 
 pub returns-in-None-clause-ran : goal.returns-in-None-clause-ran
 returns-in-None-clause-ran g c = λ p own b.
     let D = g.D.Device in
     let k = c.args.kernel.now in
     let ran = rw c.in-None.is at (rw c.lines.ensures at c.in_ok-txn.ensures.ran) in
-    closed_run D.seen D.may_leave D.faults p k c.args.script.now.lines.items _ _ c.run_lines.new.kernel (ran p own b)
+    closed_run D.seen D.may_leave D.faults p k false None c.args.script.now.lines.items _ _ c.run_lines.new.kernel (ran p own b)

@@ -9,7 +9,7 @@ returns-in-Err-clause-cut g c = λ p own b.
 pub returns-in-Ok-tell-clause-told : goal.returns-in-Ok-tell-clause-told
 returns-in-Ok-tell-clause-told g c = λ p own b.
     let D = g.D.Device in
-    line_told D.seen D.may_leave D.faults p c.args.kernel.now c.args.line.now c.in-Ok.told c.args.live _ _ c.answer.new.kernel b c.in-Ok.ensures.schema (c.in-Ok.ensures.answers p own b) c.in-Ok-tell.ensures.all
+    line_told D.seen D.may_leave D.faults p c.args.kernel.now c.args.stop c.ending-why.result c.args.line.now c.in-Ok.told c.args.live _ _ c.answer.new.kernel c.ending-why.ensures b c.in-Ok.ensures.schema (c.in-Ok.ensures.answers p own b) c.in-Ok-tell.ensures.all
 
 pub returns-clause-cut : goal.returns-clause-cut
 returns-clause-cut g c = λ p own b.

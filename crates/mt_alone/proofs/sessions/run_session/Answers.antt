@@ -7,7 +7,7 @@ use Rattle.mt_alone.proofs.sessions.run_session.Goals as goal
 pub returns-in-Ok-clause-served : goal.returns-in-Ok-clause-served
 returns-in-Ok-clause-served g c =
     let D = g.D.Device in
-    session_served_of D.seen D.may_leave D.faults c.args.kernel c.args.session _ _ _ _ c.run_script.result c.in-Ok.ensures.all c.run_script.ensures.schema c.run_script.ensures.restarts c.run_script.ensures.ran
+    session_served_of D.seen D.may_leave D.faults c.args.kernel c.args.stop c.args.session _ _ _ _ c.run_script.result c.in-Ok.ensures.all c.run_script.ensures.schema c.run_script.ensures.restarts c.run_script.ensures.ran
 
 pub returns-in-Ok-clause-cut : goal.returns-in-Ok-clause-cut
 returns-in-Ok-clause-cut g c =

@@ -15,6 +15,7 @@ returns-in_ok-file c =
 pub returns-in_ok-script : goal.returns-in_ok-script
 returns-in_ok-script c = (
   c.in_ok-script.ensures ∙ c.get_str-else-eq.ensures ∙ first_value-rows (found_of c.args.found.now) (codes "script"),
+  c.flag_in-stop.ensures,
   λ e. let same : c.args.name.now ≡ codes "schedule" = inner _ _ e in let holds : c.eq.result ≡ true = search (rules, c.eq.ensures, same) in let fails : c.eq.result ≡ false = c.if-eq.false in cc,
   λ e. c.requires.0 (inner _ _ e),
   λ e. c.requires.1 (inner _ _ e),

@@ -1,4 +1,4 @@
-use Rattle.std.proofs.Common.{rules, ◌≡◌, ◌<◌, ◌∙◌, ◌++◌, ap, length, refl, sym, take}
+use Rattle.std.proofs.Common.{rules, ◌∙◌, ◌++◌, ap, sym, take}
 use Rattle.mt_cli.specs.Reads.{IsFront}
 use Rattle.mt_cli.proofs.ReadLemmas.{if_known, overlong_ends, read_more}
 use Rattle.mt_cli.proofs.named_inputs.input_front.Goals as goal

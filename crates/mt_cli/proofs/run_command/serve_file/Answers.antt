@@ -10,5 +10,5 @@ returns-in-Err-clause-unserved g c = no_device c.in-Err.refusal c.in-Err.ensures
 pub returns-clause-unserved : goal.returns-clause-unserved
 returns-clause-unserved g c =
     IfErr-weaker c.serve_over-served.result.0 _ _
-    (λ fault x. unserved _ _ fault c.in-Ok.ensures.held (put_back _ _ _ c.args.name.now _ c.in-Ok.ensures.lent c.back.ensures) x)
+    (λ fault x. unserved _ _ fault c.in-Ok.ensures.held (put_back _ _ _ c.args.service.name.now _ c.in-Ok.ensures.lent c.back.ensures) x)
     c.serve_over-served.ensures.unserved

@@ -5,11 +5,11 @@ pub returns-in-Ok-clause-served : goal.returns-in-Ok-clause-served
 returns-in-Ok-clause-served g c = λ relations counters b opened.
     let D = g.D.Device in
     let n = c.in-Ok.kernel in
-    served_on D.seen D.may_leave relations counters b c.args.kernel n _ _ _ _ opened c.in-Ok.ensures.schema c.in-Ok.ensures.restarts c.in-Ok.ensures.ran
+    served_on D.seen D.may_leave c.args.stop c.in-Ok.stopped relations counters b c.args.kernel n _ _ _ _ opened c.in-Ok.ensures.schema c.in-Ok.ensures.restarts c.in-Ok.ensures.ran
     (λ first restarts. rw c.into_device.ensures (c.can_restart.ensures first (D.seen n.core.operations.store.device) restarts (g.met.D.Device.present n.core.operations.store.device) n.schema))
 
 pub returns-in-Err-clause-short : goal.returns-in-Err-clause-short
 returns-in-Err-clause-short g c = λ relations counters b opened.
     let D = g.D.Device in
     let told = c.into_device-why.ensures in
-    rw told.why (short_on D.seen D.may_leave D.faults relations counters b c.args.kernel _ _ _ c.in-Err.left _ _ opened (g.met.D.Device.present _) told.stands c.in-Err.ensures.cut)
+    rw told.why (short_on D.seen D.may_leave D.faults c.args.stop relations counters b c.args.kernel _ _ _ c.in-Err.left _ _ opened (g.met.D.Device.present _) told.stands c.in-Err.ensures.cut)

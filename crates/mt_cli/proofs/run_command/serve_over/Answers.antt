@@ -1,12 +1,11 @@
 use Rattle.std.proofs.Common.{arith}
 use Rattle.std.proofs.KnownBytes.{Keeps-refl}
 use Rattle.std.proofs.lemmas.List.{length-map}
-use Rattle.std.proofs.lemmas.Result.{IfErr-weaker, on_ok_weaker}
 use Rattle.mt_restart.specs.Resumed.{IsOpened}
 use Rattle.mt_alone.specs.Sessions.{lines_in}
 use Rattle.mt_cli.proofs.DumpLemmas.{barred_by, stands_same}
-use Rattle.mt_cli.proofs.ServeLemmas.{err_through, ok_through, on_base}
-use Rattle.mt_cli.specs.Serves.{cut_among, not_begun, too_many}
+use Rattle.mt_cli.proofs.ServeLemmas.{served_by, unserved_by}
+use Rattle.mt_cli.specs.Serves.{not_begun, too_many}
 use Rattle.mt_cli.proofs.run_command.serve_over.Goals as goal
 use Rattle.std.proofs.Common.{refl}
 
@@ -18,17 +17,15 @@ pub returns-in-Ok-clause-served : goal.returns-in-Ok-clause-served
 returns-in-Ok-clause-served g c =
     let D = g.D.Device in
     let b = c.in-Ok.ensures.begins in
-    on_ok_weaker c.ended.result
-    (λ on. on_base _ _ (λ n m b. IsOpened D.seen D.may_leave n m b c.in-Ok.kernel) on _ _ b.0 b.1 c.in-Ok.ensures.opened)
-    (ok_through _ c.serve_opened-ran.result.0 c.ended.result c.ended.ensures.ok c.serve_opened-ran.ensures.served)
+    rw c.ended.ensures
+    (served_by c.args.stop _ _ _ _ _ (λ n m x. IsOpened D.seen D.may_leave n m x c.in-Ok.kernel) _ _ b.0 b.1 c.in-Ok.ensures.opened c.serve_opened-ran.result.0 c.serve_opened-ran.ensures.served)
 
 pub returns-in-Ok-clause-unserved : goal.returns-in-Ok-clause-unserved
 returns-in-Ok-clause-unserved g c =
     let D = g.D.Device in
     let b = c.in-Ok.ensures.begins in
-    IfErr-weaker c.ended.result _ _
-    (λ fault x. cut_among x.0 fault (on_base _ _ (λ n m b. IsOpened D.seen D.may_leave n m b c.in-Ok.kernel) x.1 _ _ b.0 b.1 c.in-Ok.ensures.opened) x.2)
-    (err_through _ c.serve_opened-ran.result.0 c.ended.result c.ended.ensures.err c.serve_opened-ran.ensures.short)
+    rw c.ended.ensures
+    (unserved_by c.args.stop _ _ _ _ _ (λ n m x. IsOpened D.seen D.may_leave n m x c.in-Ok.kernel) _ _ b.0 b.1 c.in-Ok.ensures.opened c.serve_opened-ran.result.0 c.serve_opened-ran.ensures.served c.serve_opened-ran.ensures.short)
 
 pub returns-in-Err-clause-unserved : goal.returns-in-Err-clause-unserved
 returns-in-Err-clause-unserved g c =

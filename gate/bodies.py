@@ -81,8 +81,11 @@ def open_goals(crate, texts, said):
     keys = set()
     for path, line in lines:
         text = texts.get(path) or pathlib.Path(f"{crate.folder}/{path}").read_text(encoding="utf-8")
-        at = sum(map(len, text.splitlines(True)[:line]))
-        keys.add((path, *(turned_function(text, at) or ("", ""))))
+        whole = text.splitlines(True)
+        # (a goal at an attribute is of the function below it)
+        while whole[line - 1].lstrip().startswith("#["):
+            line += 1
+        keys.add((path, *(turned_function(text, sum(map(len, whole[:line]))) or ("", ""))))
     return paths, keys
 
 

@@ -20,5 +20,7 @@ mod silence;
 mod waits;
 
 pub use commands::{perform, perform_words};
+pub use mt_args::{CliFault, Command, Numbers, command_of};
+pub use mt_folder::{DiskFolder, Folder, MemFolder, Reason};
 pub use mt_shared::{Gate, Point};
 pub use silence::Silence;

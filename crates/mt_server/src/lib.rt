@@ -14,5 +14,6 @@ mod session;
 mod transcript;
 
 pub use mt_alone::{NotServed, RunFault, run_alone, run_sessions};
+pub use mt_script::{Script, ScriptFault, read_script};
 pub use service::{Served, serve};
 pub use transcript::Transcript;

@@ -4,8 +4,7 @@
 mod progress;
 
 use crate::progress::Progress;
-use mt_cli::perform_words;
-use mt_folder::DiskFolder;
+use mt_cli::{DiskFolder, perform_words};
 use std::env;
 use std::fs::{File, OpenOptions};
 use std::io::{self, BufWriter, ErrorKind, IsTerminal, Write};

@@ -28,14 +28,14 @@ impl<E: Write + Copy> Progress<E> {
         }
     }
 
-    /// Draws the line.
+    /// Draws the line, and goes back to its begin. So a program that is ended leaves no line before the prompt.
     fn draw(&self, commits: u64) {
         let mut digits = Buffer::new();
         let digits = digits.format(commits);
         let mut err = self.err;
         let _cleared = err.write(CLEARED);
         let _number = err.write(digits.as_bytes());
-        let _what = err.write(b" committed");
+        let _what = err.write(b" committed\r");
     }
 }
 

@@ -75,8 +75,8 @@ def with_proofs(build_rlib):
 
 
 def take_proofs(crate, kept):
-    """Writes what a library's build of this run checked as a folder of kept work: a file a module, in a folder that the first line on the
-    toolchain names."""
+    """Writes what a library's build of this run checked as a folder of kept work: a file a module, in a folder with the name of the
+    toolchain's build, which the head of each file has. If the library has no such archive, nothing is written."""
     made = f"{crate.rlib}/toolchain/checked"
     if not os.path.isfile(f"{made}.json"):
         return

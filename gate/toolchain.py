@@ -16,7 +16,7 @@ import tempfile
 import threading
 import time
 
-# In the later one, a crate's named wrong designs begin with a task of their own, its seed, over which turned bodies are tried too.
+# The later one keeps what a run proved, and a later run on that machine proves only what changed. Edits are tried by each run.
 MADE_FOR = ["rattle-kit-13b logic dac8208d650f15bf", "rattle-kit-13f logic dac8208d650f15bf"]
 CLOSING = re.compile(r"(\d+) passed, (\d+) failed")
 # A line of tests takes about as long as five of a library; a program, to be compiled twice, about as long as this many lines.
@@ -154,13 +154,12 @@ class Run:
     """A run of `rt ci` that tries the turned bodies of each crate too.
 
     `edits_of` gives a crate's turned bodies. `try_all` tries them over a folder of kept work, and answers pairs of a body and whether it
-    was refused. They are tried beside the named wrong designs of their crate, and over the same kept work. With the later version they
-    are a task of their own, which begins with the seed of those designs, if there are some."""
+    was refused. They are tried beside the named wrong designs of their crate, and over the same kept work. The later version has a task
+    for each of those designs, in place of which one task tries all edits of a crate."""
 
     def __init__(self, edits_of, try_all, is_timed):
         self.edits_of, self.try_all, self.is_timed = edits_of, try_all, is_timed
         self.rt, self.crates, self.results, self.seconds = script(), {}, {}, []
-        self.has_seeds = version() == MADE_FOR[1]
         rt = self.rt
         listed, lanes, must_fail = rt.crates_of, rt.in_lanes, rt.must_fail
 
@@ -170,10 +169,12 @@ class Run:
             return found
 
         rt.crates_of = crates_of
-        rt.in_lanes = lambda tasks: lanes(self.told((self.with_bodies if self.has_seeds else self.with_lines)(tasks)))
-        if not self.has_seeds:
+        rt.in_lanes = lambda tasks: lanes(self.told(self.with_lines(tasks)))
+        rt.Crate.build_rlib = with_proofs(rt.Crate.build_rlib)
+        if hasattr(rt, "must_fail_all"):
             rt.must_fail_all = self.must_fail_all
-            rt.Crate.build_rlib = with_proofs(rt.Crate.build_rlib)
+        else:
+            rt.add_edits = self.add_edits
         remember_sums(rt)
         rt.must_fail = self.clocked(must_fail, lambda crate, edit, *_: f"edit {crate.name}/{os.path.basename(edit)}")
 
@@ -193,6 +194,16 @@ class Run:
 
         return {key: (task[0], lines(key), *task[2:]) for key, task in tasks.items()}
 
+    def add_edits(self, tasks, crate, named, _, waits, is_well, *__):
+        """Adds the task that tries a crate's edits. Returns the call that gives what each named wrong design came to, and the one that gives
+        those of earlier runs: none."""
+
+        def tried(given, _):
+            return self.must_fail_all(crate, named, ["--jobs", "1"]) if is_well(given, len(named)) else []
+
+        tasks[crate.name, "edits"] = (waits, crate.count(rb"\n"), self.rt.need(crate), tried)
+        return (lambda given: given[crate.name, "edits"]), dict
+
     def must_fail_all(self, crate, named, flags):
         """Tries a crate's turned bodies and its named wrong designs together, over what its proof in this run checked. A design that is not
         refused there is tried alone. Returns of each design what `must_fail` does."""
@@ -207,50 +218,20 @@ class Run:
             refused = {edit for edit, is_refused in tried if is_refused}
             left = [it for it in named if it not in refused]
             alone = dict(zip(left, self.clocked(self.named, lambda *_: f"{crate.name} named jobs=1")(crate, left, flags, kept))) if left else {}
-            return [alone.get(it) or (True, f"must-fail {crate.name}/{os.path.basename(it)}: refused at a goal of its own function") for it in named]
+            told = getattr(self.rt, "REFUSED", True)
+            return [alone.get(it) or (told, f"must-fail {crate.name}/{os.path.basename(it)}: refused at a goal of its own function") for it in named]
 
     def named(self, crate, edits, flags, kept):
         """Tries named wrong designs, and returns of each what `must_fail` does."""
         tried = [self.rt.must_fail(crate, it, flags, kept) for it in edits]
         is_sound = not self.rt.checked(crate, {}, flags, kept).returncode
-        return [it if is_sound and it[0] else self.rt.must_fail(crate, edit, flags) for edit, it in zip(edits, tried)]
-
-    def with_bodies(self, tasks):
-        """Returns the tasks of a run with one more for each crate that has turned bodies. It begins with the seed of the crate's
-        named wrong designs, if it has some, and that seed stays until it ended."""
-        found = {}
-        for key, task in tasks.items():
-            name, kind = key[0], key[1]
-            has_seed = (name, "seed") in tasks
-            if kind == ("sound" if has_seed else "tests") and name in self.crates and self.edits_of(self.crates[name]):
-                crate, after = self.crates[name], (name, "seed" if has_seed else "proof")
-                turned = ([after], 0, task[2], lambda given, jobs, it=crate, after=after: self.turned(it, given[after], jobs))
-                if has_seed:
-                    found[name, "turned"] = turned
-                    found[key] = ([*task[0], (name, "turned")], *task[1:])
-                else:
-                    found[key] = task
-                    found[name, "turned"] = turned
-            else:
-                found[key] = task
-        return found
+        holds = lambda kind: is_sound and is_refusal(self.rt, kind)
+        return [it if holds(it[0]) else self.rt.must_fail(crate, edit, flags) for edit, it in zip(edits, tried)]
 
     def told(self, tasks):
         """Returns the tasks, each of which prints its seconds if that is wanted, but for those whose parts do."""
         name = lambda key: (lambda given, jobs: f"{' '.join(map(str, key))} jobs={jobs}")
-        is_whole = lambda key: self.has_seeds or key[1] != "edits"
-        return {key: (*task[:3], self.clocked(task[3], name(key)) if is_whole(key) else task[3]) for key, task in tasks.items()}
-
-    def turned(self, crate, before, jobs):
-        """Tries a crate's turned bodies, over its seed if it has one."""
-        if before is False or before is None:
-            return
-        with tempfile.TemporaryDirectory(prefix="rt-turned-") as room:
-            if isinstance(before, str) and before:
-                linked(f"{before}/seed", f"{room}/kept")
-            else:
-                os.mkdir(f"{room}/kept")
-            self.results[crate.name] = self.try_all(self.rt, crate, self.edits_of(crate), f"{room}/kept", jobs)
+        return {key: (*task[:3], task[3] if key[1] == "edits" else self.clocked(task[3], name(key))) for key, task in tasks.items()}
 
     def run(self):
         """Makes the run, and returns how much passed and how much failed."""

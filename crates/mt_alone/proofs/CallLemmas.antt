@@ -195,27 +195,27 @@ module _ {D : Type 0} {g : Ghosts D} (seen : D → List ℕ) (may_leave : D → 
   call_refused n r why is under o early answer unmoved did states =
       let stays = subst (λ (x : Result Called Refusal). (first : Base) (s : State) → Shows seen may_leave first s k → HasCalled seen may_leave first s t op x n) is did in
       let now = opened_stays seen may_leave faults p t calls k n o stays (states t) in
-      let told = go (call_cause k.relations k.counters (is_failed k) k.core t op) refl in
+      let outcome = go (call_cause k.relations k.counters (is_failed k) k.core t op) refl in
       answered_refused seen may_leave faults p (Some calls) (line.Call op) (Some t) k n why under (calls, under, now) (left_of seen may_leave faults p (Some t) n (calls, under, now))
-      (λ e. broken told e) (λ other. wants told other)
+      (λ e. broken outcome e) (λ other. wants outcome other)
     where
-      Told : Type 0
-      Told = ((why ≡ refusal.DeviceFailed) × HasBroken faults n) ⊎ ((why ≢ refusal.DeviceFailed) × ((fault ≡ Some why) ⊎ IsCallWant op why))
+      Reported : Type 0
+      Reported = ((why ≡ refusal.DeviceFailed) × HasBroken faults n) ⊎ ((why ≢ refusal.DeviceFailed) × ((fault ≡ Some why) ⊎ IsCallWant op why))
 
-      late : IsCallWant op why → Told
+      late : IsCallWant op why → Reported
       late want = inr (λ (e : why ≡ refusal.DeviceFailed). subst (IsCallWant op) e want, inr want)
 
-      go : (c : Option Refusal) → call_cause k.relations k.counters (is_failed k) k.core t op ≡ c → Told
+      go : (c : Option Refusal) → call_cause k.relations k.counters (is_failed k) k.core t op ≡ c → Reported
       go None e = late (want_of seen k.core t op why (opened_free o) (∥∥₁_map (subst (IsAnsweredBy seen may_leave k t op) is (answer e)) (λ (origin, base, at, safe, said). (origin, said))))
       go (Some y) e =
           let same : y ≡ why = let both : ◌≡◌ {A = Result Called Refusal} (Err y) (Err why) = sym (early y e) ∙ is in cc in
           by (cause_is (is_failed k) many_of fault op why (fault_sound k.relations k.counters op) (sym (call_is o) ∙ e ∙ ap (λ (x : Refusal). Some x) same))
         where
-          by : ((why ≡ refusal.DeviceFailed) × (is_failed k ≡ true)) ⊎ ((why ≢ refusal.DeviceFailed) × ((fault ≡ Some why) ⊎ IsCallWant op why)) → Told
+          by : ((why ≡ refusal.DeviceFailed) × (is_failed k ≡ true)) ⊎ ((why ≢ refusal.DeviceFailed) × ((fault ≡ Some why) ⊎ IsCallWant op why)) → Reported
           by (inl x) = inl (x.0, inl (ap (λ (z : Kernel D g). is_failed z) (unmoved y e) ∙ x.1))
           by (inr x) = inr x
 
-      broken : Told → why ≡ refusal.DeviceFailed → HasBroken faults n
+      broken : Reported → why ≡ refusal.DeviceFailed → HasBroken faults n
       broken (inl x) e = x.1
       broken (inr x) e = absurd (x.0 e)
 
@@ -227,7 +227,7 @@ module _ {D : Type 0} {g : Ghosts D} (seen : D → List ℕ) (may_leave : D → 
       due (inl x) = inl x
       due (inr want) = inr (want, inr (tested (call_cause k.relations k.counters (is_failed k) k.core t op) refl))
 
-      wants : Told → why ≢ refusal.DeviceFailed → (fault ≡ Some why) ⊎ (IsCallWant op why × IsDueTo seen may_leave k (Some t) (line.Call op) why)
+      wants : Reported → why ≢ refusal.DeviceFailed → (fault ≡ Some why) ⊎ (IsCallWant op why × IsDueTo seen may_leave k (Some t) (line.Call op) why)
       wants (inl x) other = absurd (other x.0)
       wants (inr x) other = due x.1
 

@@ -40,12 +40,12 @@ module _ {D : Type 0} {g : Ghosts D} (faults : D → ℕ) where
       → (why ≢ refusal.NoMemory → (c ≡ Some why) ⊎ IsFault faults k.core n.core why) → Fails faults n why
   fails_for k n why c is stands cause = fails_of k n why (λ failed. stands refusal.DeviceFailed (is ∙ ap (λ (b : Bool). if b then Some refusal.DeviceFailed else None) failed)) (λ other. go (cause other))
     where
-      told : (b : Bool) → is_failed k ≡ b → (if b then Some refusal.DeviceFailed else None) ≡ Some why → IsFailure faults (is_failed k) k.core n.core why
-      told true failed e = inl (failed, cc)
-      told false failed e = absurd cc
+      outcome : (b : Bool) → is_failed k ≡ b → (if b then Some refusal.DeviceFailed else None) ≡ Some why → IsFailure faults (is_failed k) k.core n.core why
+      outcome true failed e = inl (failed, cc)
+      outcome false failed e = absurd cc
 
       go : (c ≡ Some why) ⊎ IsFault faults k.core n.core why → IsFailure faults (is_failed k) k.core n.core why
-      go (inl e) = told (is_failed k) refl (sym is ∙ e)
+      go (inl e) = outcome (is_failed k) refl (sym is ∙ e)
       go (inr fault) = inr fault
 
   pub failing : (k n : Kernel D g) {T : Type 0} (r : Result T Refusal) → (is_failed k ≡ true → n ≡ k) → IfErr r (λ why. why ≢ refusal.NoMemory → IsFailure faults (is_failed k) k.core n.core why) → IfErr r (Fails faults n)

@@ -19,7 +19,7 @@ use Rattle.mt_script.specs.Answers.{AppendsFront, answer_text, transcript_text}
 use Rattle.mt_txn.specs.Shown.{SameSchema}
 use Rattle.mt_alone.specs.Driven.{IsBeside, IsDueTo, IsGivenUp, IsResting}
 use Rattle.mt_alone.specs.Plays.{Play, IsTurn, acts, refuses, Runs, starts, goes_on, after_at, put_off}
-use Rattle.mt_alone.specs.Runs.{HasRun, HasRunLines, HasTurned, IsAnswered, IsCut, IsCutAtEnd, IsCutShort, IsEnded, IsEndedFor, nothing, aborted, failed, IsLeftFor, IsStopped, IsToldFor, IsUnheard, failure_line, last_line}
+use Rattle.mt_alone.specs.Runs.{HasRun, HasRunLines, HasTurned, IsAnswered, IsCut, IsCutAtEnd, IsCutShort, IsEnded, IsEndedFor, nothing, aborted, failed, IsLeftFor, IsStopped, IsReportedFor, IsUnheard, failure_line, last_line}
 use Rattle.mt_alone.specs.Stops.{Ends}
 use Rattle.mt_script.proofs.TextLemmas.{front_then}
 use Rattle.mt_alone.proofs.StopLemmas.{ends_more, ends_none}
@@ -52,19 +52,19 @@ unheard_behind a b c xs ys before u = record {
   last = u.last;
   answers_are = ap (λ (t : List Answer). xs ++ t) u.answers_are ∙ sym (append_assoc xs u.heard (u.last ∷ []));
   mid = u.mid;
-  told = appends_all a b u.mid xs u.heard before u.told;
+  outcome = appends_all a b u.mid xs u.heard before u.outcome;
   front = u.front;
 }
 
 -- what ends a run behind answers, behind those before them
-pub told_behind : (a b c : Option (List ℕ)) (xs ys : List Answer) (why : RunFault) → Appends a b (transcript_text xs) → IsToldFor b c ys why → IsToldFor a c (xs ++ ys) why
-told_behind a b c xs ys fault.Output before (last, is, front) = (last, is, subst (λ (t : List Answer). AppendsFront a c (transcript_text t)) (sym (append_assoc xs ys last)) (appends_front a b c xs (ys ++ last) before front))
-told_behind a b c xs ys (fault.Refused why) before (inl all) = inl (subst (λ (t : List Answer). Appends a c (transcript_text t)) (sym (append_assoc xs ys (failure_line why))) (appends_all a b c xs (ys ++ failure_line why) before all))
-told_behind a b c xs ys (fault.Refused why) before (inr unheard) = inr (unheard_behind a b c xs ys before unheard)
+pub reported_behind : (a b c : Option (List ℕ)) (xs ys : List Answer) (why : RunFault) → Appends a b (transcript_text xs) → IsReportedFor b c ys why → IsReportedFor a c (xs ++ ys) why
+reported_behind a b c xs ys fault.Output before (last, is, front) = (last, is, subst (λ (t : List Answer). AppendsFront a c (transcript_text t)) (sym (append_assoc xs ys last)) (appends_front a b c xs (ys ++ last) before front))
+reported_behind a b c xs ys (fault.Refused why) before (inl all) = inl (subst (λ (t : List Answer). Appends a c (transcript_text t)) (sym (append_assoc xs ys (failure_line why))) (appends_all a b c xs (ys ++ failure_line why) before all))
+reported_behind a b c xs ys (fault.Refused why) before (inr unheard) = inr (unheard_behind a b c xs ys before unheard)
 
-pub stopped_told : (was now : Option (List ℕ)) (y : Refusal) (why : RunFault) → IsStopped was now y why → IsToldFor was now [] why
-stopped_told was now y fault.Output (is, front) = (Refused refusal.DeviceFailed ∷ [], failed, subst (λ (x : Refusal). AppendsFront was now (transcript_text (failure_line x))) is front)
-stopped_told was now y (fault.Refused why) (is, all) = inl (subst (λ (x : Refusal). Appends was now (transcript_text (failure_line x))) (sym is) all)
+pub stopped_reported : (was now : Option (List ℕ)) (y : Refusal) (why : RunFault) → IsStopped was now y why → IsReportedFor was now [] why
+stopped_reported was now y fault.Output (is, front) = (Refused refusal.DeviceFailed ∷ [], failed, subst (λ (x : Refusal). AppendsFront was now (transcript_text (failure_line x))) is front)
+stopped_reported was now y (fault.Refused why) (is, all) = inl (subst (λ (x : Refusal). Appends was now (transcript_text (failure_line x))) (sym is) all)
 
 -- ---- turns
 
@@ -102,34 +102,34 @@ module _ {D : Type 0} {g : Ghosts D} (seen : D → List ℕ) (may_leave : D → 
       → Turned (p, k) (l ∷ []) (a ∷ []) (q, n)
   turned l a live q n at turn schema = goes_on [] [] (p, k) (q, n) l a starts (record { live = live; beside = at; turn = turn; schema = schema })
 
-  pub line_told : (stop : Bool) (why : Option Refusal) (l : Line) (told : Answer × Option ℕ) (live : Option ℕ) (was now : Option (List ℕ)) (n : Kernel D g) → Ends stop why (told.0 ∷ []) → IsBeside seen may_leave p live k → SameSchema k n → IsAnswered seen may_leave p k live l told n → Appends was now (answer_text told.0 ++ 10 ∷ [])
-      → HasRunLines seen may_leave stop why p k (l ∷ []) was now told.1 n
-  line_told stop why l told live was now n ends at schema (q, turn, beside) text = record {
-    answers = told.0 ∷ [];
+  pub line_reported : (stop : Bool) (why : Option Refusal) (l : Line) (outcome : Answer × Option ℕ) (live : Option ℕ) (was now : Option (List ℕ)) (n : Kernel D g) → Ends stop why (outcome.0 ∷ []) → IsBeside seen may_leave p live k → SameSchema k n → IsAnswered seen may_leave p k live l outcome n → Appends was now (answer_text outcome.0 ++ 10 ∷ [])
+      → HasRunLines seen may_leave stop why p k (l ∷ []) was now outcome.1 n
+  line_reported stop why l outcome live was now n ends at schema (q, turn, beside) text = record {
+    answers = outcome.0 ∷ [];
     play = q;
-    ran = turned l told.0 live q n at turn schema;
+    ran = turned l outcome.0 live q n at turn schema;
     ends = ends;
-    told = subst (Appends was now) (sym (text_one told.0)) text;
+    outcome = subst (Appends was now) (sym (text_one outcome.0)) text;
     beside = beside;
   }
 
-  pub line_unheard : (l : Line) (told : Answer × Option ℕ) (live : Option ℕ) (was now : Option (List ℕ)) (m n : Kernel D g) (why : RunFault) → IsBeside seen may_leave p live k → SameSchema k m → IsAnswered seen may_leave p k live l told m
-      → AppendsFront was now (answer_text told.0 ++ 10 ∷ []) → ((q : Play) → IsBeside seen may_leave q told.1 m → IsLeftFor seen may_leave faults q n why) → IsCutShort seen may_leave faults p k (l ∷ []) was now n why
-  line_unheard l told live was now m n why at schema (q, turn, beside) front left = record {
+  pub line_unheard : (l : Line) (outcome : Answer × Option ℕ) (live : Option ℕ) (was now : Option (List ℕ)) (m n : Kernel D g) (why : RunFault) → IsBeside seen may_leave p live k → SameSchema k m → IsAnswered seen may_leave p k live l outcome m
+      → AppendsFront was now (answer_text outcome.0 ++ 10 ∷ []) → ((q : Play) → IsBeside seen may_leave q outcome.1 m → IsLeftFor seen may_leave faults q n why) → IsCutShort seen may_leave faults p k (l ∷ []) was now n why
+  line_unheard l outcome live was now m n why at schema (q, turn, beside) front left = record {
     before = l ∷ [];
     rest = [];
     split = refl;
-    answers = told.0 ∷ [];
+    answers = outcome.0 ∷ [];
     play = q;
     last = m;
-    ran = turned l told.0 live q m at turn schema;
-    told = ends why (subst (AppendsFront was now) (sym (text_one told.0)) front);
+    ran = turned l outcome.0 live q m at turn schema;
+    outcome = ends why (subst (AppendsFront was now) (sym (text_one outcome.0)) front);
     left = left q beside;
   }
     where
-      ends : (x : RunFault) → AppendsFront was now (transcript_text (told.0 ∷ [])) → IsToldFor was now (told.0 ∷ []) x
+      ends : (x : RunFault) → AppendsFront was now (transcript_text (outcome.0 ∷ [])) → IsReportedFor was now (outcome.0 ∷ []) x
       ends fault.Output f = ([], nothing, f)
-      ends (fault.Refused y) f = inr (record { heard = []; last = told.0; answers_are = refl; mid = was; told = text_none was; front = f })
+      ends (fault.Refused y) f = inr (record { heard = []; last = outcome.0; answers_are = refl; mid = was; outcome = text_none was; front = f })
 
   -- it was given up
   stopped_left : (n : Kernel D g) (was now : Option (List ℕ)) (y : Refusal) (why : RunFault) → IsGivenUp seen may_leave faults p n y → IsStopped was now y why → IsLeftFor seen may_leave faults p n why
@@ -145,14 +145,14 @@ module _ {D : Type 0} {g : Ghosts D} (seen : D → List ℕ) (may_leave : D → 
     play = p;
     last = k;
     ran = starts;
-    told = stopped_told was now y why stopped;
+    outcome = stopped_reported was now y why stopped;
     left = stopped_left n was now y why given stopped;
   }
 
   -- ---- lines
 
   pub no_lines : (stop : Bool) (a : Option (List ℕ)) → IsBeside seen may_leave p None k → HasRunLines seen may_leave stop None p k [] a a None k
-  no_lines stop a beside = record { answers = []; play = p; ran = starts; ends = ends_none stop; told = text_none a; beside = beside }
+  no_lines stop a beside = record { answers = []; play = p; ran = starts; ends = ends_none stop; outcome = text_none a; beside = beside }
 
   pub line_more : (stop : Bool) (why : Option Refusal) (session : ℕ) (lines : List Line) (i : ℕ) (l : Line) (live now : Option ℕ) (a b c : Option (List ℕ)) (m n : Kernel D g) → p.session ≡ session → i < length lines → l ≡ get_or lines i l
       → HasRunLines seen may_leave stop None p k (take i lines) a b live m
@@ -165,7 +165,7 @@ module _ {D : Type 0} {g : Ghosts D} (seen : D → List ℕ) (may_leave : D → 
         play = x.play;
         ran = subst (λ (ls : List Line). Turned (p, k) ls (ran.answers ++ x.answers) (x.play, n)) all (runs_then (p, k) (ran.play, m) (x.play, n) (take i lines) (l ∷ []) ran.answers x.answers ran.ran x.ran);
         ends = ends_more stop why ran.answers x.answers ran.ends x.ends;
-        told = appends_all a b c ran.answers x.answers ran.told x.told;
+        outcome = appends_all a b c ran.answers x.answers ran.outcome x.outcome;
         beside = x.beside;
       }
 
@@ -179,7 +179,7 @@ module _ {D : Type 0} {g : Ghosts D} (seen : D → List ℕ) (may_leave : D → 
     play = x.play;
     last = x.last;
     ran = runs_then (p, k) (ran.play, m) (x.play, x.last) ls x.before ran.answers x.answers ran.ran x.ran;
-    told = told_behind a b c ran.answers x.answers why ran.told x.told;
+    outcome = reported_behind a b c ran.answers x.answers why ran.outcome x.outcome;
     left = x.left;
   }
 
@@ -194,7 +194,7 @@ module _ {D : Type 0} {g : Ghosts D} (seen : D → List ℕ) (may_leave : D → 
 
   -- no line stops a run that is not to stop
   pub unstopped : (why : Option Refusal) (lines : List Line) (a b : Option (List ℕ)) (live : Option ℕ) (n : Kernel D g) → HasRunLines seen may_leave false why p k lines a b live n → HasRunLines seen may_leave false None p k lines a b live n
-  unstopped why lines a b live n ran = record { answers = ran.answers; play = ran.play; ran = ran.ran; ends = refl; told = ran.told; beside = ran.beside }
+  unstopped why lines a b live n ran = record { answers = ran.answers; play = ran.play; ran = ran.ran; ends = refl; outcome = ran.outcome; beside = ran.beside }
 
   -- what cuts a beginning of lines short cuts them short
   pub front_cut : (Left : Play → Type 0) (front rest lines : List Line) (a b : Option (List ℕ)) (why : RunFault) → lines ≡ front ++ rest → IsCut seen may_leave Left p k front a b why → IsCut seen may_leave Left p k lines a b why
@@ -206,7 +206,7 @@ module _ {D : Type 0} {g : Ghosts D} (seen : D → List ℕ) (may_leave : D → 
     play = x.play;
     last = x.last;
     ran = x.ran;
-    told = x.told;
+    outcome = x.outcome;
     left = x.left;
   }
 
@@ -219,9 +219,9 @@ module _ {D : Type 0} {g : Ghosts D} (seen : D → List ℕ) (may_leave : D → 
     last = n;
     ran = ran.ran;
     ends = ran.ends;
-    told =
+    outcome =
         let none : ran.answers ++ last_line ran.play.under_way ≡ ran.answers = ap (λ (u : Option (List Call)). ran.answers ++ last_line u) ran.beside.nothing ∙ append-nil ran.answers in
-        subst (λ (t : List Answer). Appends a b (transcript_text t)) (sym none) ran.told;
+        subst (λ (t : List Answer). Appends a b (transcript_text t)) (sym none) ran.outcome;
     beside = record { shown = ∥∥₁_map ran.beside.shown (λ (first, s, shows, (played, nobody)). (first, s, shows, (record { first_is = played.first_is; book = played.book; base = played.base }, nobody))); nothing = refl };
   }
 
@@ -235,7 +235,7 @@ module _ {D : Type 0} {g : Ghosts D} (seen : D → List ℕ) (may_leave : D → 
         last = m;
         ran = ran.ran;
         ends = ran.ends;
-        told = subst (λ (u : Option (List Call)). Appends a c (transcript_text (ran.answers ++ last_line u))) (sym ran.beside.1) (appends_all a b c ran.answers (Aborted ∷ []) ran.told e.told);
+        outcome = subst (λ (u : Option (List Call)). Appends a c (transcript_text (ran.answers ++ last_line u))) (sym ran.beside.1) (appends_all a b c ran.answers (Aborted ∷ []) ran.outcome e.outcome);
         beside = e.beside;
       }
 
@@ -251,18 +251,18 @@ module _ {D : Type 0} {g : Ghosts D} (seen : D → List ℕ) (may_leave : D → 
         play = ran.play;
         last = m;
         ran = ran.ran;
-        told = subst (λ (t : List Answer). IsToldFor a c t why) (append-nil ran.answers) (told_behind a b c ran.answers [] why ran.told e.told);
+        outcome = subst (λ (t : List Answer). IsReportedFor a c t why) (append-nil ran.answers) (reported_behind a b c ran.answers [] why ran.outcome e.outcome);
         left = e.left;
       }
 
   pub end_stopped : (y : Refusal) (was now : Option (List ℕ)) (n : Kernel D g) (why : RunFault) → IsGivenUp seen may_leave faults p n y → IsStopped was now y why → IsCutAtEnd seen may_leave faults p was now n why
-  end_stopped y was now n why given stopped = record { told = stopped_told was now y why stopped; left = stopped_left n was now y why given stopped }
+  end_stopped y was now n why given stopped = record { outcome = stopped_reported was now y why stopped; left = stopped_left n was now y why given stopped }
 
   pub end_unwritten : (was now : Option (List ℕ)) (n : Kernel D g) → IsResting seen may_leave (put_off p) n → AppendsFront was now (answer_text Aborted ++ 10 ∷ []) → IsCutAtEnd seen may_leave faults p was now n fault.Output
-  end_unwritten was now n rests front = record { told = (Aborted ∷ [], aborted, subst (AppendsFront was now) (sym (text_one Aborted)) front); left = inl rests }
+  end_unwritten was now n rests front = record { outcome = (Aborted ∷ [], aborted, subst (AppendsFront was now) (sym (text_one Aborted)) front); left = inl rests }
 
   pub end_written : (was now : Option (List ℕ)) (n : Kernel D g) → IsResting seen may_leave (put_off p) n → Appends was now (answer_text Aborted ++ 10 ∷ []) → IsEnded seen may_leave p was now n
-  end_written was now n rests text = record { told = subst (Appends was now) (sym (text_one Aborted)) text; beside = rests }
+  end_written was now n rests text = record { outcome = subst (Appends was now) (sym (text_one Aborted)) text; beside = rests }
 
   pub left_resting : (n : Kernel D g) → IsResting seen may_leave p n → IsResting seen may_leave (put_off p) n
   left_resting n r = record { shown = ∥∥₁_map r.shown (λ (first, s, shows, (played, nobody)). (first, s, shows, (record { first_is = played.first_is; book = played.book; base = played.base }, nobody))); nothing = refl }

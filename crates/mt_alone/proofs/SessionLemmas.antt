@@ -26,9 +26,9 @@ use Rattle.mt_alone.specs.Sessions.{AreCutShort, HasServed, HaveServed, IsCutWit
 
 -- ---- texts
 
-none_told : (a : Option (List ℕ)) → Appends a a (sessions_text [])
+none_reported : (a : Option (List ℕ)) → Appends a a (sessions_text [])
 unfolding sessions_from
-none_told a = Appends-nil a
+none_reported a = Appends-nil a
 
 -- one more behind the others
 sessions_more : (i : ℕ) (ts : List (List Answer)) (t : List Answer) → sessions_from i (ts ++ t ∷ []) ≡ sessions_from i ts ++ (session_line (i + length ts) ++ transcript_text t)
@@ -47,8 +47,8 @@ sessions_more i (u ∷ us) t =
 -- as many transcripts as scripts
 count_is : {S : Type 0} {Session : S → ℕ → List Line → List Answer → S → Type 0} → (s e : S) (ls : List (List Line)) (ts : List (List Answer)) → Serves Session s ls ts e → length ts ≡ length ls
 count_is s _ _ _ no_script = refl
-count_is s _ _ _ (then_script scripts transcripts mid end lines told before session) =
-    length-append transcripts (told ∷ []) ∙ ap (λ (n : ℕ). n + 1) (count_is s mid scripts transcripts before) ∙ sym (length-append scripts (lines ∷ []))
+count_is s _ _ _ (then_script scripts transcripts mid end lines outcome before session) =
+    length-append transcripts (outcome ∷ []) ∙ ap (λ (n : ℕ). n + 1) (count_is s mid scripts transcripts before) ∙ sym (length-append scripts (lines ∷ []))
 
 module _ {D : Type 0} {g : Ghosts D} (seen : D → List ℕ) (may_leave : D → List ℕ → Type 0) (faults : D → ℕ) (p : Play) (k : Kernel D g) where
   -- ---- a session
@@ -69,26 +69,26 @@ module _ {D : Type 0} {g : Ghosts D} (seen : D → List ℕ) (may_leave : D → 
       begun = begun;
       over = over;
       ran = ran.ran;
-      told_is = refl;
+      reported_is = refl;
       end_is = refl;
       beside = ran.beside;
       restarts = subst (λ (x : Base). Restarts seen may_leave x n) (sym (runs_first seen may_leave (in_session p i, begun) (ran.play, ran.last) (lines_to ending lines) ran.answers ran.ran)) restarts;
       schema = schema;
     };
     closes = one_closes stop (why_stopped ending) ran.answers ran.play.under_way ran.ends;
-    told = Appends-trans a b c (session_line i) (transcript_text (ran.answers ++ last_line ran.play.under_way)) heading ran.told;
+    outcome = Appends-trans a b c (session_line i) (transcript_text (ran.answers ++ last_line ran.play.under_way)) heading ran.outcome;
   }
 
   -- ---- sessions
 
   pub none_served : (stop : Bool) (a : Option (List ℕ)) → IsBeside seen may_leave p None k → Restarts seen may_leave p.first k → HaveServed seen may_leave stop None p k [] a a k
-  none_served stop a beside restarts = record { transcripts = []; play = p; at = tt; served = no_script; close = none_close stop; told = none_told a; beside = beside; restarts = restarts }
+  none_served stop a beside restarts = record { transcripts = []; play = p; at = tt; served = no_script; close = none_close stop; outcome = none_reported a; beside = beside; restarts = restarts }
 
   one_more : (stop : Bool) (ending : Option Stop) (all scripts : List (List Line)) (lines : List Line) (a b c : Option (List ℕ)) (m n : Kernel D g) → IsStopAmong all ending → scripts_to ending all ≡ scripts ++ lines_to ending lines ∷ []
       → (ran : HaveServed seen may_leave stop None p k scripts a b m) → IsServed seen may_leave stop ending ran.play m (length scripts + 1) lines b c n → HaveServed seen may_leave stop ending p k all a c n
   one_more stop ending all scripts lines a b c m n among are ran x =
       let count : length scripts + 1 ≡ 1 + length ran.transcripts = let same = count_is (p, k) (ran.play, m) scripts ran.transcripts ran.served in omega (arith, same) in
-      let own : Appends b c (session_line (1 + length ran.transcripts) ++ transcript_text x.transcript) = subst (λ (j : ℕ). Appends b c (session_line j ++ transcript_text x.transcript)) count x.told in
+      let own : Appends b c (session_line (1 + length ran.transcripts) ++ transcript_text x.transcript) = subst (λ (j : ℕ). Appends b c (session_line j ++ transcript_text x.transcript)) count x.outcome in
       record {
         transcripts = ran.transcripts ++ x.transcript ∷ [];
         play = x.end;
@@ -96,7 +96,7 @@ module _ {D : Type 0} {g : Ghosts D} (seen : D → List ℕ) (may_leave : D → 
         served = subst (λ (ls : List (List Line)). Serves (HasServed seen may_leave) (p, k) ls (ran.transcripts ++ x.transcript ∷ []) (x.end, n)) (sym are)
             (then_script scripts ran.transcripts (ran.play, m) (x.end, n) (lines_to ending lines) x.transcript ran.served x.served);
         close = more_close stop (why_stopped ending) ran.transcripts x.transcript ran.close x.closes;
-        told = subst (Appends a c) (sym (sessions_more 1 ran.transcripts x.transcript)) (Appends-trans a b c (sessions_text ran.transcripts) _ ran.told own);
+        outcome = subst (Appends a c) (sym (sessions_more 1 ran.transcripts x.transcript)) (Appends-trans a b c (sessions_text ran.transcripts) _ ran.outcome own);
         beside = x.served.beside;
         restarts = x.served.restarts;
       }

@@ -70,9 +70,9 @@ none_close stop = All-nil (Closes stop None)
 pub one_closes : (stop : Bool) (why : Option Refusal) (answers : List Answer) (u : Option (List Call)) → Ends stop why answers → Closes stop why (answers ++ last_line u)
 one_closes stop why answers u ends = (answers, u, refl, ends)
 
-pub more_close : (stop : Bool) (why : Option Refusal) (before : List (List Answer)) (told : List Answer) → Close stop None before → Closes stop why told → Close stop why (before ++ told ∷ [])
-more_close stop None before told close closes = All-push (Closes stop None) before told close closes
-more_close stop (Some why) before told close closes = (before, told, refl, close, closes)
+pub more_close : (stop : Bool) (why : Option Refusal) (before : List (List Answer)) (outcome : List Answer) → Close stop None before → Closes stop why outcome → Close stop why (before ++ outcome ∷ [])
+more_close stop None before outcome close closes = All-push (Closes stop None) before outcome close closes
+more_close stop (Some why) before outcome close closes = (before, outcome, refl, close, closes)
 
 -- ---- lines
 

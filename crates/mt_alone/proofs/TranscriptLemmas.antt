@@ -33,20 +33,20 @@ last_call calls c d =
     ap (λ (n : ℕ). get_or (calls ++ c ∷ []) n d) same ∙ last_at calls c d
 
 -- the text of the last reply is that of its answer
-pub reply_told : (calls : List Call) (op : Op) (reply : Reply) (all seen : List Call) (d : Call) (was now : List ℕ) → all ≡ calls ++ (op, reply) ∷ [] → seen ≡ all
+pub reply_reported : (calls : List Call) (op : Op) (reply : Reply) (all seen : List Call) (d : Call) (was now : List ℕ) → all ≡ calls ++ (op, reply) ∷ [] → seen ≡ all
     → now ≡ was ++ (reply_text (get_or seen (length seen - 1) d).1 ++ 10 ∷ []) → now ≡ was ++ transcript_text (Replied reply ∷ [])
-reply_told calls op reply all seen d was now is same told =
+reply_reported calls op reply all seen d was now is same outcome =
     let whole : seen ≡ calls ++ (op, reply) ∷ [] = same ∙ is in
     let last : get_or seen (length seen - 1) d ≡ (op, reply) = ap (λ (cs : List Call). get_or cs (length cs - 1) d) whole ∙ last_call calls (op, reply) d in
-    told ∙ (ap (λ (c : Call). was ++ (reply_text c.1 ++ 10 ∷ [])) last ∙ ap (λ (t : List ℕ). was ++ t) (sym (text_one (Replied reply))))
+    outcome ∙ (ap (λ (c : Call). was ++ (reply_text c.1 ++ 10 ∷ [])) last ∙ ap (λ (t : List ℕ). was ++ t) (sym (text_one (Replied reply))))
 
-pub none_told : (was : List ℕ) → was ≡ was ++ transcript_text []
-none_told was = sym (ap (λ (t : List ℕ). was ++ t) text_of_none ∙ append-nil was)
+pub none_reported : (was : List ℕ) → was ≡ was ++ transcript_text []
+none_reported was = sym (ap (λ (t : List ℕ). was ++ t) text_of_none ∙ append-nil was)
 
 -- answers behind answers
-pub all_told : (as' bs : List Answer) (was mid now : List ℕ) → mid ≡ was ++ transcript_text as' → now ≡ mid ++ transcript_text bs → now ≡ was ++ transcript_text (as' ++ bs)
-all_told as' bs was mid now before told =
-    told ∙ (ap (λ (t : List ℕ). t ++ transcript_text bs) before
+pub all_reported : (as' bs : List Answer) (was mid now : List ℕ) → mid ≡ was ++ transcript_text as' → now ≡ mid ++ transcript_text bs → now ≡ was ++ transcript_text (as' ++ bs)
+all_reported as' bs was mid now before outcome =
+    outcome ∙ (ap (λ (t : List ℕ). t ++ transcript_text bs) before
     ∙ (append_assoc was (transcript_text as') (transcript_text bs) ∙ ap (λ (t : List ℕ). was ++ t) (sym (text_joined as' bs))))
 
 -- ---- runs

@@ -13,12 +13,12 @@ use Rattle.mt_restart.specs.Rotated.{GoesOver, IsEndCause, IsForcedOut, Keeps}
 use Rattle.mt_script.specs.declared.answers.Answer.{Answer}
 use Rattle.mt_script.specs.declared.lines.Line.{Line}
 use Rattle.mt_alone.proofs.LeftLemmas.{book_of}
-use Rattle.mt_alone.proofs.RunLemmas.{closed_run, end_cut, ended_run, front_cut, line_cut, line_more, no_lines, stopped_told, told_behind, turn_stays}
+use Rattle.mt_alone.proofs.RunLemmas.{closed_run, end_cut, ended_run, front_cut, line_cut, line_more, no_lines, stopped_reported, reported_behind, turn_stays}
 use Rattle.mt_alone.proofs.StopLemmas.{left_from}
 use Rattle.mt_alone.proofs.TurnLemmas.{left_of}
 use Rattle.mt_alone.specs.Driven.{IsBeside}
 use Rattle.mt_alone.specs.Plays.{Play, Runs, starts, goes_on}
-use Rattle.mt_alone.specs.Runs.{BesideEach, HasRunLines, HasTurned, IsCut, IsCutAtEnd, IsCutShort, IsEnded, IsLeftFor, IsStopped, IsToldFor}
+use Rattle.mt_alone.specs.Runs.{BesideEach, HasRunLines, HasTurned, IsCut, IsCutAtEnd, IsCutShort, IsEnded, IsLeftFor, IsStopped, IsReportedFor}
 use Rattle.mt_alone.specs.Stops.{lines_to, why_stopped}
 use Rattle.mt_alone.specs.Turnovers.{BesideFrom, CannotTurnOver, From, GoesThrough, HasRunOn, HasRunOut, IsCutOff, IsLeftBy, IsTurnedOut, StandsForPlay}
 use Rattle.mt_alone.specs.declared.rotation.NotServed.{NotServed}
@@ -91,7 +91,7 @@ module _ {D : Type 0} {g : Ghosts D} (seen : D → List ℕ) (may_leave : D → 
       play = x.play;
       last = x.last;
       ran = x.ran;
-      told = x.told;
+      outcome = x.outcome;
       left = (
         x.left,
         record { restarts = subst (λ (b : Base). Restarts seen may_leave b n) (sym (runs_first (p, begun) (x.play, x.last) x.before x.answers x.ran)) restarts; relations_are = same.0; counters_are = same.1 },
@@ -132,7 +132,7 @@ module _ {D : Type 0} {g : Ghosts D} (seen : D → List ℕ) (may_leave : D → 
     turned_left : (y : Refusal) (device : D) (was now : Option (List ℕ)) (why : RunFault) → IsBeside seen may_leave p None k → Restarts seen may_leave p.first k → IsTurnedOut seen may_leave faults k y device → IsStopped was now y why
         → IsLeftBy {g = g} seen may_leave faults k.relations k.counters (Ended why device) p
     turned_left y device was now fault.Output beside restarts out (is, front) = (out.failed is, stands_play device beside (out.stands p.first restarts))
-    turned_left y device was now (fault.Refused why) beside restarts out (is, told) = (
+    turned_left y device was now (fault.Refused why) beside restarts out (is, outcome) = (
       subst IsTurnFault (sym is) out.cause,
       λ failed. out.failed (sym is ∙ failed),
       λ full. ∥∥₁_map (out.full (sym is ∙ full)) (λ (n, over, cannot). (n, resting_over p k n beside restarts over, cannot)),
@@ -157,7 +157,7 @@ module _ {D : Type 0} {g : Ghosts D} (seen : D → List ℕ) (may_leave : D → 
           let rests = next_first faults p b0 stop lines None a b b0 m ran (x.restarts p.first restarts) in (
             b2,
             over_then k b0 b2 over0 over2,
-            record { answers = ran.answers; play = ran.play; ran = front; ends = ran.ends; told = ran.told; beside = resting_over ran.play m n ran.beside rests over },
+            record { answers = ran.answers; play = ran.play; ran = front; ends = ran.ends; outcome = ran.outcome; beside = resting_over ran.play m n ran.beside rests over },
           );
       schema = (over.schema.0 ∙ x.schema.0, over.schema.1 ∙ x.schema.1);
       restarts = λ first restarts. over.restarts first (x.restarts first restarts);
@@ -186,7 +186,7 @@ module _ {D : Type 0} {g : Ghosts D} (seen : D → List ℕ) (may_leave : D → 
             play = ran.play;
             last = m;
             ran = ran.ran;
-            told = subst (λ (t : List Answer). IsToldFor a c t why) (append-nil ran.answers) (told_behind a b c ran.answers [] why ran.told (stopped_told b c y why stopped));
+            outcome = subst (λ (t : List Answer). IsReportedFor a c t why) (append-nil ran.answers) (reported_behind a b c ran.answers [] why ran.outcome (stopped_reported b c y why stopped));
             left = left_same faults p k m (Ended why device) ran.play x.schema (turned_left faults ran.play m y device b c why ran.beside rests out stopped);
           },
         )

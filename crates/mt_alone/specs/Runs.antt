@@ -46,14 +46,16 @@ pub record IsUnheard (was now : Option (List ℕ)) (answers : List Answer) : Typ
   pub last : Answer
   pub answers_are : answers ≡ heard ++ last ∷ []
   pub mid : Option (List ℕ)
-  pub told : Appends was mid (transcript_text heard)
+  pub outcome : Appends was mid (transcript_text heard)
   pub front : AppendsFront mid now (transcript_text (last ∷ []))
 
 -- What was written if a run ended early. If the writer failed, it is a beginning. Else it is the answers, and that
 -- the device failed; or the writer failed within the last answer, and then the run was given up.
-abbrev pub IsToldFor : Option (List ℕ) → Option (List ℕ) → List Answer → RunFault → Type 0
-IsToldFor was now answers fault.Output = (last : List Answer) × IsLast last × AppendsFront was now (transcript_text (answers ++ last))
-IsToldFor was now answers (fault.Refused why) = Appends was now (transcript_text (answers ++ failure_line why)) ⊎ IsUnheard was now answers
+abbrev pub IsReportedFor : Option (List ℕ) → Option (List ℕ) → List Answer → RunFault → Type 0
+IsReportedFor was now answers fault.Output =
+    (last : List Answer) × IsLast last × AppendsFront was now (transcript_text (answers ++ last))
+IsReportedFor was now answers (fault.Refused why) =
+    Appends was now (transcript_text (answers ++ failure_line why)) ⊎ IsUnheard was now answers
 
 -- how a run ends that was given up for this refusal: it is written that the device failed, or a beginning of that
 abbrev pub IsStopped : Option (List ℕ) → Option (List ℕ) → Refusal → RunFault → Type 0
@@ -79,7 +81,7 @@ module _ {D : Type 0} {g : Ghosts D} (seen : D → List ℕ) (may_leave : D → 
     pub play : Play
     pub ran : Runs HasTurned (p, k) lines answers (play, n)
     pub ends : Ends stop why answers
-    pub told : Appends was now (transcript_text answers)
+    pub outcome : Appends was now (transcript_text answers)
     pub beside : IsBeside seen may_leave play live n
 
   -- The script ran to its end; a transaction that was open there is aborted, and that was written too; nobody lives.
@@ -89,7 +91,7 @@ module _ {D : Type 0} {g : Ghosts D} (seen : D → List ℕ) (may_leave : D → 
     pub last : Kernel D g
     pub ran : Runs HasTurned (p, k) lines answers (play, last)
     pub ends : Ends stop why answers
-    pub told : Appends was now (transcript_text (answers ++ last_line play.under_way))
+    pub outcome : Appends was now (transcript_text (answers ++ last_line play.under_way))
     pub beside : IsBeside seen may_leave (put_off play) None n
 
   -- The run ended early: these of its lines had their answers, of which the last may be unheard. So much is left of it.
@@ -101,7 +103,7 @@ module _ {D : Type 0} {g : Ghosts D} (seen : D → List ℕ) (may_leave : D → 
     pub play : Play
     pub last : Kernel D g
     pub ran : Runs HasTurned (p, k) before answers (play, last)
-    pub told : IsToldFor was now answers why
+    pub outcome : IsReportedFor was now answers why
     pub left : Left play
 
 module _ {D : Type 0} {g : Ghosts D} (seen : D → List ℕ) (may_leave : D → List ℕ → Type 0) (faults : D → ℕ) where
@@ -120,12 +122,12 @@ module _ {D : Type 0} {g : Ghosts D} (seen : D → List ℕ) (may_leave : D → 
 
   -- the kernel answered it, and this transaction is open then
   abbrev pub IsAnswered : Play → Kernel D g → Option ℕ → Line → Answer × Option ℕ → Kernel D g → Type 0
-  IsAnswered p k live line told n = (q : Play) × IsTurn k.relations k.counters (IsDueTo seen may_leave k live) p line told.0 q × IsBeside seen may_leave q told.1 n
+  IsAnswered p k live line outcome n = (q : Play) × IsTurn k.relations k.counters (IsDueTo seen may_leave k live) p line outcome.0 q × IsBeside seen may_leave q outcome.1 n
 
 module _ {D : Type 0} {g : Ghosts D} (seen : D → List ℕ) (may_leave : D → List ℕ → Type 0) (faults : D → ℕ) where
   -- or gave it up
   abbrev pub IsAnsweredOr : Play → Kernel D g → Option ℕ → Line → Result (Answer × Option ℕ) Refusal → Kernel D g → Type 0
-  IsAnsweredOr p k live line (Ok told) n = IsAnswered seen may_leave p k live line told n
+  IsAnsweredOr p k live line (Ok outcome) n = IsAnswered seen may_leave p k live line outcome n
   IsAnsweredOr p k live line (Err why) n = IsGivenUp seen may_leave faults p n why
 
   -- beside whatever play of this session
@@ -140,13 +142,13 @@ module _ {D : Type 0} {g : Ghosts D} (seen : D → List ℕ) (may_leave : D → 
 
   -- why a run ended early while the transaction that was open there was aborted
   pub record IsCutAtEnd (p : Play) (was now : Option (List ℕ)) (n : Kernel D g) (why : RunFault) : Type 0 where
-    pub told : IsToldFor was now [] why
+    pub outcome : IsReportedFor was now [] why
     pub left : IsLeftFor seen may_leave faults p n why
 
 module _ {D : Type 0} {g : Ghosts D} (seen : D → List ℕ) (may_leave : D → List ℕ → Type 0) where
   -- it was aborted, and that was written
   pub record IsEnded (p : Play) (was now : Option (List ℕ)) (n : Kernel D g) : Type 0 where
-    pub told : Appends was now (transcript_text (Aborted ∷ []))
+    pub outcome : Appends was now (transcript_text (Aborted ∷ []))
     pub beside : IsBeside seen may_leave (put_off p) None n
 
 module _ {D : Type 0} {g : Ghosts D} (faults : D → ℕ) where

@@ -40,8 +40,8 @@ sessions_text transcripts = sessions_from 1 transcripts
 
 -- a transcript's answers end so, before the line that the open transaction was aborted
 abbrev pub Closes : Bool → Option Refusal → List Answer → Type 0
-Closes stop why told =
-    (answers : List Answer) × (open_then : Option (List Call)) × (told ≡ answers ++ last_line open_then) × Ends stop why answers
+Closes stop why outcome =
+    (answers : List Answer) × (open_then : Option (List Call)) × (outcome ≡ answers ++ last_line open_then) × Ends stop why answers
 
 -- so the last of transcripts, and nothing stops those before it
 abbrev pub Close : Bool → Option Refusal → List (List Answer) → Type 0
@@ -59,16 +59,16 @@ in_session p i = record p { session = i }
 -- Scripts, each with its transcript, one after the other, from one place to another. They are numbered from 1.
 pub data Serves {S : Type 0} (Session : S → ℕ → List Line → List Answer → S → Type 0) (start : S) : List (List Line) → List (List Answer) → S → Type 0 where
   no_script : Serves Session start [] [] start
-  then_script : (scripts : List (List Line)) (transcripts : List (List Answer)) (mid end : S) (lines : List Line) (told : List Answer)
-      → Serves Session start scripts transcripts mid → Session mid (length scripts + 1) lines told end
-      → Serves Session start (scripts ++ lines ∷ []) (transcripts ++ told ∷ []) end
+  then_script : (scripts : List (List Line)) (transcripts : List (List Answer)) (mid end : S) (lines : List Line) (outcome : List Answer)
+      → Serves Session start scripts transcripts mid → Session mid (length scripts + 1) lines outcome end
+      → Serves Session start (scripts ++ lines ∷ []) (transcripts ++ outcome ∷ []) end
 
 -- A session on the model: its lines are played, and a transaction that is open at their end is aborted.
-pub record IsSession (relations counters : ℕ) (start : Play) (i : ℕ) (lines : List Line) (told : List Answer) (end : Play) : Type 0 where
+pub record IsSession (relations counters : ℕ) (start : Play) (i : ℕ) (lines : List Line) (outcome : List Answer) (end : Play) : Type 0 where
   pub answers : List Answer
   pub play : Play
   pub ran : HasPlayed relations counters (in_session start i) lines answers play
-  pub told_is : told ≡ answers ++ last_line play.under_way
+  pub reported_is : outcome ≡ answers ++ last_line play.under_way
   pub end_is : end ≡ put_off play
 
 abbrev pub HavePlayed : ℕ → ℕ → Play → List (List Line) → List (List Answer) → Play → Type 0
@@ -84,14 +84,14 @@ module _ {D : Type 0} {g : Ghosts D} (seen : D → List ℕ) (may_leave : D → 
 
   -- A session of a kernel, beside the model: its script ran by itself, in this kernel or in one that goes on as it
   -- with its log turned over, and nobody lives after it.
-  pub record HasServed (start : Play × Kernel D g) (i : ℕ) (lines : List Line) (told : List Answer) (end : Play × Kernel D g) : Type 0 where
+  pub record HasServed (start : Play × Kernel D g) (i : ℕ) (lines : List Line) (outcome : List Answer) (end : Play × Kernel D g) : Type 0 where
     pub answers : List Answer
     pub play : Play
     pub last : Kernel D g
     pub begun : Kernel D g
     pub over : GoesOver seen may_leave start.1 begun
     pub ran : Runs (HasTurned seen may_leave) (in_session start.0 i, begun) lines answers (play, last)
-    pub told_is : told ≡ answers ++ last_line play.under_way
+    pub reported_is : outcome ≡ answers ++ last_line play.under_way
     pub end_is : end.0 ≡ put_off play
     pub beside : IsBeside seen may_leave end.0 None end.1
     pub restarts : Restarts seen may_leave end.0.first end.1
@@ -104,7 +104,7 @@ module _ {D : Type 0} {g : Ghosts D} (seen : D → List ℕ) (may_leave : D → 
     pub end : Play
     pub served : HasServed (p, k) i (lines_to ending lines) transcript (end, n)
     pub closes : Closes stop (why_stopped ending) transcript
-    pub told : Appends was now (session_line i ++ transcript_text transcript)
+    pub outcome : Appends was now (session_line i ++ transcript_text transcript)
 
   -- All of them were, one after the other; or those up to the line that stopped them.
   pub record HaveServed (stop : Bool) (ending : Option Stop) (p : Play) (k : Kernel D g) (scripts : List (List Line)) (was now : Option (List ℕ)) (n : Kernel D g) : Type 0 where
@@ -113,7 +113,7 @@ module _ {D : Type 0} {g : Ghosts D} (seen : D → List ℕ) (may_leave : D → 
     pub at : IsStopAmong scripts ending
     pub served : Serves HasServed (p, k) (scripts_to ending scripts) transcripts (play, n)
     pub close : Close stop (why_stopped ending) transcripts
-    pub told : Appends was now (sessions_text transcripts)
+    pub outcome : Appends was now (sessions_text transcripts)
     pub beside : IsBeside seen may_leave play None n
     pub restarts : Restarts seen may_leave play.first n
 

@@ -96,7 +96,7 @@ pub(crate) fn run_line<D: Device, W: Write>(
     line: &Line,
     writer: &mut W,
 ) -> Result<After, RunFault>
-    ensures told { IfOk result (λ now. BesideEach D.seen D.may_leave session live kernel.old
+    ensures outcome { IfOk result (λ now. BesideEach D.seen D.may_leave session live kernel.old
         (λ p. HasRunLines D.seen D.may_leave stop now.1 p kernel.old (line.now ∷ [])
         (W.contents writer.old) (W.contents writer.new) now.0 kernel.new)) }
     ensures cut { IfErr result (λ why. BesideEach D.seen D.may_leave session live kernel.old
@@ -105,14 +105,14 @@ pub(crate) fn run_line<D: Device, W: Write>(
     ensures schema { SameSchema kernel.old kernel.new }
     ensures restarts { StaysRestarting D.seen D.may_leave kernel.old kernel.new }
 {
-    let told = match answer(kernel, session, live, line) {
-        Ok(told) => told,
+    let outcome = match answer(kernel, session, live, line) {
+        Ok(outcome) => outcome,
         Err(refusal) => return Err(end_refused(writer, refusal)),
     };
-    let why = ending(stop, &told.0);
-    match tell(writer, &told.0, told.1) {
-        Ok(()) => Ok((told.1, why)),
-        Err(_) => Err(end_unheard(kernel, told.1)),
+    let why = ending(stop, &outcome.0);
+    match tell(writer, &outcome.0, outcome.1) {
+        Ok(()) => Ok((outcome.1, why)),
+        Err(_) => Err(end_unheard(kernel, outcome.1)),
     }
 }
 

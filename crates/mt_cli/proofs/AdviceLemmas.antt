@@ -1,11 +1,11 @@
--- What a writer was told, whole or in part.
+-- What a writer was reported, whole or in part.
 use Rattle.std.proofs.Common.{[], ◌≡◌, List, ℕ, Option, Result, Ok, Err, OnOk, OnErr, append-nil, subst, sym}
 use Rattle.std.specs.Io.KnownBytes.{Appends}
 use Rattle.std.specs.Result.{MatchResult}
 use Rattle.mt_script.specs.Answers.{AppendsFront}
 use Rattle.mt_args.specs.declared.command.Command.{Command}
 use Rattle.mt_folder.specs.declared.reason.Reason.{Reason}
-use Rattle.mt_cli.specs.Performs.{IsTold, IsToldOf}
+use Rattle.mt_cli.specs.Performs.{IsReported, IsReportedOf}
 use Rattle.mt_cli.specs.declared.faults.Fault.{Fault}
 use Rattle.mt_cli.specs.declared.faults.Fault.TheVariants.{Output}
 
@@ -15,11 +15,11 @@ all_or_front a b bytes (Ok x) all front = (bytes, [], sym (append-nil bytes), al
 all_or_front a b bytes (Err y) all front = front
 
 -- a fault is that of a command that did not end well, and else that of an output that was not flushed
-pub told_as : (command : Command) (reason : Option Reason) (old new : Option (List ℕ)) (r : Result (Unit {0}) Fault) (fault : Fault) → MatchResult r (λ u. fault ≡ Output) (λ f. fault ≡ f) → IsToldOf command reason fault old new
-    → MatchResult r (λ u. IsToldOf command reason Output old new) (λ f. IsToldOf command reason f old new)
-told_as command reason old new (Ok u) fault is told = subst (λ (f : Fault). IsToldOf command reason f old new) is told
-told_as command reason old new (Err why) fault is told = subst (λ (f : Fault). IsToldOf command reason f old new) is told
+pub reported_as : (command : Command) (reason : Option Reason) (old new : Option (List ℕ)) (r : Result (Unit {0}) Fault) (fault : Fault) → MatchResult r (λ u. fault ≡ Output) (λ f. fault ≡ f) → IsReportedOf command reason fault old new
+    → MatchResult r (λ u. IsReportedOf command reason Output old new) (λ f. IsReportedOf command reason f old new)
+reported_as command reason old new (Ok u) fault is outcome = subst (λ (f : Fault). IsReportedOf command reason f old new) is outcome
+reported_as command reason old new (Err why) fault is outcome = subst (λ (f : Fault). IsReportedOf command reason f old new) is outcome
 
-pub is_told : (command : Command) (reason : Option Reason) (old new : Option (List ℕ)) (r : Result (Unit {0}) Fault) → MatchResult r (λ u. IsToldOf command reason Output old new) (λ f. IsToldOf command reason f old new) → IsTold old new
-is_told command reason old new (Ok u) told = (command, reason, Output, told)
-is_told command reason old new (Err fault) told = (command, reason, fault, told)
+pub is_reported : (command : Command) (reason : Option Reason) (old new : Option (List ℕ)) (r : Result (Unit {0}) Fault) → MatchResult r (λ u. IsReportedOf command reason Output old new) (λ f. IsReportedOf command reason f old new) → IsReported old new
+is_reported command reason old new (Ok u) outcome = (command, reason, Output, outcome)
+is_reported command reason old new (Err fault) outcome = (command, reason, fault, outcome)

@@ -12,7 +12,7 @@ use Rattle.mt_model.specs.declared.history.Committed.{Committed}
 use Rattle.mt_script.specs.Answers.{AppendsFront}
 use Rattle.mt_script.specs.declared.answers.Answer.{Answer}
 use Rattle.mt_script.specs.declared.lines.Line.{Line}
-use Rattle.mt_server.specs.Heard.{AreTold, IsEnd, ends, fails}
+use Rattle.mt_server.specs.Heard.{AreReported, IsEnd, ends, fails}
 use Rattle.mt_server.specs.Serves.{IsServedOn}
 use Rattle.mt_txn.specs.Restarted.{FindsCommits}
 use Rattle.mt_txn.specs.Shown.{Restarts, is_failed}
@@ -26,13 +26,13 @@ use Rattle.mt_cli.specs.declared.faults.Fault.{Fault}
 
 -- ---- the kernel
 
--- transcripts that are so told are so where the device may have failed
+-- transcripts that are so reported are so where the device may have failed
 end_anyway : (failed : Bool) (u : Option (List Call)) (rest : List Line) (last : List Answer) → IsEnd failed u rest last → IsEnd true u rest last
 end_anyway failed u _ _ ends = ends
 end_anyway failed u _ _ (fails rest has) = fails rest refl
 
-told_anyway : (failed : Bool) (scripts : List (List Line)) (texts : List (List ℕ)) (book : List Committed) → AreTold failed scripts texts book → AreTold true scripts texts book
-told_anyway failed scripts texts book x = record {
+reported_anyway : (failed : Bool) (scripts : List (List Line)) (texts : List (List ℕ)) (book : List Committed) → AreReported failed scripts texts book → AreReported true scripts texts book
+reported_anyway failed scripts texts book x = record {
   count = x.count;
   booked = x.booked;
   each = λ i lines lt is.
@@ -57,24 +57,24 @@ told_anyway failed scripts texts book x = record {
 
 module _ {D : Type 0} {g : Ghosts D} (seen : D → List ℕ) (may_leave : D → List ℕ → Type 0) where
   -- it is so of a kernel that is or is not cut off
-  pub served_at_once : (c : List ℕ) (scripts : List (List Line)) (texts : List (List ℕ)) (n : Kernel D g) (d : List ℕ) → IsServedOn seen may_leave c n → AreTold (is_failed n) scripts texts n.core.book.items
+  pub served_at_once : (c : List ℕ) (scripts : List (List Line)) (texts : List (List ℕ)) (n : Kernel D g) (d : List ℕ) → IsServedOn seen may_leave c n → AreReported (is_failed n) scripts texts n.core.book.items
       → ((first : Base) → Restarts seen may_leave first n → ∥ FindsCommits n.relations n.counters first n.core d ∥₁) → (cut : Bool) → (cut ≡ false → HasNobody n × (is_failed n ≡ false)) → AreServedAtOnce cut c scripts texts d
-  served_at_once c scripts texts n d x told finds false rests = record {
+  served_at_once c scripts texts n d x outcome finds false rests = record {
     first = x.first;
     is = x.is;
     book = n.core.book.items;
     legal = x.legal;
-    told = subst (λ (f : Bool). AreTold f scripts texts n.core.book.items) (rests refl).1 told;
+    outcome = subst (λ (f : Bool). AreReported f scripts texts n.core.book.items) (rests refl).1 outcome;
     relations = n.relations;
     counters = n.counters;
     stands = stands_book seen may_leave (base_of x.first) n d (rests refl).0 x.began.1 (finds (base_of x.first) x.began.1);
   }
-  served_at_once c scripts texts n d x told finds true rests = record {
+  served_at_once c scripts texts n d x outcome finds true rests = record {
     first = x.first;
     is = x.is;
     book = n.core.book.items;
     legal = x.legal;
-    told = told_anyway (is_failed n) scripts texts n.core.book.items told;
+    outcome = reported_anyway (is_failed n) scripts texts n.core.book.items outcome;
     relations = n.relations;
     counters = n.counters;
     stands = stands_more seen may_leave (base_of x.first) n d (finds (base_of x.first) x.began.1);
@@ -87,28 +87,28 @@ module _ (old mid new : Files) (file before behind : List ℕ) (scripts : List (
   back_in : (failed : Bool) → AreServedAtOnce failed before scripts texts behind → AreServedAtOnceIn failed old new file scripts texts
   back_in failed served = record { before = before; behind = behind; held = held; put = put_back old mid new file behind lent put; served = served }
 
-  pub told_at_once : (failed : Bool) (was now : Option (List ℕ)) (r : Result (Unit {0}) Fault) → AreServedAtOnce failed before scripts texts behind → OnOk r ((failed ≡ false) × Appends was now (texts_in_order texts))
+  pub reported_at_once : (failed : Bool) (was now : Option (List ℕ)) (r : Result (Unit {0}) Fault) → AreServedAtOnce failed before scripts texts behind → OnOk r ((failed ≡ false) × Appends was now (texts_in_order texts))
       → OnOk r (IsServedAtOnce old new file scripts was now)
-  told_at_once failed was now (Ok u) served (whole, told) = record { texts = texts; served = subst (λ (f : Bool). AreServedAtOnceIn f old new file scripts texts) whole (back_in failed served); told = told }
-  told_at_once failed was now (Err fault) served told = tt
+  reported_at_once failed was now (Ok u) served (whole, outcome) = record { texts = texts; served = subst (λ (f : Bool). AreServedAtOnceIn f old new file scripts texts) whole (back_in failed served); outcome = outcome }
+  reported_at_once failed was now (Err fault) served outcome = tt
 
-  pub untold_at_once : (failed : Bool) (was now : Option (List ℕ)) (r : Result (Unit {0}) Fault) → AreServedAtOnce failed before scripts texts behind → OnErr r (AppendsFront was now (texts_in_order texts)) → IfErr r (IsEndOf failed)
+  pub unreported_at_once : (failed : Bool) (was now : Option (List ℕ)) (r : Result (Unit {0}) Fault) → AreServedAtOnce failed before scripts texts behind → OnErr r (AppendsFront was now (texts_in_order texts)) → IfErr r (IsEndOf failed)
       → IfErr r (IsUnservedAtOnce old new file scripts was now)
-  untold_at_once failed was now (Ok u) served front why = tt
-  untold_at_once false was now (Err fault) served front why = subst (IsUnservedAtOnce old new file scripts was now) (sym why) (unheard_at_once texts (back_in false served) front)
-  untold_at_once true was now (Err fault) served front why = subst (IsUnservedAtOnce old new file scripts was now) (sym why) (failed_at_once texts (back_in true served) front)
+  unreported_at_once failed was now (Ok u) served front why = tt
+  unreported_at_once false was now (Err fault) served front why = subst (IsUnservedAtOnce old new file scripts was now) (sym why) (unheard_at_once texts (back_in false served) front)
+  unreported_at_once true was now (Err fault) served front why = subst (IsUnservedAtOnce old new file scripts was now) (sym why) (failed_at_once texts (back_in true served) front)
 
 -- ---- behind reads that left each file as it was
 
 lent_then : (old mid new : Files) (name : List ℕ) → AreKept old mid → IsLent mid new name → IsLent old new name
-lent_then old mid new name kept lent = record { told = lent.told ∙ kept.told; there = lent.there; others = λ other apart. lent.others other apart ∙ kept.all other }
+lent_then old mid new name kept lent = record { outcome = lent.outcome ∙ kept.outcome; there = lent.there; others = λ other apart. lent.others other apart ∙ kept.all other }
 
 in_then : (old mid new : Files) (file : List ℕ) (scripts : List (List Line)) (texts : List (List ℕ)) → AreKept old mid → (failed : Bool)
     → AreServedAtOnceIn failed mid new file scripts texts → AreServedAtOnceIn failed old new file scripts texts
 in_then old mid new file scripts texts kept failed x = record { before = x.before; behind = x.behind; held = held_before old mid file x.before kept x.held; put = put_then old mid new file x.behind kept x.put; served = x.served }
 
 pub at_once_then : (old mid new : Files) (file : List ℕ) (scripts : List (List Line)) (was now : Option (List ℕ)) → AreKept old mid → IsServedAtOnce mid new file scripts was now → IsServedAtOnce old new file scripts was now
-at_once_then old mid new file scripts was now kept x = record { texts = x.texts; served = in_then old mid new file scripts x.texts kept false x.served; told = x.told }
+at_once_then old mid new file scripts was now kept x = record { texts = x.texts; served = in_then old mid new file scripts x.texts kept false x.served; outcome = x.outcome }
 
 pub not_at_once_then : (old mid new : Files) (file : List ℕ) (scripts : List (List Line)) (was now : Option (List ℕ)) (fault : Fault) → AreKept old mid → IsUnservedAtOnce mid new file scripts was now fault
     → IsUnservedAtOnce old new file scripts was now fault

@@ -5,7 +5,7 @@ use Rattle.mt_base.specs.declared.refusal.Refusal.TheVariants.{NoMemory, DeviceF
 use Rattle.mt_replay.specs.Refused.{BreaksFormat, BreaksLog, IsCause, in_log}
 use Rattle.mt_folder.proofs.FolderLemmas.{held_known}
 use Rattle.mt_folder.specs.Folders.{Files, IsHeld, known_in}
-use Rattle.mt_cli.specs.Checks.{IsRefusedFor, IsUntold}
+use Rattle.mt_cli.specs.Checks.{IsRefusedFor, IsUnreported}
 
 -- the same refusal, where what breaks the one rule breaks the other
 pub cause_by : (P Q : List ℕ → ℕ → Type 0) (c : List ℕ) (failed : Type 0) (why : Refusal) → ((at : ℕ) → P c at → Q c at) → IsCause P c failed why → IsCause Q c (Unit {0}) why
@@ -20,6 +20,6 @@ refused_by_log true c failed why m = cause_by BreaksLog BreaksFormat c failed wh
 refused_by_log false c failed why m = cause_by BreaksLog BreaksLog c failed why (λ at b. b) m
 
 -- why nothing is reported of a file whose bytes are refused
-pub untold_of : {T : Type 0} (pages : Bool) (files : Files) (name c : List ℕ) (r : Result T Refusal) → IsHeld files name c → IfErr r (IsRefusedFor pages c) → IfErr r (IsUntold pages (known_in files name))
-untold_of pages files name c (Ok report) held cause = tt
-untold_of pages files name c (Err why) held cause = inr (c, held_known files name c held, cause)
+pub unreported_of : {T : Type 0} (pages : Bool) (files : Files) (name c : List ℕ) (r : Result T Refusal) → IsHeld files name c → IfErr r (IsRefusedFor pages c) → IfErr r (IsUnreported pages (known_in files name))
+unreported_of pages files name c (Ok report) held cause = tt
+unreported_of pages files name c (Err why) held cause = inr (c, held_known files name c held, cause)

@@ -40,7 +40,7 @@ use Rattle.mt_folder.specs.Folders.{Files, IsHeld, IsLent, IsUnmade, Puts, known
 module _ {D : Type 0} {g : Ghosts D} (seen : D → List ℕ) (may_leave : D → List ℕ → Type 0) where
   -- the pages of which a survey of it tells hold its base
   pub tells_of : (relations counters : ℕ) (b : Base) (k : Kernel D g) (survey : Survey) → IsOpened seen may_leave relations counters b k → TellsBase k.relations k.counters b survey → TellsPages seen k survey → TellsOfBase relations counters b survey
-  tells_of relations counters b k survey opened base told = ∥∥₁_map opened.shows (λ (origin, held, is, x).
+  tells_of relations counters b k survey opened base outcome = ∥∥₁_map opened.shows (λ (origin, held, is, x).
       let ops = k.core.operations in
       let safe = x.consistent in
       let total = pages ops.store.pool in
@@ -57,10 +57,10 @@ module _ {D : Type 0} {g : Ghosts D} (seen : D → List ℕ) (may_leave : D → 
         subst (λ (X : Type 0). X) (λ i. IsGood (relations_are i) (counters_are i) total page) safe.fit.right.sound.good,
         subst (Holds page) same safe.holds,
         record {
-          depth = told.depth ∙ ap depth_in (shows 1 (fixed_inside seen may_leave origin.relations ops 1 (omega arith) idle));
-          free = told.free ∙ ap (λ (bytes : List ℕ). free_in (mapped bytes total)) (shows 0 (fixed_inside seen may_leave origin.relations ops 0 (omega arith) idle));
-          relations_told = base.relations_told ∙ opened.relations_are;
-          counters_told = base.counters_told ∙ opened.counters_are;
+          depth = outcome.depth ∙ ap depth_in (shows 1 (fixed_inside seen may_leave origin.relations ops 1 (omega arith) idle));
+          free = outcome.free ∙ ap (λ (bytes : List ℕ). free_in (mapped bytes total)) (shows 0 (fixed_inside seen may_leave origin.relations ops 0 (omega arith) idle));
+          relations_reported = base.relations_reported ∙ opened.relations_are;
+          counters_reported = base.counters_reported ∙ opened.counters_are;
           base = subst (λ (n : ℕ). IsSame n (base_of survey.base) b) opened.counters_are base.same;
         },
       ))
@@ -76,8 +76,8 @@ ok_both (Err e) f p q = tt
 -- of the base of a kernel that was opened, whichever it may be said to be
 pub dumps_of : (c : List ℕ) (r : Result Survey Refusal) (IsOn : ℕ → ℕ → Base → Type 0) → ((n m : ℕ) (b : Base) → IsOn n m b → IfOk r (TellsOfBase n m b)) → (n m : ℕ) (b : Base) → IsOn n m b
     → ((n m : ℕ) (b : Base) → CanRestart n m c b → IsOn n m b) → IfOk r (Dumps c)
-dumps_of c (Ok survey) IsOn told n m b on can = record { some = (n, m, b, told n m b on); stood_for = λ n m b stands. told n m b (can n m b stands) }
-dumps_of c (Err why) IsOn told n m b on can = tt
+dumps_of c (Ok survey) IsOn outcome n m b on can = record { some = (n, m, b, outcome n m b on); stood_for = λ n m b stands. outcome n m b (can n m b stands) }
+dumps_of c (Err why) IsOn outcome n m b on can = tt
 
 -- ---- refusals
 
@@ -139,7 +139,7 @@ stands_on old mid new name c d held lent put same = record {
   before = c;
   after = d;
   held = held;
-  put = record { told = put.told ∙ lent.told; held = put.held; others = λ other apart. put.others other apart ∙ lent.others other apart };
+  put = record { outcome = put.outcome ∙ lent.outcome; held = put.held; others = λ other apart. put.others other apart ∙ lent.others other apart };
   same = same;
 }
 

@@ -9,7 +9,7 @@ use Rattle.mt_args.specs.declared.command.Command.{Command}
 use Rattle.mt_args.specs.declared.command.Command.TheVariants.{Try, Schedule, Check, Format, Dump, Explain, Run, Show}
 use Rattle.mt_cli.specs.declared.faults.Fault.{Fault}
 use Rattle.mt_cli.specs.declared.faults.Fault.TheVariants.{Output}
-use Rattle.mt_cli.specs.Performs.{Around, HaveRun, IsDone, IsGivenUp, IsScheduled, IsToldOf, IsTried, IsUndone, IsUnscheduled, unheard}
+use Rattle.mt_cli.specs.Performs.{Around, HaveRun, IsDone, IsGivenUp, IsScheduled, IsReportedOf, IsTried, IsUndone, IsUnscheduled, unheard}
 use Rattle.mt_cli.specs.Checks.{HasChecked}
 use Rattle.mt_cli.specs.Dumps.{HasDumped}
 use Rattle.mt_cli.specs.Explains.{HasExplained}
@@ -20,8 +20,8 @@ use Rattle.mt_alone.specs.declared.stops.Stop.{Stop}
 use Rattle.mt_cli.specs.Serves.{HasRunScripts, HaveServedOn, IsServedAtOnce, IsServedIn}
 use Rattle.mt_model.specs.Model.{Base}
 use Rattle.mt_script.specs.declared.lines.Line.{Line}
-use Rattle.mt_cli.specs.Tellings.{told_lines}
-use Rattle.mt_world.specs.declared.events.Answer.{Answer as Told}
+use Rattle.mt_cli.specs.Tellings.{reported_lines}
+use Rattle.mt_world.specs.declared.events.Answer.{Answer as Reported}
 use Rattle.mt_world.specs.declared.events.Event.{Event}
 
 -- nothing more was written
@@ -37,23 +37,23 @@ tried_kept g stop bytes was mid now done kept =
       tried = (
         done.tried.0,
         done.tried.1,
-        record { kernel = t.kernel; stands = t.stands; answers = t.answers; last = t.last; at = t.at; ran = t.ran; ends = t.ends; told = appends_kept was mid now _ t.told kept },
+        record { kernel = t.kernel; stands = t.stands; answers = t.answers; last = t.last; at = t.at; ran = t.ran; ends = t.ends; outcome = appends_kept was mid now _ t.outcome kept },
       );
     }
 
 checked_kept : (pages : Bool) (bytes was mid now : Option (List ℕ)) → HasChecked pages bytes was mid → Keeps mid now → HasChecked pages bytes was now
-checked_kept pages bytes was mid now done kept = record { report = done.report; of = done.of; told = appends_kept was mid now _ done.told kept }
+checked_kept pages bytes was mid now done kept = record { report = done.report; of = done.of; outcome = appends_kept was mid now _ done.outcome kept }
 
 dumped_kept : (bytes was mid now : Option (List ℕ)) → HasDumped bytes was mid → Keeps mid now → HasDumped bytes was now
-dumped_kept bytes was mid now done kept = record { survey = done.survey; of = done.of; ordered = done.ordered; told = appends_kept was mid now _ done.told kept }
+dumped_kept bytes was mid now done kept = record { survey = done.survey; of = done.of; ordered = done.ordered; outcome = appends_kept was mid now _ done.outcome kept }
 
 explained_kept : (bytes was mid now : Option (List ℕ)) → HasExplained bytes was mid → Keeps mid now → HasExplained bytes was now
-explained_kept bytes was mid now done kept = record { batches = done.batches; of = done.of; told = appends_kept was mid now _ done.told kept }
+explained_kept bytes was mid now done kept = record { batches = done.batches; of = done.of; outcome = appends_kept was mid now _ done.outcome kept }
 
 served_kept : (stop : Bool) (ending : Option Stop) (relations counters : ℕ) (b : Base) (scripts : List (List Line)) (was mid now : Option (List ℕ)) (d : List ℕ) → HaveServedOn stop ending relations counters b scripts was mid d → Keeps mid now
     → HaveServedOn stop ending relations counters b scripts was now d
 served_kept stop ending relations counters b scripts was mid now d x kept =
-    record { transcripts = x.transcripts; last = x.last; at = x.at; played = x.played; ended = x.ended; told = appends_kept was mid now _ x.told kept; stands = x.stands }
+    record { transcripts = x.transcripts; last = x.last; at = x.at; played = x.played; ended = x.ended; outcome = appends_kept was mid now _ x.outcome kept; stands = x.stands }
 
 in_turn_kept : (stop : Bool) (old new : Files) (file : List ℕ) (scripts : List (List Line)) (was mid now : Option (List ℕ)) → IsServedIn stop old new file scripts was mid → Keeps mid now → IsServedIn stop old new file scripts was now
 in_turn_kept stop old new file scripts was mid now x kept =
@@ -70,7 +70,7 @@ in_turn_kept stop old new file scripts was mid now x kept =
     }
 
 at_once_kept : (old new : Files) (file : List ℕ) (scripts : List (List Line)) (was mid now : Option (List ℕ)) → IsServedAtOnce old new file scripts was mid → Keeps mid now → IsServedAtOnce old new file scripts was now
-at_once_kept old new file scripts was mid now x kept = record { texts = x.texts; served = x.served; told = appends_kept was mid now _ x.told kept }
+at_once_kept old new file scripts was mid now x kept = record { texts = x.texts; served = x.served; outcome = appends_kept was mid now _ x.outcome kept }
 
 run_kept : (stop : Bool) (workers : ℕ) (old new : Files) (file : List ℕ) (names : List (List ℕ)) (input was mid now : Option (List ℕ)) → HasRunScripts stop workers old new file names input was mid → Keeps mid now
     → HasRunScripts stop workers old new file names input was now
@@ -86,7 +86,7 @@ run_kept stop workers old new file names input was mid now done kept = record {
 module _ {D : Type 0} (g : Ghosts D) where
   scheduled_kept : (bytes was mid now : Option (List ℕ)) → IsScheduled g bytes was mid → Keeps mid now → IsScheduled g bytes was now
   scheduled_kept bytes was mid now done kept =
-      record { events = done.events; spelled = done.spelled; answers = done.answers; ran = done.ran; told = appends_kept was mid now _ done.told kept }
+      record { events = done.events; spelled = done.spelled; answers = done.answers; ran = done.ran; outcome = appends_kept was mid now _ done.outcome kept }
 
   pub done_kept : (command : Command) (a : Around) (was mid now : Option (List ℕ)) → IsDone g command a was mid → Keeps mid now → IsDone g command a was now
   done_kept (Try script stop) a was mid now done kept = (tried_kept g stop _ was mid now done.0 kept, done.1)
@@ -99,12 +99,12 @@ module _ {D : Type 0} (g : Ghosts D) where
   done_kept (Show text) a was mid now done kept = (appends_kept was mid now _ done.0 kept, done.1)
 
   -- the output failed within the answers of a run
-  pub unheard_at : (bytes was now : Option (List ℕ)) (events made : List Event) (answers told : List Told) → IfSome bytes (λ bs. IsSchedule bs events) → made ≡ events → HaveRun g made answers
-      → told ≡ answers → AppendsFront was now (told_lines told) → IsUnscheduled g bytes was now Output
-  unheard_at bytes was now events made answers told spelled same ran all front =
-      unheard events answers spelled (subst (λ (es : List Event). HaveRun g es answers) same ran) (subst (λ (xs : List Told). AppendsFront was now (told_lines xs)) all front)
+  pub unheard_at : (bytes was now : Option (List ℕ)) (events made : List Event) (answers outcome : List Reported) → IfSome bytes (λ bs. IsSchedule bs events) → made ≡ events → HaveRun g made answers
+      → outcome ≡ answers → AppendsFront was now (reported_lines outcome) → IsUnscheduled g bytes was now Output
+  unheard_at bytes was now events made answers outcome spelled same ran all front =
+      unheard events answers spelled (subst (λ (es : List Event). HaveRun g es answers) same ran) (subst (λ (xs : List Reported). AppendsFront was now (reported_lines xs)) all front)
 
   pub given_up_of : (command : Command) (reason : Option Reason) (a : Around) (was mid now old new : Option (List ℕ)) (r : Result (Unit {0}) Fault) → OnOk r (IsDone g command a was mid) → IfErr r (IsUndone g command a was mid)
-      → Keeps mid now → MatchResult r (λ u. IsToldOf command reason Output old new) (λ fault. IsToldOf command reason fault old new) → IsGivenUp g command reason a was now old new
-  given_up_of command reason a was mid now old new (Ok u) done undone kept told = record { given_up = (Output, mid, inr (done, refl), kept, told) }
-  given_up_of command reason a was mid now old new (Err fault) done undone kept told = record { given_up = (fault, mid, inl undone, kept, told) }
+      → Keeps mid now → MatchResult r (λ u. IsReportedOf command reason Output old new) (λ fault. IsReportedOf command reason fault old new) → IsGivenUp g command reason a was now old new
+  given_up_of command reason a was mid now old new (Ok u) done undone kept outcome = record { given_up = (Output, mid, inr (done, refl), kept, outcome) }
+  given_up_of command reason a was mid now old new (Err fault) done undone kept outcome = record { given_up = (fault, mid, inl undone, kept, outcome) }

@@ -70,7 +70,7 @@ pub record IsAt (files : Files) (input : Option (List ℕ)) (names : List (List 
   pub kept : AreKept files now
 
 pub at_first : (files : Files) (input : Option (List ℕ)) → IsAt files input [] [] files input
-at_first files input = record { left = input; read = none_read; known = known_first input; kept = record { told = refl; all = λ n. refl } }
+at_first files input = record { left = input; read = none_read; known = known_first input; kept = record { outcome = refl; all = λ n. refl } }
 
 pub one_more : (files now later : Files) (input held after : Option (List ℕ)) (names : List (List ℕ)) (scripts : List (List Line)) (name : List ℕ) (lines : List Line) → IsAt files input names scripts now held → IsReadAt now held name lines after → AreKept now later
     → IsAt files input (names ++ name ∷ []) (scripts ++ lines ∷ []) later after
@@ -78,7 +78,7 @@ one_more files now later input held after names scripts name lines at x kept = r
   left = input_behind name at.left;
   read = one_read names scripts at.left name lines at.read (first_known files now name at.left held at.kept at.known (λ bs. IsScript bs lines) x.spelled);
   known = still_known files now name at.left held at.kept at.known after x.untouched;
-  kept = record { told = kept.told ∙ at.kept.told; all = λ n. kept.all n ∙ at.kept.all n };
+  kept = record { outcome = kept.outcome ∙ at.kept.outcome; all = λ n. kept.all n ∙ at.kept.all n };
 }
 
 -- the next one was not

@@ -41,23 +41,23 @@ module _ {D : Type 0} {g : Ghosts D} (seen : D → List ℕ) (may_leave : D → 
   -- sessions of a kernel are sessions of the model
   schema_kept : (s e : Play × Kernel D g) (ls : List (List Line)) (ts : List (List Answer)) → Serves (HasServed seen may_leave) s ls ts e → (e.1.relations ≡ s.1.relations) × (e.1.counters ≡ s.1.counters)
   schema_kept s _ _ _ no_script = (refl, refl)
-  schema_kept s e _ _ (then_script scripts transcripts mid end lines told before x) = let kept = schema_kept s mid scripts transcripts before in (x.schema.0 ∙ kept.0, x.schema.1 ∙ kept.1)
+  schema_kept s e _ _ (then_script scripts transcripts mid end lines outcome before x) = let kept = schema_kept s mid scripts transcripts before in (x.schema.0 ∙ kept.0, x.schema.1 ∙ kept.1)
 
   -- they begin on the same base
   first_kept : (s e : Play × Kernel D g) (ls : List (List Line)) (ts : List (List Answer)) → Serves (HasServed seen may_leave) s ls ts e → e.0.first ≡ s.0.first
   first_kept s _ _ _ no_script = refl
-  first_kept s e _ _ (then_script scripts transcripts mid end lines told before x) = ap (λ (p : Play). p.first) x.end_is
+  first_kept s e _ _ (then_script scripts transcripts mid end lines outcome before x) = ap (λ (p : Play). p.first) x.end_is
       ∙ runs_first seen may_leave (in_session mid.0 (length scripts + 1), x.begun) (x.play, x.last) lines x.answers x.ran ∙ first_kept s mid scripts transcripts before
 
   pub all_played : (relations counters : ℕ) (s e : Play × Kernel D g) (ls : List (List Line)) (ts : List (List Answer)) → s.1.relations ≡ relations → s.1.counters ≡ counters → Serves (HasServed seen may_leave) s ls ts e → HavePlayed relations counters s.0 ls ts e.0
   all_played relations counters s _ _ _ rs cs no_script = no_script
-  all_played relations counters s _ _ _ rs cs (then_script scripts transcripts mid end lines told before x) =
+  all_played relations counters s _ _ _ rs cs (then_script scripts transcripts mid end lines outcome before x) =
       let kept = schema_kept s mid scripts transcripts before in
-      then_script scripts transcripts mid.0 end.0 lines told (all_played relations counters s mid scripts transcripts rs cs before) (record {
+      then_script scripts transcripts mid.0 end.0 lines outcome (all_played relations counters s mid scripts transcripts rs cs before) (record {
         answers = x.answers;
         play = x.play;
         ran = played seen may_leave relations counters (in_session mid.0 (length scripts + 1), x.begun) (x.play, x.last) lines x.answers (x.over.schema.0 ∙ kept.0 ∙ rs) (x.over.schema.1 ∙ kept.1 ∙ cs) x.ran;
-        told_is = x.told_is;
+        reported_is = x.reported_is;
         end_is = x.end_is;
       })
 
@@ -89,7 +89,7 @@ module _ {D : Type 0} {g : Ghosts D} (seen : D → List ℕ) (may_leave : D → 
         at = x.at;
         ended = x.close;
         played = all_played relations counters (first_on b, k) (x.play, n) (scripts_to ending scripts) x.transcripts opened.relations_are opened.counters_are x.served;
-        told = x.told;
+        outcome = x.outcome;
         stands = stands_all relations counters b x.play n c (schema.0 ∙ opened.relations_are) (schema.1 ∙ opened.counters_are) (stays b opened.restarts) x.beside finds;
       }
 
@@ -111,7 +111,7 @@ module _ {D : Type 0} {g : Ghosts D} (seen : D → List ℕ) (may_leave : D → 
       answers = x.answers;
       last = x.play;
       ran = played seen may_leave relations counters (p, begun) (x.play, x.last) x.before x.answers (over.schema.0 ∙ rs) (over.schema.1 ∙ cs) x.ran;
-      told = x.told;
+      outcome = x.outcome;
       ended = ended_among seen may_leave faults k.relations k.counters left x.play x.left;
       stand = subst (λ (X : Type 0). X) (λ i. StandForMore (rs i) (cs i) b x.play.book d)
           (stands k.relations k.counters x.play (runs_first seen may_leave (p, begun) (x.play, x.last) x.before x.answers x.ran ∙ first) x.left);
@@ -127,8 +127,8 @@ module _ {D : Type 0} {g : Ghosts D} (seen : D → List ℕ) (may_leave : D → 
         → IsShortWithin relations counters (λ book. StandForMore relations counters b book d) p i lines was now (why_in left)
     within relations counters b p k i lines was now _ d rs cs first stands beside restarts (unheard_line n front same) =
         unheard_session front (subst (λ (X : Type 0). X) (λ i. StandForMore (rs i) (cs i) b p.book d) (stands k.relations k.counters p first (unbegun p k n beside restarts same)))
-    within relations counters b p k i lines was now _ d rs cs first stands beside restarts (cut_script mid left told cut) =
-        short_session mid (why_in left) told (short_of relations counters b (in_session p i) k lines mid now left d rs cs first stands cut)
+    within relations counters b p k i lines was now _ d rs cs first stands beside restarts (cut_script mid left outcome cut) =
+        short_session mid (why_in left) outcome (short_of relations counters b (in_session p i) k lines mid now left d rs cs first stands cut)
 
     pub short_on : (stop : Bool) (relations counters : ℕ) (b : Base) (k : Kernel D g) (scripts : List (List Line)) (was now : Option (List ℕ)) (left : NotServed D g) (device : D) (d : List ℕ) → IsOpened seen may_leave relations counters b k → may_leave device d
         → ((r m : ℕ) (q : Play) → IsLeftBy seen may_leave faults r m left q → StandsForMore may_leave r m q device)
@@ -146,7 +146,7 @@ module _ {D : Type 0} {g : Ghosts D} (seen : D → List ℕ) (may_leave : D → 
           last = x.ran.play;
           played = all_played relations counters (first_on b, k) (x.ran.play, x.last) x.before x.ran.transcripts opened.relations_are opened.counters_are x.ran.served;
           mid = x.mid;
-          told = x.ran.told;
+          outcome = x.ran.outcome;
           within = within relations counters b x.ran.play x.last (length x.before + 1) x.lines x.mid now left d (kept.0 ∙ opened.relations_are) (kept.1 ∙ opened.counters_are) first
               (leaves_standing b left device d leaves stands) x.ran.beside x.ran.restarts x.within;
         }
@@ -177,11 +177,11 @@ module _ (stop : Bool) (c d : List ℕ) (scripts : List (List Line)) (was now : 
 -- ---- the file
 
 pub put_back : (old mid new : Files) (name d : List ℕ) → IsLent old mid name → Puts mid new name d → Puts old new name d
-put_back old mid new name d lent put = record { told = put.told ∙ lent.told; held = put.held; others = λ other apart. put.others other apart ∙ lent.others other apart }
+put_back old mid new name d lent put = record { outcome = put.outcome ∙ lent.outcome; held = put.held; others = λ other apart. put.others other apart ∙ lent.others other apart }
 
 -- behind reads that left each file as it was
 pub held_before : (old mid : Files) (name bytes : List ℕ) → AreKept old mid → IsHeld mid name bytes → IsHeld old name bytes
-held_before old mid name bytes kept held = λ is. sym (kept.all name) ∙ held (kept.told ∙ is)
+held_before old mid name bytes kept held = λ is. sym (kept.all name) ∙ held (kept.outcome ∙ is)
 
 pub served_then : (stop : Bool) (old mid new : Files) (name : List ℕ) (scripts : List (List Line)) (was now : Option (List ℕ)) → AreKept old mid → IsServedIn stop mid new name scripts was now → IsServedIn stop old new name scripts was now
 served_then stop old mid new name scripts was now kept x = record {

@@ -120,7 +120,7 @@ module _ {D : Type 0} (g : Ghosts D) where
         at = within;
         ran = x.ran;
         ends = x.ends;
-        told = x.told;
+        outcome = x.outcome;
       }
 
   pub short_of : (k : Kernel D g) (lines : List Line) (was now : Option (List ℕ)) (left : NotServed D g) → StandsFirst g.seen g.may_leave k
@@ -137,7 +137,7 @@ module _ {D : Type 0} (g : Ghosts D) where
         answers = x.answers;
         last = (x.play, x.last);
         ran = x.ran;
-        told = x.told;
+        outcome = x.outcome;
         ended = ended_among g.seen g.may_leave g.faults k.relations k.counters left x.play x.left;
       }
 

@@ -145,13 +145,13 @@ about command (Unscheduled why) = named_in command
 abbrev pub advice_line : List ℕ → List ℕ → List ℕ
 advice_line name advice = (name ++ codes ": ") ++ (advice ++ 10 ∷ [])
 
-abbrev pub told_text : List ℕ → List ℕ → Fault → List ℕ
-told_text name advice fault = fault_line fault ++ advice_line name advice
+abbrev pub reported_text : List ℕ → List ℕ → Fault → List ℕ
+reported_text name advice fault = fault_line fault ++ advice_line name advice
 
 -- so of a fault of a command, if the folder's call failed for this reason
-abbrev pub told_of : Command → Option Reason → Fault → List ℕ
-told_of command reason fault = told_text (about command fault) (advice_of command reason fault) fault
+abbrev pub reported_of : Command → Option Reason → Fault → List ℕ
+reported_of command reason fault = reported_text (about command fault) (advice_of command reason fault) fault
 
 -- and of words that are not read for want of memory
 abbrev pub unread_text : List ℕ
-unread_text = told_text (codes "mtk") (codes "there is not enough memory") (Refused refusal.NoMemory)
+unread_text = reported_text (codes "mtk") (codes "there is not enough memory") (Refused refusal.NoMemory)

@@ -63,16 +63,16 @@ abbrev pub TellsOf : Bool → Option (List ℕ) → Report → Type 0
 TellsOf pages bytes report = (c : List ℕ) × IsOf bytes c × Tells pages c report
 
 -- why nothing is reported of a file: it is not opened, or its bytes are refused
-abbrev pub IsUntold : Bool → Option (List ℕ) → Refusal → Type 0
-IsUntold pages bytes why = IsFileRefusal bytes why ⊎ ((c : List ℕ) × IsOf bytes c × IsRefusedFor pages c why)
+abbrev pub IsUnreported : Bool → Option (List ℕ) → Refusal → Type 0
+IsUnreported pages bytes why = IsFileRefusal bytes why ⊎ ((c : List ℕ) × IsOf bytes c × IsRefusedFor pages c why)
 
 -- the lines of such a report were written
 pub record HasChecked (pages : Bool) (bytes was now : Option (List ℕ)) : Type 0 where
   pub report : Report
   pub of : TellsOf pages bytes report
-  pub told : Appends was now (check_text pages report)
+  pub outcome : Appends was now (check_text pages report)
 
 -- why a check did not end well: nothing is written if nothing is reported, and else the output failed within the lines
 pub data IsUnchecked (pages : Bool) (bytes was now : Option (List ℕ)) : Fault → Type 0 where
-  untold : (why : Refusal) → IsUntold pages bytes why → Keeps was now → IsUnchecked pages bytes was now (Refused why)
+  unreported : (why : Refusal) → IsUnreported pages bytes why → Keeps was now → IsUnchecked pages bytes was now (Refused why)
   unheard_check : (report : Report) → TellsOf pages bytes report → AppendsFront was now (check_text pages report) → IsUnchecked pages bytes was now Output

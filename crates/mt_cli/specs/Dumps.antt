@@ -81,7 +81,7 @@ pub record HasDumped (bytes was now : Option (List ℕ)) : Type 0 where
   pub survey : Survey
   pub of : DumpsOf bytes survey
   pub ordered : IsOrdered (rows_of survey.base)
-  pub told : Appends was now (dump_text survey)
+  pub outcome : Appends was now (dump_text survey)
 
 -- why a dump did not end well: nothing is written if nothing is reported, and else the output failed within the lines
 pub data IsUndumped (bytes was now : Option (List ℕ)) : Fault → Type 0 where

@@ -9,7 +9,7 @@ use Rattle.mt_log.specs.Masters.{area_start}
 use Rattle.mt_log.specs.declared.batch.Batch.{Batch}
 use Rattle.mt_replay.specs.Stands.{HasArea}
 use Rattle.mt_script.specs.Answers.{AppendsFront}
-use Rattle.mt_cli.specs.Checks.{IsOf, IsUntold}
+use Rattle.mt_cli.specs.Checks.{IsOf, IsUnreported}
 use Rattle.mt_explain.specs.Explanations.{explained}
 use Rattle.mt_explain.specs.Histories.{Recounts}
 use Rattle.mt_explain.specs.declared.history.History.{History}
@@ -36,9 +36,9 @@ RecountsLog bytes h = (batches : List Batch) × IsLogIn bytes batches × Recount
 pub record HasExplained (bytes was now : Option (List ℕ)) : Type 0 where
   pub batches : List Batch
   pub of : IsLogIn bytes batches
-  pub told : Appends was now (explained batches)
+  pub outcome : Appends was now (explained batches)
 
 -- why they were not: nothing is written if nothing is reported, and else the output failed within the lines
 pub data IsUnexplained (bytes was now : Option (List ℕ)) : Fault → Type 0 where
-  untold_log : (why : Refusal) → IsUntold false bytes why → Keeps was now → IsUnexplained bytes was now (Refused why)
+  unreported_log : (why : Refusal) → IsUnreported false bytes why → Keeps was now → IsUnexplained bytes was now (Refused why)
   unheard_log : (batches : List Batch) → IsLogIn bytes batches → AppendsFront was now (explained batches) → IsUnexplained bytes was now Output

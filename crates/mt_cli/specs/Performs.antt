@@ -24,7 +24,7 @@ use Rattle.mt_script.specs.Answers.{AppendsFront, transcript_text}
 use Rattle.mt_alone.specs.Driven.{IsBeside}
 use Rattle.mt_alone.specs.Plays.{Play, Runs}
 use Rattle.mt_alone.specs.Stops.{Ends, IsStopIn, lines_to, why_stopped}
-use Rattle.mt_cli.specs.Advice.{told_of, unread_text}
+use Rattle.mt_cli.specs.Advice.{reported_of, unread_text}
 use Rattle.mt_cli.specs.Checks.{HasChecked, IsUnchecked}
 use Rattle.mt_args.specs.CommandLines.{IsCommandOf}
 use Rattle.mt_cli.specs.Dumps.{AreLeftBy, HasDumped, IsUndumped, StandsOn}
@@ -38,11 +38,11 @@ use Rattle.mt_cli.specs.Reads.{IsUnread, IsUnreadScript, source_of}
 use Rattle.mt_cli.specs.declared.event_words.EventWord.{EventWord}
 use Rattle.mt_cli.specs.declared.read_faults.ReadFault.{ReadFault}
 use Rattle.mt_cli.specs.Serves.{AreEndedBy, HasNotRun, HasRunScripts, fault_of}
-use Rattle.mt_cli.specs.Tellings.{told_lines}
+use Rattle.mt_cli.specs.Tellings.{reported_lines}
 use Rattle.mt_script.specs.Scripts.{IsScript}
-use Rattle.mt_alone.specs.Runs.{HasTurned, IsToldFor, last_line}
+use Rattle.mt_alone.specs.Runs.{HasTurned, IsReportedFor, last_line}
 use Rattle.mt_world.specs.Schedules.{HasRunTo}
-use Rattle.mt_world.specs.declared.events.Answer.{Answer as Told}
+use Rattle.mt_world.specs.declared.events.Answer.{Answer as Reported}
 use Rattle.mt_world.specs.declared.events.Event.{Event}
 use Rattle.mt_world.specs.declared.kernel_or_device.Standing.{Standing}
 
@@ -80,14 +80,14 @@ pub record HasTried {D : Type 0} (g : Ghosts D) (stop : Bool) (ending : Option S
   pub at : IsStopIn 1 lines ending
   pub ran : Runs (HasTurned g.seen g.may_leave) (stands.play, kernel) (lines_to ending lines) answers last
   pub ends : Ends stop (why_stopped ending) answers
-  pub told : Appends was now (transcript_text (answers ++ last_line last.0.under_way))
+  pub outcome : Appends was now (transcript_text (answers ++ last_line last.0.under_way))
 
 -- those that the bytes spell, if they are known
 pub record IsTried {D : Type 0} (g : Ghosts D) (stop : Bool) (bytes was now : Option (List ℕ)) : Type 0 where
   pub tried : (lines : List Line) × IfSome bytes (λ bs. IsScript bs lines) × HasTried g stop None lines was now
 
 -- a kernel over such a device, formatted for that schema, answered these events so, and did what the answers say
-pub record HaveRun {D : Type 0} (g : Ghosts D) (events : List Event) (answers : List Told) : Type 0 where
+pub record HaveRun {D : Type 0} (g : Ghosts D) (events : List Event) (answers : List Reported) : Type 0 where
   pub schema : Schema
   pub first : IsFirstSchema schema
   pub standing : Standing D g
@@ -97,9 +97,9 @@ pub record HaveRun {D : Type 0} (g : Ghosts D) (events : List Event) (answers : 
 pub record IsScheduled {D : Type 0} (g : Ghosts D) (bytes was now : Option (List ℕ)) : Type 0 where
   pub events : List Event
   pub spelled : IfSome bytes (λ bs. IsSchedule bs events)
-  pub answers : List Told
+  pub answers : List Reported
   pub ran : HaveRun g events answers
-  pub told : Appends was now (told_lines answers)
+  pub outcome : Appends was now (reported_lines answers)
 
 -- the folder's files before a command and after it, and what of the input is known
 pub record Around : Type 0 where
@@ -124,16 +124,17 @@ IsWordsDone g words a was now = (command : Command) × IsCommandOf words command
 
 -- the line of a fault of a command was written, and after it what it is about and what to do, or a beginning of that.
 -- The folder's call failed for this reason, if one did.
-abbrev pub IsToldOf : Command → Option Reason → Fault → Option (List ℕ) → Option (List ℕ) → Type 0
-IsToldOf command reason fault was now = AppendsFront was now (told_of command reason fault)
+abbrev pub IsReportedOf : Command → Option Reason → Fault → Option (List ℕ) → Option (List ℕ) → Type 0
+IsReportedOf command reason fault was now = AppendsFront was now (reported_of command reason fault)
 
 -- so of some fault
-abbrev pub IsTold : Option (List ℕ) → Option (List ℕ) → Type 0
-IsTold was now = (command : Command) × (reason : Option Reason) × (fault : Fault) × IsToldOf command reason fault was now
+abbrev pub IsReported : Option (List ℕ) → Option (List ℕ) → Type 0
+IsReported was now =
+    (command : Command) × (reason : Option Reason) × (fault : Fault) × IsReportedOf command reason fault was now
 
 -- or memory was wanting to read the words of a command line
-abbrev pub IsWordsTold : Option (List ℕ) → Option (List ℕ) → Type 0
-IsWordsTold was now = IsTold was now ⊎ AppendsFront was now unread_text
+abbrev pub IsWordsReported : Option (List ℕ) → Option (List ℕ) → Type 0
+IsWordsReported was now = IsReported was now ⊎ AppendsFront was now unread_text
 
 -- ---- a command that was not done
 
@@ -147,7 +148,7 @@ pub record IsShort {D : Type 0} (g : Ghosts D) (lines : List Line) (was now : Op
   pub answers : List Answer
   pub last : Play × Kernel D g
   pub ran : Runs (HasTurned g.seen g.may_leave) (stands.play, kernel) before answers last
-  pub told : IsToldFor was now answers why
+  pub outcome : IsReportedFor was now answers why
   pub ended : AreEndedBy why
 
 -- why these lines did not run to their end: nothing is written if no kernel is made, and else a line stopped
@@ -169,8 +170,8 @@ pub data IsUntried {D : Type 0} (g : Ghosts D) (stop : Bool) (bytes was now : Op
 pub data IsUnscheduled {D : Type 0} (g : Ghosts D) (bytes was now : Option (List ℕ)) : Fault → Type 0 where
   unspelled : (why : ReadFault EventWord) → IsUnread event_text IsEvent event_word bytes why → Keeps was now → IsUnscheduled g bytes was now (Unscheduled why)
   unbegun : (why : Refusal) → IsUnmade why → Keeps was now → IsUnscheduled g bytes was now (Refused why)
-  unheard : (events : List Event) (answers : List Told) → IfSome bytes (λ bs. IsSchedule bs events) → HaveRun g events answers
-      → AppendsFront was now (told_lines answers) → IsUnscheduled g bytes was now Output
+  unheard : (events : List Event) (answers : List Reported) → IfSome bytes (λ bs. IsSchedule bs events) → HaveRun g events answers
+      → AppendsFront was now (reported_lines answers) → IsUnscheduled g bytes was now Output
 
 -- why nothing was formatted of these numbers
 abbrev pub IsFormatFault : Numbers → Fault → Type 0
@@ -195,7 +196,7 @@ IsUndone g (Show text) a was now fault = (fault ≡ Output) × AppendsFront was 
 -- what to do, or has a beginning of that.
 pub record IsGivenUp {D : Type 0} (g : Ghosts D) (command : Command) (reason : Option Reason) (a : Around) (was now old new : Option (List ℕ)) : Type 0 where
   pub given_up : (fault : Fault) × (mid : Option (List ℕ)) × (IsUndone g command a was mid fault ⊎ (IsDone g command a was mid × (fault ≡ Output)))
-      × Keeps mid now × IsToldOf command reason fault old new
+      × Keeps mid now × IsReportedOf command reason fault old new
 
 -- and so did the command that words name, or memory was wanting to read them
 abbrev pub IsWordsGivenUp : {D : Type 0} → Ghosts D → List (List ℕ) → Option Reason → Around → Option (List ℕ) → Option (List ℕ) → Option (List ℕ) → Option (List ℕ) → Type 0

@@ -12,9 +12,9 @@ use Rattle.mt_model.specs.declared.history.Committed.{Committed}
 use Rattle.mt_model.specs.declared.tables.Base.{Base as Tables}
 use Rattle.mt_replay.specs.Stands.{CanRestart}
 use Rattle.mt_script.specs.Answers.{AppendsFront}
-use Rattle.mt_server.specs.Heard.{AreTold}
+use Rattle.mt_server.specs.Heard.{AreReported}
 use Rattle.mt_alone.specs.Plays.{Play, HasPlayed}
-use Rattle.mt_alone.specs.Runs.{IsToldFor}
+use Rattle.mt_alone.specs.Runs.{IsReportedFor}
 use Rattle.mt_server.specs.Serves.{IsUnserved}
 use Rattle.mt_alone.specs.Sessions.{Close, HavePlayed, in_session, session_line, sessions_text}
 use Rattle.mt_alone.specs.Stops.{IsStopAmong, scripts_to, why_stopped}
@@ -73,7 +73,7 @@ pub record HaveServedOn (stop : Bool) (ending : Option Stop) (relations counters
   pub at : IsStopAmong scripts ending
   pub played : HavePlayed relations counters (first_on b) (scripts_to ending scripts) transcripts last
   pub ended : Close stop (why_stopped ending) transcripts
-  pub told : Appends was now (sessions_text transcripts)
+  pub outcome : Appends was now (sessions_text transcripts)
   pub stands : StandForAll relations counters b last.book d
 
 -- A script was cut short: the first of its lines were answered, and their answers are written, or a beginning of
@@ -85,7 +85,7 @@ pub record IsShortOf (relations counters : ℕ) (Stand : List Committed → Type
   pub answers : List Answer
   pub last : Play
   pub ran : HasPlayed relations counters p before answers last
-  pub told : IsToldFor was now answers why
+  pub outcome : IsReportedFor was now answers why
   pub ended : AreEndedBy why
   pub stand : Stand last.book
 
@@ -106,7 +106,7 @@ pub record AreShortOn (relations counters : ℕ) (b : Base) (scripts : List (Lis
   pub last : Play
   pub played : HavePlayed relations counters (first_on b) before transcripts last
   pub mid : Option (List ℕ)
-  pub told : Appends was mid (sessions_text transcripts)
+  pub outcome : Appends was mid (sessions_text transcripts)
   pub within : IsShortWithin relations counters (λ book. StandForMore relations counters b book d) last (length before + 1) lines mid now why
 
 -- ---- on a device's bytes
@@ -173,7 +173,7 @@ pub record AreServedAtOnce (failed : Bool) (c : List ℕ) (scripts : List (List 
   pub is : IsBaseOf c first
   pub book : List Committed
   pub legal : IsLegal (base_of first) book
-  pub told : AreTold failed scripts texts book
+  pub outcome : AreReported failed scripts texts book
   pub relations : ℕ
   pub counters : ℕ
   pub stands : StandForBook failed relations counters (base_of first) book d
@@ -195,7 +195,7 @@ pub record AreServedAtOnceIn (failed : Bool) (old new : Files) (file : List ℕ)
 pub record IsServedAtOnce (old new : Files) (file : List ℕ) (scripts : List (List Line)) (was now : Option (List ℕ)) : Type 0 where
   pub texts : List (List ℕ)
   pub served : AreServedAtOnceIn false old new file scripts texts
-  pub told : Appends was now (texts_in_order texts)
+  pub outcome : Appends was now (texts_in_order texts)
 
 -- Why they were not. The file is not opened, or there are too many of them: each file is as before. Or serving is
 -- refused, and the device is dropped: what its file has is not known, and each other one is as before. Or they were

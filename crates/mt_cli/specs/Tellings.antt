@@ -17,34 +17,34 @@ abbrev pub name_text : ℕ → List ℕ
 name_text t = 32 ∷ decimal t
 
 -- what an answer is written as, without the end of its line
-abbrev pub told_text : Answer → List ℕ
-told_text (Begun t) = codes "begun " ++ decimal t
-told_text (Called call.Started) = codes "started"
-told_text (Called (call.Wait t)) = codes "wait " ++ decimal t
-told_text (Stepped step.Went) = codes "went"
-told_text (Stepped (step.Wait t)) = codes "wait " ++ decimal t
-told_text (Stepped step.Again) = codes "again"
-told_text (Stepped step.Flush) = codes "flush"
-told_text (Stepped (step.Replied reply)) = reply_text reply
-told_text (Committing place) = codes "committing " ++ decimal place
-told_text Aborting = codes "aborting"
-told_text (Backed abort.More) = codes "more"
-told_text (Backed (abort.Wait t)) = codes "wait " ++ decimal t
-told_text (Backed abort.Again) = codes "again"
-told_text (Backed abort.Flush) = codes "flush"
-told_text (Backed abort.Ended) = codes "ended"
-told_text (Forced forced.More) = codes "more"
-told_text (Forced forced.Idle) = codes "idle"
-told_text (Forced (forced.Durable names)) = codes "durable" ++ concat (map name_text names.items)
-told_text (Flushed (flush.Page page)) = codes "page " ++ decimal page
-told_text (Flushed flush.Force) = codes "force"
-told_text (Flushed flush.Clean) = codes "clean"
-told_text Rotated = codes "rotated"
-told_text (Refused why) = text_of why
+abbrev pub reported_text : Answer → List ℕ
+reported_text (Begun t) = codes "begun " ++ decimal t
+reported_text (Called call.Started) = codes "started"
+reported_text (Called (call.Wait t)) = codes "wait " ++ decimal t
+reported_text (Stepped step.Went) = codes "went"
+reported_text (Stepped (step.Wait t)) = codes "wait " ++ decimal t
+reported_text (Stepped step.Again) = codes "again"
+reported_text (Stepped step.Flush) = codes "flush"
+reported_text (Stepped (step.Replied reply)) = reply_text reply
+reported_text (Committing place) = codes "committing " ++ decimal place
+reported_text Aborting = codes "aborting"
+reported_text (Backed abort.More) = codes "more"
+reported_text (Backed (abort.Wait t)) = codes "wait " ++ decimal t
+reported_text (Backed abort.Again) = codes "again"
+reported_text (Backed abort.Flush) = codes "flush"
+reported_text (Backed abort.Ended) = codes "ended"
+reported_text (Forced forced.More) = codes "more"
+reported_text (Forced forced.Idle) = codes "idle"
+reported_text (Forced (forced.Durable names)) = codes "durable" ++ concat (map name_text names.items)
+reported_text (Flushed (flush.Page page)) = codes "page " ++ decimal page
+reported_text (Flushed flush.Force) = codes "force"
+reported_text (Flushed flush.Clean) = codes "clean"
+reported_text Rotated = codes "rotated"
+reported_text (Refused why) = text_of why
 
 -- an answer's line, and those of several
-abbrev pub told_line : Answer → List ℕ
-told_line answer = told_text answer ++ 10 ∷ []
+abbrev pub reported_line : Answer → List ℕ
+reported_line answer = reported_text answer ++ 10 ∷ []
 
-abbrev pub told_lines : List Answer → List ℕ
-told_lines answers = concat (map told_line answers)
+abbrev pub reported_lines : List Answer → List ℕ
+reported_lines answers = concat (map reported_line answers)

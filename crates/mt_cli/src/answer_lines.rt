@@ -3,7 +3,7 @@ ghost use Rattle.std.specs.Prelude.{◌≡◌, ◌∷◌, ◌++◌, [], OnOk, On
 ghost use Rattle.std.specs.Fmt.{decimal};
 ghost use Rattle.std.specs.Io.KnownBytes.{Appends};
 ghost use Rattle.std.specs.List.{concat};
-ghost use Rattle.mt_cli.specs.Tellings.{name_text, told_line, told_lines};
+ghost use Rattle.mt_cli.specs.Tellings.{name_text, reported_line, reported_lines};
 ghost use Rattle.mt_script.specs.Answers.{AppendsFront};
 ghost use Rattle.mt_world.specs.declared.events.Answer.TheVariants as answer;
 
@@ -30,9 +30,9 @@ pub(crate) fn write_number<W: Write>(writer: &mut W, word: &str, number: u64) ->
 /// Writes what a call came to.
 fn write_called<W: Write>(writer: &mut W, called: Called) -> Result<(), Unheard>
     ensures all { OnOk result (Appends (W.contents writer.old) (W.contents writer.new)
-        (told_line (answer.Called called))) }
+        (reported_line (answer.Called called))) }
     ensures front { OnErr result (AppendsFront (W.contents writer.old) (W.contents writer.new)
-        (told_line (answer.Called called))) }
+        (reported_line (answer.Called called))) }
 {
     match called {
         Called::Started => put(writer, b"started\n"),
@@ -43,9 +43,9 @@ fn write_called<W: Write>(writer: &mut W, called: Called) -> Result<(), Unheard>
 /// Writes what a step of an operation came to.
 fn write_stepped<W: Write>(writer: &mut W, stepped: &Stepped) -> Result<(), Unheard>
     ensures all { OnOk result (Appends (W.contents writer.old) (W.contents writer.new)
-        (told_line (answer.Stepped stepped.now))) }
+        (reported_line (answer.Stepped stepped.now))) }
     ensures front { OnErr result (AppendsFront (W.contents writer.old) (W.contents writer.new)
-        (told_line (answer.Stepped stepped.now))) }
+        (reported_line (answer.Stepped stepped.now))) }
 {
     match stepped {
         Stepped::Went => put(writer, b"went\n"),
@@ -59,9 +59,9 @@ fn write_stepped<W: Write>(writer: &mut W, stepped: &Stepped) -> Result<(), Unhe
 /// Writes what a step of an abort came to.
 fn write_backed<W: Write>(writer: &mut W, backed: AbortStepped) -> Result<(), Unheard>
     ensures all { OnOk result (Appends (W.contents writer.old) (W.contents writer.new)
-        (told_line (answer.Backed backed))) }
+        (reported_line (answer.Backed backed))) }
     ensures front { OnErr result (AppendsFront (W.contents writer.old) (W.contents writer.new)
-        (told_line (answer.Backed backed))) }
+        (reported_line (answer.Backed backed))) }
 {
     match backed {
         AbortStepped::More => put(writer, b"more\n"),
@@ -111,9 +111,9 @@ fn write_durable<W: Write>(writer: &mut W, names: &[TxnNo]) -> Result<(), Unhear
 /// Writes what a step of a force came to.
 fn write_forced<W: Write>(writer: &mut W, forced: &KernelForced) -> Result<(), Unheard>
     ensures all { OnOk result (Appends (W.contents writer.old) (W.contents writer.new)
-        (told_line (answer.Forced forced.now))) }
+        (reported_line (answer.Forced forced.now))) }
     ensures front { OnErr result (AppendsFront (W.contents writer.old) (W.contents writer.new)
-        (told_line (answer.Forced forced.now))) }
+        (reported_line (answer.Forced forced.now))) }
 {
     match forced {
         KernelForced::More => put(writer, b"more\n"),
@@ -125,9 +125,9 @@ fn write_forced<W: Write>(writer: &mut W, forced: &KernelForced) -> Result<(), U
 /// Writes what a flush came to.
 fn write_flushed<W: Write>(writer: &mut W, flushed: Flushed) -> Result<(), Unheard>
     ensures all { OnOk result (Appends (W.contents writer.old) (W.contents writer.new)
-        (told_line (answer.Flushed flushed))) }
+        (reported_line (answer.Flushed flushed))) }
     ensures front { OnErr result (AppendsFront (W.contents writer.old) (W.contents writer.new)
-        (told_line (answer.Flushed flushed))) }
+        (reported_line (answer.Flushed flushed))) }
 {
     match flushed {
         Flushed::Page(page) => write_number(writer, "page ", page.get() as u64),
@@ -138,10 +138,10 @@ fn write_flushed<W: Write>(writer: &mut W, flushed: Flushed) -> Result<(), Unhea
 
 /// Writes what a kernel answered to an event, as one line. If the writer fails, it has written a beginning of
 /// the line.
-pub(crate) fn write_told<W: Write>(writer: &mut W, answer: &Answer) -> Result<(), Unheard>
-    ensures all { OnOk result (Appends (W.contents writer.old) (W.contents writer.new) (told_line answer.now)) }
+pub(crate) fn write_reported<W: Write>(writer: &mut W, answer: &Answer) -> Result<(), Unheard>
+    ensures all { OnOk result (Appends (W.contents writer.old) (W.contents writer.new) (reported_line answer.now)) }
     ensures front { OnErr result (AppendsFront (W.contents writer.old) (W.contents writer.new)
-        (told_line answer.now)) }
+        (reported_line answer.now)) }
 {
     match answer {
         Answer::Begun(txn) => write_number(writer, "begun ", txn.get()),
@@ -159,13 +159,16 @@ pub(crate) fn write_told<W: Write>(writer: &mut W, answer: &Answer) -> Result<()
 
 /// Writes what a kernel answered to events, a line each. If the writer fails, it has written a beginning of
 /// them.
-pub(crate) fn write_all_told<W: Write>(writer: &mut W, answers: &[Answer]) -> Result<(), Unheard>
-    ensures all { OnOk result (Appends (W.contents writer.old) (W.contents writer.new) (told_lines answers.now)) }
+pub(crate) fn write_all_reported<W: Write>(
+    writer: &mut W,
+    answers: &[Answer],
+) -> Result<(), Unheard>
+    ensures all { OnOk result (Appends (W.contents writer.old) (W.contents writer.new) (reported_lines answers.now)) }
     ensures front { OnErr result (AppendsFront (W.contents writer.old) (W.contents writer.new)
-        (told_lines answers.now)) }
+        (reported_lines answers.now)) }
 {
     for answer in answers {
-        write_told(writer, answer)?;
+        write_reported(writer, answer)?;
     }
     Ok(())
 }

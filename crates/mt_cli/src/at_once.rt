@@ -3,7 +3,7 @@ ghost use Rattle.std.specs.Prelude.{◌≡◌, ℕ, IfErr, IfOk, List, OnErr, On
 ghost use Rattle.std.specs.Io.KnownBytes.{Appends};
 ghost use Rattle.mt_script.specs.Answers.{AppendsFront};
 ghost use Rattle.mt_script.specs.declared.lines.Line.{Line};
-ghost use Rattle.mt_server.specs.Heard.{AreTold};
+ghost use Rattle.mt_server.specs.Heard.{AreReported};
 ghost use Rattle.mt_server.specs.Serves.{IsServedOn, IsUnserved};
 ghost use Rattle.mt_alone.specs.Sessions.{lines_in};
 ghost use Rattle.mt_txn.specs.Shown.{is_failed};
@@ -54,7 +54,7 @@ fn is_cut_off<D: Device>(kernel: &Kernel<D>) -> bool
 /// Takes the device out of a kernel under all sessions.
 fn left_behind<D: Device + Drop>(kernel: Kernel<D>, transcripts: Vec<Transcript>) -> Behind<D>
     ensures { (c : List ℕ) (scripts : List (List Line)) → IsServedOn D.seen D.may_leave c kernel
-        → AreTold (is_failed kernel) scripts transcripts.items kernel.core.book.items
+        → AreReported (is_failed kernel) scripts transcripts.items kernel.core.book.items
         → AreServedAtOnce result.has_failed c scripts result.transcripts.items (D.seen result.device) }
 {
     kernel.can_restart();
@@ -130,17 +130,17 @@ fn tell_sessions<O: Write>(
     transcripts: &[Transcript],
     has_failed: bool,
 ) -> Result<(), Fault>
-    ensures told { OnOk result ((has_failed ≡ false)
+    ensures outcome { OnOk result ((has_failed ≡ false)
         × Appends (O.contents out.old) (O.contents out.new) (texts_in_order transcripts.now)) }
     ensures front { OnErr result (AppendsFront (O.contents out.old) (O.contents out.new)
         (texts_in_order transcripts.now)) }
     ensures why { IfErr result (IsEndOf has_failed) }
 {
-    let told = write_sessions(out, transcripts);
+    let outcome = write_sessions(out, transcripts);
     if has_failed {
         return Err(Fault::Refused(Refusal::DeviceFailed));
     }
-    match told {
+    match outcome {
         Ok(()) => Ok(()),
         Err(_) => Err(Fault::Output),
     }

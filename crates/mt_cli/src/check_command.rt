@@ -4,7 +4,7 @@ ghost use Rattle.std.specs.List.{concat};
 ghost use Rattle.std.specs.Io.KnownBytes.{Appends};
 ghost use Rattle.mt_replay.specs.Refused.{BreaksFormat, IsCause};
 ghost use Rattle.mt_script.specs.Answers.{AppendsFront};
-ghost use Rattle.mt_cli.specs.Checks.{HasChecked, IsRefusedFor, IsSurveyed, IsUnchecked, IsUntold, Tells, TellsOf, check_text, figure_line, pages_text, report_text};
+ghost use Rattle.mt_cli.specs.Checks.{HasChecked, IsRefusedFor, IsSurveyed, IsUnchecked, IsUnreported, Tells, TellsOf, check_text, figure_line, pages_text, report_text};
 ghost use Rattle.mt_folder.specs.Folders.{AreKept, known_in};
 
 use crate::answer_lines::write_number;
@@ -30,32 +30,32 @@ fn look_at_pages<D: Device>(alloc: Global, device: &mut D) -> Result<(), Refusal
 }
 
 /// The report on a device, whose pages are inspected too if that is asked for.
-fn told_of<D: Device>(alloc: Global, device: &mut D, pages: bool) -> Result<Report, Refusal>
-    ensures told { IfOk result (Tells pages (D.seen device.old)) }
+fn reported_of<D: Device>(alloc: Global, device: &mut D, pages: bool) -> Result<Report, Refusal>
+    ensures outcome { IfOk result (Tells pages (D.seen device.old)) }
     ensures cause { IfErr result (IsRefusedFor pages (D.seen device.old)) }
     ensures seen { D.seen device.new ≡ D.seen device.old }
 {
-    let told = report(alloc, device)?;
+    let outcome = report(alloc, device)?;
     if pages {
         look_at_pages(alloc, device)?;
     }
-    Ok(told)
+    Ok(outcome)
 }
 
 /// What is reported of the device in the file of this name.
-fn told_of_file<F: Folder, R: Clock>(
+fn reported_of_file<F: Folder, R: Clock>(
     alloc: Global,
     patience: &Patience<'_, R>,
     folder: &mut F,
     name: &str,
     pages: bool,
 ) -> Result<Report, Refusal>
-    ensures told { IfOk result (TellsOf pages (known_in (F.files folder.old) name.now)) }
-    ensures cause { IfErr result (IsUntold pages (known_in (F.files folder.old) name.now)) }
+    ensures outcome { IfOk result (TellsOf pages (known_in (F.files folder.old) name.now)) }
+    ensures cause { IfErr result (IsUnreported pages (known_in (F.files folder.old) name.now)) }
     ensures kept { AreKept (F.files folder.old) (F.files folder.new) }
 {
     let mut device = patience.copy(folder, name)?;
-    told_of(alloc, &mut device, pages)
+    reported_of(alloc, &mut device, pages)
 }
 
 /// Writes a line for each of these figures: its word, and its number after it.
@@ -124,7 +124,7 @@ pub(crate) fn perform_check<F: Folder, O: Write, R: Clock>(
         (O.contents out.old) (O.contents out.new)) }
     ensures kept { AreKept (F.files folder.old) (F.files folder.new) }
 {
-    match told_of_file(alloc, patience, folder, name, pages) {
+    match reported_of_file(alloc, patience, folder, name, pages) {
         Ok(report) => match write_check(out, &report, pages) {
             Ok(()) => Ok(()),
             Err(_) => Err(Fault::Output),

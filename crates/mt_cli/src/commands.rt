@@ -5,13 +5,13 @@ ghost use Rattle.mt_script.specs.Answers.{AppendsFront};
 ghost use Rattle.mt_args.specs.CommandLines.{IsMistaken};
 ghost use Rattle.mt_folder.specs.Folders.{AreKept, IsUnmade};
 ghost use Rattle.mt_cli.specs.declared.faults.Fault.{Fault};
-ghost use Rattle.mt_cli.specs.Performs.{IsFirstSchema, StandsFirst, HasTried, HaveRun, IsTried, IsScheduled, IsCutTrial, IsUntried, IsUnscheduled, IsDone, IsUndone, IsWordsDone, IsGivenUp, IsWordsGivenUp, IsTold, IsToldOf, IsWordsTold, Around};
+ghost use Rattle.mt_cli.specs.Performs.{IsFirstSchema, StandsFirst, HasTried, HaveRun, IsTried, IsScheduled, IsCutTrial, IsUntried, IsUnscheduled, IsDone, IsUndone, IsWordsDone, IsGivenUp, IsWordsGivenUp, IsReported, IsReportedOf, IsWordsReported, Around};
 ghost use Rattle.mt_cli.specs.Reads.{source_of};
 ghost use Rattle.std.specs.Io.KnownBytes.{Appends, Keeps};
 ghost use Rattle.mt_cli.specs.declared.commands.TheConstants.{AREA_MIB, PAGES};
 ghost use Rattle.mt_base.specs.Limits.{device_bytes_of};
 
-use crate::answer_lines::write_all_told;
+use crate::answer_lines::write_all_reported;
 use crate::at_once::Service;
 use crate::check_command::perform_check;
 use crate::dump_command::perform_dump;
@@ -220,7 +220,7 @@ fn perform_schedule<F: Folder, I: Read, O: Write>(
         Err(why) => return Err(Fault::Unscheduled(why)),
     };
     match answers_of(alloc, events.as_slice()) {
-        Ok(answers) => match write_all_told(out, answers.as_slice()) {
+        Ok(answers) => match write_all_reported(out, answers.as_slice()) {
             Ok(()) => Ok(()),
             Err(_) => Err(Fault::Output),
         },
@@ -239,9 +239,9 @@ fn finish<O: Write, E: Write>(
     ensures kept { Keeps (O.contents out.old) (O.contents out.new) }
     ensures done { result ≡ 0 → IsOk done × (err.new ≡ err.old) }
     ensures status { result ≢ 0 → result ≡ 1 }
-    ensures told { result ≢ 0 → MatchResult done
-        (λ _. IsToldOf command.now reason.now Fault.Output (E.contents err.old) (E.contents err.new))
-        (λ fault. IsToldOf command.now reason.now fault (E.contents err.old) (E.contents err.new)) }
+    ensures outcome { result ≢ 0 → MatchResult done
+        (λ _. IsReportedOf command.now reason.now Fault.Output (E.contents err.old) (E.contents err.new))
+        (λ fault. IsReportedOf command.now reason.now fault (E.contents err.old) (E.contents err.new)) }
 {
     let flushed = out.flush();
     let fault = match done {
@@ -375,7 +375,7 @@ pub fn perform<
     ensures done { result ≡ 0 → IsDone ⟦<MemDevice as Device>⟧ command.now
         (record { before = F.files folder.old; after = F.files folder.new; input = I.remaining input.old })
         (O.contents out.old) (O.contents out.new) × (err.new ≡ err.old) }
-    ensures told { result ≢ 0 → (result ≡ 1) × IsTold (E.contents err.old) (E.contents err.new) }
+    ensures outcome { result ≢ 0 → (result ≡ 1) × IsReported (E.contents err.old) (E.contents err.new) }
     ensures given_up { result ≢ 0 → IsGivenUp ⟦<MemDevice as Device>⟧ command.now (F.why folder.new)
         (record { before = F.files folder.old; after = F.files folder.new; input = I.remaining input.old })
         (O.contents out.old) (O.contents out.new) (E.contents err.old) (E.contents err.new) }
@@ -407,7 +407,7 @@ pub fn perform_words<
     ensures done { result ≡ 0 → IsWordsDone ⟦<MemDevice as Device>⟧ (map (λ word. word.now) words.now)
         (record { before = F.files folder.old; after = F.files folder.new; input = I.remaining input.old })
         (O.contents out.old) (O.contents out.new) }
-    ensures told { result ≡ 1 → IsWordsTold (E.contents err.old) (E.contents err.new) }
+    ensures outcome { result ≡ 1 → IsWordsReported (E.contents err.old) (E.contents err.new) }
     ensures given_up { result ≡ 1 → IsWordsGivenUp ⟦<MemDevice as Device>⟧ (map (λ word. word.now) words.now)
         (F.why folder.new)
         (record { before = F.files folder.old; after = F.files folder.new; input = I.remaining input.old })

@@ -31,20 +31,20 @@ const FRAMES: usize = 32;
 /// Surveys a kernel that was just opened, and gives its device back.
 fn survey_opened<D: Device + Drop>(kernel: Kernel<D>) -> (Result<Survey, Refusal>, D)
     requires opened { (b : Base) × IsOpened D.seen D.may_leave kernel.relations kernel.counters b kernel }
-    ensures told { (relations counters : ℕ) (b : Base) → IsOpened D.seen D.may_leave relations counters b kernel
+    ensures outcome { (relations counters : ℕ) (b : Base) → IsOpened D.seen D.may_leave relations counters b kernel
         → IfOk result.0 (TellsOfBase relations counters b) }
     ensures why { IfErr result.0 IsUnmade }
     ensures content { D.seen result.1 ≡ D.seen kernel.core.operations.store.device }
 {
     let mut kernel = kernel;
-    let told = kernel.survey();
-    (told, kernel.into_device())
+    let outcome = kernel.survey();
+    (outcome, kernel.into_device())
 }
 
 /// Opens a device, surveys it, and gives it back, whatever came of that.
 fn survey_of<D: Device + Drop>(alloc: Global, device: D) -> (Result<Survey, Refusal>, D)
     requires settled { Only (D.seen device) (D.may_leave device) }
-    ensures told { IfOk result.0 (Dumps (D.seen device)) }
+    ensures outcome { IfOk result.0 (Dumps (D.seen device)) }
     ensures cause { IfErr result.0 (IsBarred (D.seen device)) }
     ensures stands { StandAs (D.seen device) (D.seen result.1) }
     ensures early { IfErr result.0 (λ why. IsEarly why → D.seen result.1 ≡ D.seen device) }
@@ -62,16 +62,16 @@ fn survey_of_file<F: Folder, R: Clock>(
     folder: &mut F,
     name: &str,
 ) -> Result<Survey, Refusal>
-    ensures told { IfOk result (DumpsOf (known_in (F.files folder.old) name.now)) }
+    ensures outcome { IfOk result (DumpsOf (known_in (F.files folder.old) name.now)) }
     ensures cause { IfErr result (IsUnopened (known_in (F.files folder.old) name.now)) }
     ensures stands { OnOk result (StandsOn (F.files folder.old) (F.files folder.new) name.now) }
     ensures left { IfErr result (AreLeft (F.files folder.old) (F.files folder.new) name.now) }
 {
     let device = patience.device(folder, name)?;
     let surveyed = survey_of(alloc, device);
-    let (told, device) = surveyed;
+    let (outcome, device) = surveyed;
     folder.back(name, device);
-    told
+    outcome
 }
 
 /// Writes the lines of a survey's two numbers.

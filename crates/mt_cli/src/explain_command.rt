@@ -2,7 +2,7 @@
 ghost use Rattle.std.specs.Prelude.{◌≡◌, false, IfErr, IfOk, OnOk};
 ghost use Rattle.mt_base.specs.declared.refusal.Refusal.{Refusal};
 ghost use Rattle.mt_replay.specs.Refused.{BreaksLog, IsCause};
-ghost use Rattle.mt_cli.specs.Checks.{IsUntold};
+ghost use Rattle.mt_cli.specs.Checks.{IsUnreported};
 ghost use Rattle.mt_cli.specs.Explains.{HasExplained, IsLogIn, IsLogOf, IsUnexplained, RecountsLog};
 ghost use Rattle.mt_folder.specs.Folders.{AreKept, known_in};
 
@@ -37,7 +37,7 @@ fn log_of_file<F: Folder, R: Clock>(
     name: &str,
 ) -> Result<Vec<Batch>, Refusal>
     ensures log { IfOk result (λ batches. IsLogIn (known_in (F.files folder.old) name.now) batches.items) }
-    ensures cause { IfErr result (IsUntold false (known_in (F.files folder.old) name.now)) }
+    ensures cause { IfErr result (IsUnreported false (known_in (F.files folder.old) name.now)) }
     ensures kept { AreKept (F.files folder.old) (F.files folder.new) }
 {
     let mut device = patience.copy(folder, name)?;
@@ -51,8 +51,8 @@ fn history_of_file<F: Folder, R: Clock>(
     folder: &mut F,
     name: &str,
 ) -> Result<History, Refusal>
-    ensures told { IfOk result (RecountsLog (known_in (F.files folder.old) name.now)) }
-    ensures cause { IfErr result (IsUntold false (known_in (F.files folder.old) name.now)) }
+    ensures outcome { IfOk result (RecountsLog (known_in (F.files folder.old) name.now)) }
+    ensures cause { IfErr result (IsUnreported false (known_in (F.files folder.old) name.now)) }
     ensures kept { AreKept (F.files folder.old) (F.files folder.new) }
 {
     let batches = log_of_file(alloc, patience, folder, name)?;

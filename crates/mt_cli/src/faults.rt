@@ -2,8 +2,8 @@
 ghost use Rattle.std.specs.Prelude.{◌≡◌, ◌++◌, [], OnOk, OnErr, codes, get_or, map, string_bytes};
 ghost use Rattle.std.specs.Io.KnownBytes.{Appends};
 ghost use Rattle.mt_script.specs.Answers.{AppendsFront};
-ghost use Rattle.mt_cli.specs.Performs.{IsToldOf};
-ghost use Rattle.mt_cli.specs.Advice.{about, advice_at, advice_line, advice_of, advice_on, device_advice, fault_line, file_advice, line_advice, memory_advice, named_in, script_advice, script_in, shown_file, shown_name, stop_advice, told_of, unread_advice, unread_text};
+ghost use Rattle.mt_cli.specs.Performs.{IsReportedOf};
+ghost use Rattle.mt_cli.specs.Advice.{about, advice_at, advice_line, advice_of, advice_on, device_advice, fault_line, file_advice, line_advice, memory_advice, named_in, script_advice, script_in, shown_file, shown_name, stop_advice, reported_of, unread_advice, unread_text};
 
 use crate::event_words::EventWord;
 use crate::excess::{excess_in, write_excess};
@@ -357,16 +357,16 @@ fn write_advice_line<W: Write>(
 }
 
 /// Writes the line of a fault of a command, and after it what it is about and what to do.
-fn write_told<W: Write>(
+fn write_reported<W: Write>(
     writer: &mut W,
     command: &Command,
     reason: &Option<Reason>,
     fault: &Fault,
 ) -> Result<(), Unheard>
     ensures all { OnOk result (Appends (W.contents writer.old) (W.contents writer.new)
-        (told_of command.now reason.now fault.now)) }
+        (reported_of command.now reason.now fault.now)) }
     ensures front { OnErr result (AppendsFront (W.contents writer.old) (W.contents writer.new)
-        (told_of command.now reason.now fault.now)) }
+        (reported_of command.now reason.now fault.now)) }
 {
     write_fault(writer, fault)?;
     write_advice_line(writer, command, reason, fault)
@@ -391,7 +391,7 @@ pub(crate) fn tell_unread<E: Write>(err: &mut E)
 /// Reports on the error output a fault of a command, the file that it is about, and what to do. The reason is why the
 /// folder's call failed.
 pub(crate) fn tell<E: Write>(err: &mut E, command: &Command, reason: &Option<Reason>, fault: &Fault)
-    ensures { IsToldOf command.now reason.now fault.now (E.contents err.old) (E.contents err.new) }
+    ensures { IsReportedOf command.now reason.now fault.now (E.contents err.old) (E.contents err.new) }
 {
-    let _ = write_told(err, command, reason, fault);
+    let _ = write_reported(err, command, reason, fault);
 }

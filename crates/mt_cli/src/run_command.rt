@@ -113,9 +113,9 @@ fn serve_file<F: Folder, O: Write, R: Clock>(
         Err(refusal) => return Err(Fault::Refused(refusal)),
     };
     let served = serve_over(alloc, device, service.frames, service.stop, scripts, out);
-    let (told, device) = served;
+    let (outcome, device) = served;
     folder.back(service.name, device);
-    told
+    outcome
 }
 
 /// Does `run`: reads all scripts, then opens the device in the file of this name with so many frames, and serves the

@@ -25,9 +25,9 @@ use Rattle.mt_pool.proofs.Logged.{no_records}
 use Rattle.mt_space.specs.Changes.{PageBytes}
 use Rattle.mt_steps.specs.Held.{Holds}
 use Rattle.mt_core.specs.Runs.{is_open, left_of}
-use Rattle.mt_core.specs.Consistent.{Origin, state_of, IsNumbered, AreTold, IsQueued, IsConsistent, IsIn}
+use Rattle.mt_core.specs.Consistent.{Origin, state_of, IsNumbered, AreReported, IsQueued, IsConsistent, IsIn}
 use Rattle.mt_core.proofs.Resting.{fit_over}
-use Rattle.mt_core.proofs.Told.{told_more}
+use Rattle.mt_core.proofs.Reported.{reported_more}
 use Rattle.mt_core.proofs.Queued.{queued_records}
 use Rattle.mt_core.specs.declared.parts.Core.{Core}
 use Rattle.mt_core.specs.declared.parts.Running.{Running}
@@ -74,7 +74,7 @@ module _ {D : Type 0} (seen : D → List ℕ) (may_leave : D → List ℕ → Ty
               log;
           holds = subst (λ (p : PageBytes). Holds p base) (sym (notes_held origin.relations origin.counters (world seen origin.pages k.operations) (world seen origin.pages n.operations) t (AbortEnd t) notes (inr refl))) safe.holds;
           runs = λ i d lt. let was = safe.runs i d lt in record { under = others (get_or k.running.items i d).scope was.under (idle i d lt); budget = was.budget; number = was.number; moving = was.moving };
-          told = subst (AreTold k.last k.live.members) (sym notes.records) (told_more k.last k.last k.live.members (appended k.operations.store.log) (AbortEnd t ∷ []) (omega arith) (λ u v less. refl) safe.told);
+          outcome = subst (AreReported k.last k.live.members) (sym notes.records) (reported_more k.last k.last k.live.members (appended k.operations.store.log) (AbortEnd t ∷ []) (omega arith) (λ u v less. refl) safe.outcome);
           claims = same ∙ safe.claims;
         };
         state = refl;

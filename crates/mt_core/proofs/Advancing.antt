@@ -36,7 +36,7 @@ use Rattle.mt_steps.specs.Held.{Holds}
 use Rattle.mt_steps.specs.Plans.{own_needs, undo_pages}
 use Rattle.mt_live.specs.declared.transactions.TxnState.TheVariants.{Aborting}
 use Rattle.mt_core.specs.Runs.{running_in, state_in, AreApart, AreHeldBy, IsMoving, IsRunning, IsOwned, pages_of, entry_pages, left_of, kept_bytes, taken_bytes}
-use Rattle.mt_core.specs.Consistent.{Origin, state_of, IsNumbered, AreTold, IsQueued, IsFit, IsConsistent, IsAlone, IsReady, IsIn, Advances}
+use Rattle.mt_core.specs.Consistent.{Origin, state_of, IsNumbered, AreReported, IsQueued, IsFit, IsConsistent, IsAlone, IsReady, IsIn, Advances}
 use Rattle.mt_core.specs.declared.parts.Core.{Core}
 use Rattle.mt_core.specs.declared.parts.Running.{Running}
 use Rattle.mt_core.proofs.Lists.{all_set, pair_at, pairs_set}
@@ -45,7 +45,7 @@ use Rattle.mt_core.proofs.Holders.{way_at, held_set, held_step}
 use Rattle.mt_core.proofs.Numbers.{AddsNoInverse, adds_none, adds_pages, numbered_step}
 use Rattle.mt_core.proofs.Effects.{weighs_last, inverse_pages}
 use Rattle.mt_core.proofs.Inverses.{none_undone}
-use Rattle.mt_core.proofs.Told.{told_more}
+use Rattle.mt_core.proofs.Reported.{reported_more}
 use Rattle.mt_core.proofs.Queued.{queued_records}
 
 -- other operations on the pages, and of the list of those under way
@@ -185,9 +185,9 @@ module _ {D : Type 0} (seen : D → List ℕ) (may_leave : D → List ℕ → Ty
         known = subst (λ (m : ℕ). m ≤ k.last) (sym same.number) known;
       }
 
-  -- the records told of each call, and none of those more is an inverse
-  pub told_on : (k n : Core D) → IsConsistent seen may_leave origin base k → (a : AddsNoInverse (appended k.operations.store.log) (appended n.operations.store.log)) → AreTold k.last k.live.members (appended n.operations.store.log)
-  told_on k n safe a = subst (AreTold k.last k.live.members) (sym a.is) (told_more k.last k.last k.live.members (appended k.operations.store.log) a.more (omega arith) (λ t m low. a.none t m) safe.told)
+  -- the records reported of each call, and none of those more is an inverse
+  pub reported_on : (k n : Core D) → IsConsistent seen may_leave origin base k → (a : AddsNoInverse (appended k.operations.store.log) (appended n.operations.store.log)) → AreReported k.last k.live.members (appended n.operations.store.log)
+  reported_on k n safe a = subst (AreReported k.last k.live.members) (sym a.is) (reported_more k.last k.last k.live.members (appended k.operations.store.log) a.more (omega arith) (λ t m low. a.none t m) safe.outcome)
 
   goes_in : (k n : Core D) (place : ℕ) (r q : Running) (res : Result Stepped Refusal) → IsConsistent seen may_leave origin base k → place < length k.running.items → r ≡ get_or k.running.items place r → n.running.items ≡ set k.running.items place q → q.op ≡ r.op
       → HasStepped seen may_leave origin.pages origin.relations origin.counters k.operations n.operations r.scope q.scope res → Goes origin.relations origin.counters (world seen origin.pages k.operations) (world seen origin.pages n.operations) r.scope q.scope
@@ -203,7 +203,7 @@ module _ {D : Type 0} (seen : D → List ℕ) (may_leave : D → List ℕ → Ty
           holds = subst (λ (p : PageBytes). Holds p base) (sym g.held) safe.holds;
           runs = subst (All (IsRunning origin.relations origin.counters (world seen origin.pages n.operations) k.last)) (sym items)
               (all_set (IsRunning origin.relations origin.counters (world seen origin.pages n.operations) k.last) k.running.items place q within own (others_run k n place r safe within there g.others));
-          told = told_on k n safe adds;
+          outcome = reported_on k n safe adds;
           claims = omega arith;
         };
         state = c.state;
@@ -241,10 +241,10 @@ module _ {D : Type 0} (seen : D → List ℕ) (may_leave : D → List ℕ → Ty
           holds = subst (λ (o : Op). Holds (held_in (world seen origin.pages n.operations)) (base_after base o)) (sym same.op) (a.base base safe.holds);
           replies = ap (reply_of base) same.op ∙ a.replies base safe.holds;
           small = a.small;
-          told = record {
+          outcome = record {
             was = appended k.operations.store.log;
             ended = ended ∙ ap (λ (rs : List Record). appended k.operations.store.log ++ rs) end_same;
-            told = safe.told;
+            outcome = safe.outcome;
             standing = λ fore. (λ i. some_record (undoes_op (same.txn i) (same.number i)) (appended k.operations.store.log)) ∙ none_undone origin.relations origin.counters seen may_leave origin.pages k.operations r.scope safe.fit.right was.under was.moving;
           };
           claims = omega arith;

@@ -19,12 +19,12 @@ use Rattle.mt_model.specs.Model.{Base}
 use Rattle.mt_slock.specs.Views.{held_of}
 use Rattle.mt_live.specs.declared.transactions.TxnState.TheVariants.{Open, Committing, Aborting}
 use Rattle.mt_core.specs.Runs.{running_in, IsOwned, is_at_work, is_open, entry_pages, entry_bytes, left_of}
-use Rattle.mt_core.specs.Consistent.{Origin, state_of, state_in, AreLeft, IsNumbered, IsTold, IsWithinSchema, IsConsistent, IsIn}
+use Rattle.mt_core.specs.Consistent.{Origin, state_of, state_in, AreLeft, IsNumbered, IsReported, IsWithinSchema, IsConsistent, IsIn}
 use Rattle.mt_core.specs.declared.parts.Core.{Core}
 use Rattle.mt_core.specs.declared.parts.Running.{Running}
 use Rattle.mt_live.proofs.Alone.{put_other}
 use Rattle.mt_core.proofs.Members.{changed_keeps}
-use Rattle.mt_core.proofs.Told.{told_fresh, told_put, told_changed}
+use Rattle.mt_core.proofs.Reported.{reported_fresh, reported_put, reported_changed}
 use Rattle.mt_core.proofs.Queued.{queued_members}
 
 fresh_session : (f : ℕ → Option Member) (t session u : ℕ) → option_map (λ (m : Member). m.session) (put f t (Some (members.fresh t session)) u) ≡ put (λ (v : ℕ). option_map (λ (m : Member). m.session) (f v)) t (Some session) u
@@ -138,7 +138,7 @@ module _ {D : Type 0} (seen : D → List ℕ) (may_leave : D → List ℕ → Ty
           };
           holds = safe.holds;
           runs = safe.runs;
-          told = told_put k.last (appended k.operations.store.log) k.live.members n.live.members t (Some (members.fresh t session)) (λ m is. subst (IsTold k.last (appended k.operations.store.log) t) (some_same is) (told_fresh k.last (appended k.operations.store.log) t t session)) new safe.told;
+          outcome = reported_put k.last (appended k.operations.store.log) k.live.members n.live.members t (Some (members.fresh t session)) (λ m is. subst (IsReported k.last (appended k.operations.store.log) t) (some_same is) (reported_fresh k.last (appended k.operations.store.log) t t session)) new safe.outcome;
           claims = omega arith;
         };
         state = state;
@@ -161,11 +161,11 @@ module _ {D : Type 0} (seen : D → List ℕ) (may_leave : D → List ℕ → Ty
 
   -- one that is changed, stays at work and keeps its calls, with what it has of room or more
   pub changed_in : (k n : Core D) (t : ℕ) (f : Member → Member) → IsConsistent seen may_leave origin base k → IsChanged k.live.members n.live.members t f → n.live.begun ≡ k.live.begun → n.live.standing ≡ k.live.standing → length n.live.members ≡ length k.live.members
-      → ((m : Member) → (f m).session ≡ m.session) → ((last : ℕ) (records : List Record) (m : Member) → IsTold last records t m → IsTold last records t (f m)) → ((m : Member) → last_operation (Some (f m)) ≡ last_operation (Some m)) → ((m : Member) → (f m).operations ≡ m.operations)
+      → ((m : Member) → (f m).session ≡ m.session) → ((last : ℕ) (records : List Record) (m : Member) → IsReported last records t m → IsReported last records t (f m)) → ((m : Member) → last_operation (Some (f m)) ≡ last_operation (Some m)) → ((m : Member) → (f m).operations ≡ m.operations)
       → ((u : ℕ) → is_open (member_of n.live.members u) ≡ is_open (member_of k.live.members u)) → ((u : ℕ) → has_room (member_of k.live.members u) ≡ true → has_room (member_of n.live.members u) ≡ true)
       → ((u : ℕ) → state_in k.live.members u ≡ Some Committing → state_in n.live.members u ≡ Some Committing) → ((u : ℕ) → state_in n.live.members u ≡ Some Committing → state_in k.live.members u ≡ Some Committing) → ((u : ℕ) → state_in k.live.members u ≡ Some Aborting → state_in n.live.members u ≡ Some Aborting)
       → IsIn seen may_leave origin base (state_of k base) (record k { live = n.live })
-  changed_in k n t f safe changed begun_same standing count session told last_same same_operations open_same roomy states stated aborting =
+  changed_in k n t f safe changed begun_same standing count session outcome last_same same_operations open_same roomy states stated aborting =
       let fit = safe.fit in
       let z : Core D = record k { live = n.live } in
       let state : state_of k base ≡ state_of z base = λ i. record {
@@ -216,7 +216,7 @@ module _ {D : Type 0} (seen : D → List ℕ) (may_leave : D → List ℕ → Ty
           };
           holds = safe.holds;
           runs = safe.runs;
-          told = told_changed k.last (appended k.operations.store.log) (appended k.operations.store.log) k.live.members n.live.members t f (λ m is was. told k.last (appended k.operations.store.log) m was) (λ u m apart was. was) changed safe.told;
+          outcome = reported_changed k.last (appended k.operations.store.log) (appended k.operations.store.log) k.live.members n.live.members t f (λ m is was. outcome k.last (appended k.operations.store.log) m was) (λ u m apart was. was) changed safe.outcome;
           claims = omega arith;
         };
         state = state;
@@ -227,7 +227,7 @@ module _ {D : Type 0} (seen : D → List ℕ) (may_leave : D → List ℕ → Ty
       → IsIn seen may_leave origin base (state_of k base) (record k { live = n.live })
   roomed_in k n t safe changed begun_same standing count =
       let states : (u : ℕ) → state_in n.live.members u ≡ state_in k.live.members u = changed_keeps (option_map (λ (m : Member). m.state)) members.with_room k.live.members n.live.members t (λ m. refl) changed in
-      changed_in k n t members.with_room safe changed begun_same standing count (λ m. refl) (λ last records m told. record { many = told.many; numbers = told.numbers; rising = told.rising; due = told.due }) (λ m. refl) (λ m. refl)
+      changed_in k n t members.with_room safe changed begun_same standing count (λ m. refl) (λ last records m outcome. record { many = outcome.many; numbers = outcome.numbers; rising = outcome.rising; due = outcome.due }) (λ m. refl) (λ m. refl)
       (changed_keeps is_open members.with_room k.live.members n.live.members t (λ m. refl) changed) (roomier k.live.members n.live.members t changed) (λ u is. states u ∙ is) (λ u is. sym (states u) ∙ is) (λ u is. states u ∙ is)
 
 -- one that is at work has it

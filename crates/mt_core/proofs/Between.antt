@@ -32,7 +32,7 @@ use Rattle.mt_op.proofs.Alone.{looked_alone}
 use Rattle.mt_op.proofs.Staying.{repeated_more}
 use Rattle.mt_op.proofs.Writing.{held_as_seen, planned_held}
 use Rattle.mt_replay.specs.Recoverable.{LeadsOn}
-use Rattle.mt_replay.specs.Told.{Told, tell, calls_in}
+use Rattle.mt_replay.specs.Recorded.{Recorded, tell, calls_in}
 use Rattle.mt_core.proofs.Leads.{acts_lead}
 use Rattle.mt_core.specs.Consistent.{Origin}
 use Rattle.mt_core.specs.Restartable.{IsQuiet, AppendsQuietly, Appends}
@@ -74,9 +74,9 @@ quiet_changes : (txn op p : ℕ) (image : Option (List ℕ)) (old new : List ℕ
 quiet_changes txn op p image old new [] = refl
 quiet_changes txn op p image old new (e ∷ es) = quiet_changes txn op p None old new es
 
-untold_changes : (txn op p : ℕ) (image : Option (List ℕ)) (old new : List ℕ) (es : List Edit) (x : Told) → tell x (change_records txn op p image old new es) ≡ x
-untold_changes txn op p image old new [] x = refl
-untold_changes txn op p image old new (e ∷ es) x = untold_changes txn op p None old new es x
+unreported_changes : (txn op p : ℕ) (image : Option (List ℕ)) (old new : List ℕ) (es : List Edit) (x : Recorded) → tell x (change_records txn op p image old new es) ≡ x
+unreported_changes txn op p image old new [] x = refl
+unreported_changes txn op p image old new (e ∷ es) x = unreported_changes txn op p None old new es x
 
 -- ---- what a step appends
 
@@ -85,7 +85,7 @@ no_front [] back is = refl
 no_front (x ∷ xs) back is = absurd cc
 
 pub quiet_none : (opening : PageBytes) (records : List Record) → IsQuiet opening records []
-quiet_none opening records = record { held = ap (λ (rs : List Record). held (logged opening rs)) (append-nil records); calls = refl; told = λ x. refl }
+quiet_none opening records = record { held = ap (λ (rs : List Record). held (logged opening rs)) (append-nil records); calls = refl; outcome = λ x. refl }
 
 pub appends_none : (opening : PageBytes) (old new : List Record) → new ≡ old → AppendsQuietly opening old new
 appends_none opening old new same = record {
@@ -196,7 +196,7 @@ module _ (relations counters : ℕ) (w z : World) (s t : OpScope) (hz : IsWorld 
               ∙ records_repeated t.txn t.number c.page bytes after_all image k.first (repeated_in w) named)
               ∙ held_changed (repeated_in w) (ranges_of t.number c.page bytes after_all k.first) (restores going k.first k.rest k.is);
           calls = ap calls_in k.records ∙ quiet_changes t.txn t.number c.page image bytes after_all k.first;
-          told = λ x. ap (tell x) k.records ∙ untold_changes t.txn t.number c.page image bytes after_all k.first x;
+          outcome = λ x. ap (tell x) k.records ∙ unreported_changes t.txn t.number c.page image bytes after_all k.first x;
         };
   }
 
@@ -258,7 +258,7 @@ back_appends relations counters w z s t (Ok taken.Clear) opening g more = go s.s
 
         each : z.records ≡ w.records ++ OpDropped s.txn s.number ∷ [] → (front back : List Record) → OpDropped s.txn s.number ∷ [] ≡ front ++ back → IsQuiet w.opening w.records front
         each now [] back same = quiet_none w.opening w.records
-        each now (x ∷ xs) back same = subst (IsQuiet w.opening w.records) (whole x xs back same) (record { held = sym (λ i. held (logged (opening i) (now i))) ∙ g.held; calls = refl; told = λ y. refl })
+        each now (x ∷ xs) back same = subst (IsQuiet w.opening w.records) (whole x xs back same) (record { held = sym (λ i. held (logged (opening i) (now i))) ∙ g.held; calls = refl; outcome = λ y. refl })
 back_appends relations counters w z s t (Ok taken.More) opening g more = appends_none w.opening w.records z.records more
 back_appends relations counters w z s t (Ok taken.Flush) opening g more = appends_none w.opening w.records z.records more
 back_appends relations counters w z s t (Err why) opening g more = appends_none w.opening w.records z.records more

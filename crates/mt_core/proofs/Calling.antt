@@ -33,13 +33,13 @@ use Rattle.mt_slock.specs.declared.holders.Holder.{Holder}
 use Rattle.mt_steps.specs.Held.{Holds}
 use Rattle.mt_steps.specs.Plans.{own_needs, undo_pages}
 use Rattle.mt_core.specs.Runs.{running_in, AreApart, AreHeldBy, IsRunning, IsOwned, is_open, undo_bytes, pages_of, left_of, kept_bytes, taken_bytes}
-use Rattle.mt_core.specs.Consistent.{Origin, state_of, IsNumbered, AreTold, IsQueued, IsFit, IsConsistent, IsGranted, IsIn}
+use Rattle.mt_core.specs.Consistent.{Origin, state_of, IsNumbered, AreReported, IsQueued, IsFit, IsConsistent, IsGranted, IsIn}
 use Rattle.mt_core.specs.declared.parts.Core.{Core}
 use Rattle.mt_core.specs.declared.parts.Running.{Running}
 use Rattle.mt_core.proofs.Underway.{runs_none, running_push}
 use Rattle.mt_core.proofs.Holders.{held_push, sums_push}
 use Rattle.mt_core.proofs.Numbers.{fresh}
-use Rattle.mt_core.proofs.Told.{told_last}
+use Rattle.mt_core.proofs.Reported.{reported_last}
 
 pub open_some : (o : Option Member) → is_open o ≡ true → is_some o ≡ true
 open_some None is = absurd cc
@@ -144,7 +144,7 @@ module _ {D : Type 0} (seen : D → List ℕ) (may_leave : D → List ℕ → Ty
         inverse = λ back. absurd (back h.is_undoes);
         taken = λ is. absurd (let planning = h.planning in cc);
         aborts = λ back. absurd (back h.is_undoes);
-        newest = λ fore. above_all r.scope.number (member_of k.live.members r.scope.txn) (λ m is i d lt. let low = (safe.told r.scope.txn m is).numbers i d lt in let new = h.is_number in omega (arith, low, new));
+        newest = λ fore. above_all r.scope.number (member_of k.live.members r.scope.txn) (λ m is i d lt. let low = (safe.outcome r.scope.txn m is).numbers i d lt in let new = h.is_number in omega (arith, low, new));
       } in
       let sums = sums_push k.running.items n.running.items r items in
       let pages = sums.pages in let lefts = sums.left in let keeps = sums.kept in let takes = sums.taken in
@@ -179,7 +179,7 @@ module _ {D : Type 0} (seen : D → List ℕ) (may_leave : D → List ℕ → Ty
           };
           holds = subst (λ (w : World). Holds (held_in w) base) w_same safe.holds;
           runs = subst (All (IsRunning origin.relations origin.counters (world seen origin.pages n.operations) (k.last + 1))) (sym items) (All-push (IsRunning origin.relations origin.counters (world seen origin.pages n.operations) (k.last + 1)) k.running.items r still mine);
-          told = told_last k.last (k.last + 1) k.live.members (appended n.operations.store.log) (omega arith) (subst (λ (X : Type 0). X) (λ i. AreTold k.last k.live.members (appended (sym h.store i).log)) safe.told);
+          outcome = reported_last k.last (k.last + 1) k.live.members (appended n.operations.store.log) (omega arith) (subst (λ (X : Type 0). X) (λ i. AreReported k.last k.live.members (appended (sym h.store i).log)) safe.outcome);
           claims = omega arith;
         };
         state = state;
@@ -211,7 +211,7 @@ module _ {D : Type 0} (seen : D → List ℕ) (may_leave : D → List ℕ → Ty
         };
         holds = subst (λ (w : World). Holds (held_in w) base) w_same safe.holds;
         runs = λ i d lt. let was = safe.runs i d lt in record { under = subst (λ (w : World). IsUnderWay origin.relations origin.counters w (get_or k.running.items i d).scope) w_same was.under; budget = was.budget; number = was.number; moving = was.moving };
-        told = subst (λ (X : Type 0). X) (λ i. AreTold k.last k.live.members (appended (sym store i).log)) safe.told;
+        outcome = subst (λ (X : Type 0). X) (λ i. AreReported k.last k.live.members (appended (sym store i).log)) safe.outcome;
         claims = same ∙ claims;
       }
 

@@ -24,13 +24,13 @@ use Rattle.mt_space.specs.Changes.{PageBytes}
 use Rattle.mt_slock.specs.Views.{held_of}
 use Rattle.mt_steps.specs.Held.{Holds}
 use Rattle.mt_core.specs.Runs.{running_in, AreHeldBy, is_at_work, is_open, entry_pages, entry_bytes}
-use Rattle.mt_core.specs.Consistent.{Origin, state_of, IsNumbered, AreTold, IsQueued, IsWithinSchema, IsEscrowed, IsConsistent, IsIn}
+use Rattle.mt_core.specs.Consistent.{Origin, state_of, IsNumbered, AreReported, IsQueued, IsWithinSchema, IsEscrowed, IsConsistent, IsIn}
 use Rattle.mt_core.specs.declared.parts.Core.{Core}
 use Rattle.mt_core.specs.declared.parts.Running.{Running}
 use Rattle.mt_core.proofs.Calling.{txn_low}
 use Rattle.mt_core.proofs.Members.{changed_keeps, changed_other}
 use Rattle.mt_core.proofs.Beginning.{owned_as}
-use Rattle.mt_core.proofs.Told.{told_on_more, told_changed}
+use Rattle.mt_core.proofs.Reported.{reported_on_more, reported_changed}
 use Rattle.mt_core.proofs.Queued.{queued_push}
 use Rattle.mt_core.specs.declared.parts.Commit.{Commit as Queued}
 use Rattle.std.specs.Prelude.{vec_len}
@@ -82,10 +82,10 @@ module _ {D : Type 0} (seen : D → List ℕ) (may_leave : D → List ℕ → Ty
         few_transactions = fit.numbered.few_transactions;
         nobody = changed_keeps is_some (λ m. with_state m Committing) k.live.members n.live.members t (λ m. refl) changed 0 ∙ fit.numbered.nobody;
       } in
-      let told : AreTold k.last n.live.members (appended k.operations.store.log ++ Commit t ∷ []) =
-      told_changed k.last (appended k.operations.store.log) (appended k.operations.store.log ++ Commit t ∷ []) k.live.members n.live.members t (λ m. with_state m Committing)
-      (λ m is was. let more = told_on_more k.last (appended k.operations.store.log) (Commit t ∷ []) t m (λ v. refl) was in record { many = more.many; numbers = more.numbers; rising = more.rising; due = more.due })
-      (λ u m apart was. told_on_more k.last (appended k.operations.store.log) (Commit t ∷ []) u m (λ v. refl) was) changed safe.told in
+      let outcome : AreReported k.last n.live.members (appended k.operations.store.log ++ Commit t ∷ []) =
+      reported_changed k.last (appended k.operations.store.log) (appended k.operations.store.log ++ Commit t ∷ []) k.live.members n.live.members t (λ m. with_state m Committing)
+      (λ m is was. let more = reported_on_more k.last (appended k.operations.store.log) (Commit t ∷ []) t m (λ v. refl) was in record { many = more.many; numbers = more.numbers; rising = more.rising; due = more.due })
+      (λ u m apart was. reported_on_more k.last (appended k.operations.store.log) (Commit t ∷ []) u m (λ v. refl) was) changed safe.outcome in
       let queued : IsQueued n.live.members (appended k.operations.store.log ++ Commit t ∷ []) (k.commits.items ++ c ∷ []) =
       queued_push k.live.members n.live.members (appended k.operations.store.log) k.commits.items c place
       (λ is. working (member_of k.live.members t) at_work is)
@@ -114,7 +114,7 @@ module _ {D : Type 0} (seen : D → List ℕ) (may_leave : D → List ℕ → Ty
           };
           holds = subst (λ (p : PageBytes). Holds p base) (sym (notes_held origin.relations origin.counters (world seen origin.pages k.operations) (world seen origin.pages n.operations) t (Commit t) notes (inl refl))) safe.holds;
           runs = λ i d lt. let was = safe.runs i d lt in record { under = others (get_or k.running.items i d).scope was.under (idle i d lt); budget = was.budget; number = was.number; moving = was.moving };
-          told = subst (AreTold k.last n.live.members) (sym notes.records) told;
+          outcome = subst (AreReported k.last n.live.members) (sym notes.records) outcome;
           claims = omega arith;
         };
         state = state;

@@ -12,7 +12,7 @@ use Rattle.mt_live.specs.Undoing.{only, others}
 use Rattle.mt_model.proofs.Split.{filter-swap}
 use Rattle.mt_model.specs.History.{Call}
 use Rattle.mt_replay.proofs.Walking.{map_filter}
-use Rattle.mt_replay.specs.Told.{Told, Finished, its, others as others_of, is_but, without, call_of, calls_of}
+use Rattle.mt_replay.specs.Recorded.{Recorded, Finished, its, others as others_of, is_but, without, call_of, calls_of}
 use Rattle.mt_core.proofs.Lists.{pairs_head, pairs_tail}
 use Rattle.mt_core.specs.Restartable.{did, effects_of, entry_of, numbers_did}
 
@@ -170,8 +170,8 @@ entries_its t fs = map_filter entry_of (λ (f : Finished). f.txn == t) (λ (e : 
 entries_others : (t : ℕ) (fs : List Finished) → map entry_of (others_of t fs) ≡ kept (others t) (map entry_of fs)
 entries_others t fs = map_filter entry_of (λ (f : Finished). not (f.txn == t)) (λ (e : Entry). not (e.txn == t)) (λ f. refl) fs
 
-op_of_told : Finished → ℕ
-op_of_told f = f.op
+op_of_reported : Finished → ℕ
+op_of_reported f = f.op
 
 none_mapped : (fs : List Finished) → map entry_of fs ≡ [] → fs ≡ []
 none_mapped [] is = refl
@@ -191,12 +191,12 @@ but_own t u f fs txn op = rw (eq-eqb f.txn t txn, eq-eqb f.op u op) refl
 -- ---- in all
 
 -- The books and, of the transactions at work, what each has done, and under which numbers.
-pub record Tallies (done : List (List Call)) (ts : List ℕ) (numbers : ℕ → List ℕ) (es : List Entry) (x : Told) : Type 0 where
+pub record Tallies (done : List (List Call)) (ts : List ℕ) (numbers : ℕ → List ℕ) (es : List Entry) (x : Recorded) : Type 0 where
   pub books : map calls_of x.books ≡ done ++ turn ts es
   pub live : map entry_of x.live ≡ without_all ts es
   pub its : (t : ℕ) → map (λ (f : Finished). f.op) (its t x.live) ≡ numbers t
 
-module _ (books : List (List Call)) (ts : List ℕ) (old new : ℕ → List ℕ) (es : List Entry) (x : Told) (k : Tallies books ts old es x) where
+module _ (books : List (List Call)) (ts : List ℕ) (old new : ℕ → List ℕ) (es : List Entry) (x : Recorded) (k : Tallies books ts old es x) where
   pub tally_same : ((t : ℕ) → new t ≡ old t) → Tallies books ts new es x
   tally_same same = record { books = k.books; live = k.live; its = λ t. k.its t ∙ sym (same t) }
 
@@ -302,7 +302,7 @@ module _ (books : List (List Call)) (ts : List ℕ) (old new : ℕ → List ℕ)
       gone_its u (inr other) = ap (map (λ (g : Finished). g.op)) (its_kept u t x.live other) ∙ k.its u ∙ sym (rest u other)
 
 -- the first commit under way is booked
-pub tally_booked : (books : List (List Call)) (t : ℕ) (ts : List ℕ) (old new : ℕ → List ℕ) (es : List Entry) (x : Told) → Tallies books (t ∷ ts) old es x → ((u : ℕ) → new u ≡ old u)
+pub tally_booked : (books : List (List Call)) (t : ℕ) (ts : List ℕ) (old new : ℕ → List ℕ) (es : List Entry) (x : Recorded) → Tallies books (t ∷ ts) old es x → ((u : ℕ) → new u ≡ old u)
     → Tallies (books ++ calls (kept (only t) es) ∷ []) ts new (kept (others t) es) x
 tally_booked books t ts old new es x k same = record {
   books = k.books ∙ sym (append_assoc books (calls (kept (only t) es) ∷ []) (turn ts (kept (others t) es)));

@@ -26,13 +26,13 @@ use Rattle.mt_op.specs.declared.scope.Stage.TheVariants.{Cleared, Taking}
 use Rattle.mt_space.specs.Changes.{PageBytes}
 use Rattle.mt_steps.specs.Held.{Holds}
 use Rattle.mt_core.specs.Runs.{running_in, state_in, AreHeldBy, IsMoving, IsRunning, IsOwned, undo_bytes, pages_of, kept_bytes, taken_bytes}
-use Rattle.mt_core.specs.Consistent.{Origin, state_of, AreTold, DropsIn, IsConsistent, IsCleared, IsIn, GoesBack}
+use Rattle.mt_core.specs.Consistent.{Origin, state_of, AreReported, DropsIn, IsConsistent, IsCleared, IsIn, GoesBack}
 use Rattle.mt_core.specs.declared.parts.Core.{Core}
 use Rattle.mt_core.specs.declared.parts.Running.{Running}
 use Rattle.mt_core.proofs.Lists.{all_remove, all_set}
 use Rattle.mt_core.proofs.Underway.{running_at, running_remove}
 use Rattle.mt_core.proofs.Numbers.{adds_dropped, numbered_dropped}
-use Rattle.mt_core.proofs.Advancing.{moved, carried, others_run, alone_at, told_on}
+use Rattle.mt_core.proofs.Advancing.{moved, carried, others_run, alone_at, reported_on}
 use Rattle.mt_core.proofs.Ending.{HasEnded, left}
 
 -- what a step of a taking back says
@@ -99,7 +99,7 @@ module _ {D : Type 0} (seen : D → List ℕ) (may_leave : D → List ℕ → Ty
             };
             holds = subst (λ (p : PageBytes). Holds p base) (sym h.held) y.holds;
             runs = l.runs;
-            told = subst (λ (X : Type 0). X) (λ i. AreTold k.last k.live.members (appended (sym h.store i).log)) y.told;
+            outcome = subst (λ (X : Type 0). X) (λ i. AreReported k.last k.live.members (appended (sym h.store i).log)) y.outcome;
             claims = omega arith;
           };
           state = state;
@@ -127,7 +127,7 @@ module _ {D : Type 0} (seen : D → List ℕ) (may_leave : D → List ℕ → Ty
           holds = subst (λ (p : PageBytes). Holds p base) (sym g.held) safe.holds;
           runs = subst (All (IsRunning origin.relations origin.counters (world seen origin.pages n.operations) k.last)) (sym items)
               (all_set (IsRunning origin.relations origin.counters (world seen origin.pages n.operations) k.last) k.running.items place q within own (others_run seen may_leave origin base k n place r safe within there g.others));
-          told = told_on seen may_leave origin base k n safe adds;
+          outcome = reported_on seen may_leave origin base k n safe adds;
           claims = omega arith;
         };
         state = c.state;
@@ -146,7 +146,7 @@ module _ {D : Type 0} (seen : D → List ℕ) (may_leave : D → List ℕ → Ty
           fit = c.fit;
           alone = alone_at seen may_leave origin base k n place r q Cleared within items g.own cleared c.known (others_run seen may_leave origin base k n place r safe within there g.others);
           holds = subst (λ (p : PageBytes). Holds p base) (sym g.held) safe.holds;
-          told = told_on seen may_leave origin base k n safe adds;
+          outcome = reported_on seen may_leave origin base k n safe adds;
           claims = omega arith;
         },
         c.state,

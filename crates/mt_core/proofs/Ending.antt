@@ -41,7 +41,7 @@ use Rattle.mt_steps.specs.Held.{Holds}
 use Rattle.mt_steps.specs.Logged.{logged_of}
 use Rattle.mt_steps.specs.Plans.{own_needs, undo_pages}
 use Rattle.mt_core.specs.Runs.{running_in, AreApart, AreHeldBy, IsRunning, IsOwned, is_open, undo_bytes, pages_of, entry_pages, entry_bytes, left_of, kept_bytes, taken_bytes}
-use Rattle.mt_core.specs.Consistent.{Origin, state_of, state_in, AreLeft, IsNumbered, IsDue, IsTold, AreTold, IsQueued, IsWithinSchema, IsFit, IsAlone, IsReady, IsIn, UndoesIn}
+use Rattle.mt_core.specs.Consistent.{Origin, state_of, state_in, AreLeft, IsNumbered, IsDue, IsReported, AreReported, IsQueued, IsWithinSchema, IsFit, IsAlone, IsReady, IsIn, UndoesIn}
 use Rattle.mt_core.specs.declared.parts.Core.{Core}
 use Rattle.mt_core.specs.declared.parts.Running.{Running}
 use Rattle.mt_pool.proofs.Logged.{no_records}
@@ -51,7 +51,7 @@ use Rattle.mt_core.proofs.Holders.{held_without}
 use Rattle.mt_core.proofs.Numbers.{numbered_without}
 use Rattle.mt_core.proofs.Effects.{last_push, last_cut, weighs_push, weighs_cut, weighs_less, inverse_pages, inverse_bytes, all_cut}
 use Rattle.mt_core.proofs.Members.{changed_keeps, changed_other}
-use Rattle.mt_core.proofs.Told.{due_more, some_back, end_undoes_fore, end_undoes_other, end_undoes_txn, end_finishes, told_on_more, told_call, told_cut, told_changed}
+use Rattle.mt_core.proofs.Reported.{due_more, some_back, end_undoes_fore, end_undoes_other, end_undoes_txn, end_finishes, reported_on_more, reported_call, reported_cut, reported_changed}
 use Rattle.mt_core.proofs.Queued.{queued_members}
 
 -- what `end` says of an operation that ends
@@ -212,25 +212,25 @@ module _ {D : Type 0} (seen : D → List ℕ) (may_leave : D → List ℕ → Ty
           };
           holds = subst (λ (p : PageBytes). Holds p (base_after base r.scope.op)) (sym h.held) y.holds;
           runs = l.runs;
-          told = told_of owned;
+          outcome = reported_of owned;
           claims = omega arith;
         };
         state = state;
       }
     where
-      told_of : IsOwned k.live.members k.live.standing r → AreTold k.last n.live.members (appended n.operations.store.log)
-      told_of owned =
-          let t = y.told in
+      reported_of : IsOwned k.live.members k.live.standing r → AreReported k.last n.live.members (appended n.operations.store.log)
+      reported_of owned =
+          let t = y.outcome in
           let records : t.was ++ end_of r.scope reply ≡ appended n.operations.store.log = sym t.ended ∙ (λ i. appended (sym h.store i).log) in
           let none : (u v : ℕ) → some_record (undoes_op u v) (end_of r.scope reply) ≡ false = λ u v. end_undoes_fore u v r.scope.txn r.scope.number r.scope.undoes (logged_of r.scope.op reply) fore in
           let due : has_inverse (r.op, reply) ≡ true → IsDue (t.was ++ end_of r.scope reply) r.scope.txn r.scope.number = λ has. record {
             ended = some_back _ t.was (end_of r.scope reply) (end_finishes r.scope.txn r.scope.number r.scope.undoes r.scope.op reply fore (ap (λ (o : Op). is_some (inverse_of o reply)) (sym (owned.copy fore)) ∙ has));
             standing = no_records (undoes_op r.scope.txn r.scope.number) t.was (end_of r.scope reply) (t.standing fore) (none r.scope.txn r.scope.number);
           } in
-          subst (AreTold k.last n.live.members) records
-          (told_changed k.last t.was (t.was ++ end_of r.scope reply) k.live.members n.live.members r.scope.txn (λ m. with_call m r.scope.number (r.op, reply))
-          (λ m is was. told_call k.last (t.was ++ end_of r.scope reply) r.scope.txn r.scope.number m (r.op, reply) (told_on_more k.last t.was (end_of r.scope reply) r.scope.txn m (none r.scope.txn) was) (subst (IsAbove r.scope.number) is (owned.newest fore)) y.alone.own.op.0 y.alone.known due)
-          (λ u m apart was. told_on_more k.last t.was (end_of r.scope reply) u m (none u) was) changed t.told)
+          subst (AreReported k.last n.live.members) records
+          (reported_changed k.last t.was (t.was ++ end_of r.scope reply) k.live.members n.live.members r.scope.txn (λ m. with_call m r.scope.number (r.op, reply))
+          (λ m is was. reported_call k.last (t.was ++ end_of r.scope reply) r.scope.txn r.scope.number m (r.op, reply) (reported_on_more k.last t.was (end_of r.scope reply) r.scope.txn m (none r.scope.txn) was) (subst (IsAbove r.scope.number) is (owned.newest fore)) y.alone.own.op.0 y.alone.known due)
+          (λ u m apart was. reported_on_more k.last t.was (end_of r.scope reply) u m (none u) was) changed t.outcome)
 
   -- ---- an inverse
 
@@ -251,16 +251,16 @@ module _ {D : Type 0} (seen : D → List ℕ) (may_leave : D → List ℕ → Ty
         aborts = λ back. ap (option_map (λ (m : Member). m.state)) same ∙ o.aborts back;
       }
 
-  -- the calls that are left were told of before the inverse's end, and it takes none of them back
-  undone_told : (last : ℕ) (was more : List Record) (t undoes : ℕ) (m : Member) → last_operation (Some m) ≡ Some undoes → ((n : ℕ) → undoes ≢ n → some_record (undoes_op t n) more ≡ false) → IsTold last was t m → IsTold last (was ++ more) t (taken_back m)
-  undone_told last was more t undoes m named none told = go (last_place m.calls) refl named
+  -- the calls that are left were reported of before the inverse's end, and it takes none of them back
+  undone_reported : (last : ℕ) (was more : List Record) (t undoes : ℕ) (m : Member) → last_operation (Some m) ≡ Some undoes → ((n : ℕ) → undoes ≢ n → some_record (undoes_op t n) more ≡ false) → IsReported last was t m → IsReported last (was ++ more) t (taken_back m)
+  undone_reported last was more t undoes m named none outcome = go (last_place m.calls) refl named
     where
-      go : (o : Option ℕ) → last_place m.calls ≡ o → option_map (λ i. get_or m.operations i 0) o ≡ Some undoes → IsTold last (was ++ more) t (cut_to m o)
+      go : (o : Option ℕ) → last_place m.calls ≡ o → option_map (λ i. get_or m.operations i 0) o ≡ Some undoes → IsReported last (was ++ more) t (cut_to m o)
       go None at k = absurd cc
       go (Some n) at k =
           let this : get_or m.operations n 0 ≡ undoes = cc in
           let within : n < length m.calls = subst (λ o. IfSome o (λ i. i < length m.calls)) at (last_within m.calls) in
-          told_cut last was (was ++ more) t n m told within (λ i below due. due_more t (get_or m.operations i 0) was more (none (get_or m.operations i 0) (λ is. absurd (omega (arith, is, this, below)))) due)
+          reported_cut last was (was ++ more) t n m outcome within (λ i below due. due_more t (get_or m.operations i 0) was more (none (get_or m.operations i 0) (λ is. absurd (omega (arith, is, this, below)))) due)
 
   pub undone_in : (k n : Core D) (place : ℕ) (r : Running) (reply : Reply) → IsReady seen may_leave origin base k place r reply → r.scope.undoes ≢ 0 → n.running.items ≡ remove k.running.items place
       → HasEnded seen may_leave origin.pages origin.relations origin.counters k.operations n.operations r.scope → claimed n.operations ≡ claimed k.operations
@@ -337,21 +337,21 @@ module _ {D : Type 0} (seen : D → List ℕ) (may_leave : D → List ℕ → Ty
             };
             holds = subst (λ (p : PageBytes). Holds p (base_after base r.scope.op)) (sym h.held) y.holds;
             runs = l.runs;
-            told = told_of t.named;
+            outcome = reported_of t.named;
             claims = omega arith;
           };
           state = state;
         };
       }
     where
-      told_of : last_operation (member_of k.live.members r.scope.txn) ≡ Some r.scope.undoes → AreTold k.last n.live.members (appended n.operations.store.log)
-      told_of named =
-          let t = y.told in
+      reported_of : last_operation (member_of k.live.members r.scope.txn) ≡ Some r.scope.undoes → AreReported k.last n.live.members (appended n.operations.store.log)
+      reported_of named =
+          let t = y.outcome in
           let records : t.was ++ end_of r.scope reply ≡ appended n.operations.store.log = sym t.ended ∙ (λ i. appended (sym h.store i).log) in
-          subst (AreTold k.last n.live.members) records
-          (told_changed k.last t.was (t.was ++ end_of r.scope reply) k.live.members n.live.members r.scope.txn taken_back
-          (λ m is was. undone_told k.last t.was (end_of r.scope reply) r.scope.txn r.scope.undoes m (ap last_operation (sym is) ∙ named) (λ v apart. end_undoes_other r.scope.txn v r.scope.txn r.scope.number r.scope.undoes (logged_of r.scope.op reply) apart) was)
-          (λ u m apart was. told_on_more k.last t.was (end_of r.scope reply) u m (λ v. end_undoes_txn u v r.scope.txn r.scope.number r.scope.undoes (logged_of r.scope.op reply) (λ is. apart (sym is))) was) changed t.told)
+          subst (AreReported k.last n.live.members) records
+          (reported_changed k.last t.was (t.was ++ end_of r.scope reply) k.live.members n.live.members r.scope.txn taken_back
+          (λ m is was. undone_reported k.last t.was (end_of r.scope reply) r.scope.txn r.scope.undoes m (ap last_operation (sym is) ∙ named) (λ v apart. end_undoes_other r.scope.txn v r.scope.txn r.scope.number r.scope.undoes (logged_of r.scope.op reply) apart) was)
+          (λ u m apart was. reported_on_more k.last t.was (end_of r.scope reply) u m (λ v. end_undoes_txn u v r.scope.txn r.scope.number r.scope.undoes (logged_of r.scope.op reply) (λ is. apart (sym is))) was) changed t.outcome)
 
 -- one whose calls are cut is in its state
 pub taken_state : (m : Member) → (taken_back m).state ≡ m.state

@@ -19,7 +19,7 @@ use Rattle.mt_model.specs.Model.{Base, IsBase, reply_of, base_after, inverse_of}
 use Rattle.mt_model.specs.Pending.{steps_at}
 use Rattle.mt_model.specs.declared.operations.Op.{Op}
 use Rattle.mt_replay.proofs.Undone.{reply_after}
-use Rattle.mt_replay.specs.Told.{op_of, reply_in, undo_of, reply_back}
+use Rattle.mt_replay.specs.Recorded.{op_of, reply_in, undo_of, reply_back}
 use Rattle.mt_steps.specs.Logged.{logged_of}
 use Rattle.mt_core.proofs.Did.{calls_did}
 use Rattle.mt_core.proofs.Leads.{logged_did, logged_is}

@@ -100,7 +100,7 @@ module _ {D : Type 0} (seen : D → List ℕ) (may_leave : D → List ℕ → Ty
           };
           holds = subst (λ (f : PageBytes). Holds f origin.first) (sym (images_held origin.pages records fresh.images)) holds;
           runs = λ i d lt. absurd (omega (arith, lt, no_running));
-          told = λ t m is. absurd (let none : member_of k.live.members t ≡ None = ap (λ (ms : List Member). member_of ms t) empty.members in cc);
+          outcome = λ t m is. absurd (let none : member_of k.live.members t ≡ None = ap (λ (ms : List Member). member_of ms t) empty.members in cc);
           claims = omega arith;
         };
         state = state;

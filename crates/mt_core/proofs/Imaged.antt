@@ -10,7 +10,7 @@ use Rattle.mt_log.proofs.Prefix.{each_front}
 use Rattle.mt_op.proofs.Stored.{unlogged_held}
 use Rattle.mt_op.specs.Begun.{AreImages}
 use Rattle.mt_replay.specs.Recoverable.{EachBeginning, pages_held}
-use Rattle.mt_replay.specs.Told.{Told, tell, calls_in}
+use Rattle.mt_replay.specs.Recorded.{Recorded, tell, calls_in}
 use Rattle.mt_space.specs.Changes.{PageBytes}
 use Rattle.mt_core.specs.Restartable.{IsQuiet}
 
@@ -19,7 +19,7 @@ pub record EndNothing (records : List Record) : Type 0 where
   pub txns : (t : ℕ) → some_record (ends_txn t) records ≡ false
   pub ops : (n : ℕ) → some_record (ends_op n) records ≡ false
   pub calls : calls_in records ≡ []
-  pub told : (x : Told) → tell x records ≡ x
+  pub outcome : (x : Recorded) → tell x records ≡ x
 
 -- a transaction's number is not 0
 some_txn : (t : ℕ) → IsTxn t → t ≡ 0 → ⊥
@@ -27,8 +27,8 @@ some_txn t named none = let some = named.0 in omega arith
 
 -- by the grammar each record of no transaction is one of a page
 each_ends_nothing : (records : List Record) → AllByRecursion IsRecord records → AllByRecursion (λ (r : Record). txn_of r ≡ 0) records → EndNothing records
-each_ends_nothing [] each none = record { txns = λ t. refl; ops = λ n. refl; calls = refl; told = λ x. refl }
-each_ends_nothing (Page txn op page image start old new ∷ rs) each none = let rest = each_ends_nothing rs each.1 none.1 in record { txns = rest.txns; ops = rest.ops; calls = rest.calls; told = rest.told }
+each_ends_nothing [] each none = record { txns = λ t. refl; ops = λ n. refl; calls = refl; outcome = λ x. refl }
+each_ends_nothing (Page txn op page image start old new ∷ rs) each none = let rest = each_ends_nothing rs each.1 none.1 in record { txns = rest.txns; ops = rest.ops; calls = rest.calls; outcome = rest.outcome }
 each_ends_nothing (OpEnd txn op undoes done ∷ rs) each none = absurd (some_txn txn each.0.0 none.0)
 each_ends_nothing (OpDropped txn op ∷ rs) each none = absurd (some_txn txn each.0.0 none.0)
 each_ends_nothing (Commit txn ∷ rs) each none = absurd (some_txn txn each.0 none.0)
@@ -52,4 +52,4 @@ pub images_quiet : (opening : PageBytes) (records : List Record) → AllByRecurs
 images_quiet opening records each images front back is =
     let alone : AreImages front = front_images front back (subst AreImages is images) in
     let nothing = images_end_nothing front (each_front IsRecord front back (subst (AllByRecursion IsRecord) is each)) alone in
-    record { held = images_held opening front alone; calls = nothing.calls; told = nothing.told }
+    record { held = images_held opening front alone; calls = nothing.calls; outcome = nothing.outcome }

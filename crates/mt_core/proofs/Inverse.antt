@@ -25,7 +25,7 @@ use Rattle.mt_op.specs.Operations.{world}
 use Rattle.mt_op.specs.World.{IsFresh}
 use Rattle.mt_steps.specs.Logged.{HasSmallReply}
 use Rattle.mt_core.specs.Runs.{is_open}
-use Rattle.mt_core.specs.Consistent.{Origin, IsDue, IsTold, IsConsistent}
+use Rattle.mt_core.specs.Consistent.{Origin, IsDue, IsReported, IsConsistent}
 use Rattle.mt_core.specs.declared.parts.Core.{Core}
 use Rattle.mt_core.proofs.Calling.{next_fresh}
 
@@ -72,8 +72,8 @@ last_did (c ∷ cs) n d is = go (last_place cs) refl (has_inverse c) refl is (λ
     go None at false here h rec = absurd cc
 
 -- so it is due, under its number, which is not 0
-told_due : (last : ℕ) (records : List Record) (t u : ℕ) (m : Member) → IsTold last records t m → last_operation (Some m) ≡ Some u → IsDue records t u × (1 ≤ u)
-told_due last records t u m k named = go (last_place m.calls) refl named
+reported_due : (last : ℕ) (records : List Record) (t u : ℕ) (m : Member) → IsReported last records t m → last_operation (Some m) ≡ Some u → IsDue records t u × (1 ≤ u)
+reported_due last records t u m k named = go (last_place m.calls) refl named
   where
     first : (cs : List Call) → 0 < length cs → (c : Call) × (c ≡ get_or cs 0 c)
     first [] lt = absurd (omega (arith, lt))
@@ -98,10 +98,10 @@ module _ {D : Type 0} (seen : D → List ℕ) (may_leave : D → List ℕ → Ty
       go : (o : Option Member) → member_of k.live.members t ≡ o → last_operation o ≡ Some u → IsFresh (world seen origin.pages k.operations) t n u × (u ≢ 0)
       go None at h = absurd cc
       go (Some m) at h =
-          let told = told_due k.last (appended k.operations.store.log) t u m (safe.told t m at) h in
-          let due = told.0 in
+          let outcome = reported_due k.last (appended k.operations.store.log) t u m (safe.outcome t m at) h in
+          let due = outcome.0 in
           let fresh = next_fresh seen may_leave origin base k t n safe.fit at_work above in
-          let some : u ≢ 0 = λ is. let low = told.1 in absurd (omega arith) in
+          let some : u ≢ 0 = λ is. let low = outcome.1 in absurd (omega arith) in
           let apart : (u == 0) ≡ false = ne_eqb u 0 some in (
             record {
               locks = fresh.locks;

@@ -16,7 +16,7 @@ use Rattle.mt_op.specs.declared.scope.Stage.TheVariants.{Planning, Writing, Taki
 use Rattle.mt_pool.proofs.Logged.{no_records}
 use Rattle.mt_space.specs.Changes.{PageBytes}
 use Rattle.mt_core.specs.Runs.{IsMoving}
-use Rattle.mt_core.proofs.Told.{some_more, unfinished_finishes}
+use Rattle.mt_core.proofs.Reported.{some_more, unfinished_finishes}
 
 -- a beginning of records of which none passes a test
 front : (test : Record → Bool) (xs ys : List Record) → some_record test (xs ++ ys) ≡ false → some_record test xs ≡ false

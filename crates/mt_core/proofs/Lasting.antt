@@ -8,7 +8,7 @@ use Rattle.mt_frame.specs.declared.records.Record.TheVariants as record_of
 use Rattle.mt_log.specs.Words.{appended, durable, in_flight, waiting, Moves}
 use Rattle.mt_model.specs.declared.history.Committed.{Committed}
 use Rattle.mt_replay.proofs.Walking.{tell_more}
-use Rattle.mt_replay.specs.Told.{Told, its, tells}
+use Rattle.mt_replay.specs.Recorded.{Recorded, its, tells}
 use Rattle.mt_core.proofs.Lists.{pairs_head, pairs_tail}
 use Rattle.mt_core.proofs.Prefixed.{tells_more}
 use Rattle.mt_core.specs.Booked.{durable_count}
@@ -100,10 +100,10 @@ next_count (c ∷ cs) p rising = ⊎_elim behind (before (next_count cs p (pairs
 
 -- ---- what more records tell
 
-commit_told : (front : List Record) (t : ℕ) → length (tells (front ++ record_of.Commit t ∷ [])).books ≡ length (tells front).books + 1
-commit_told front t =
+commit_reported : (front : List Record) (t : ℕ) → length (tells (front ++ record_of.Commit t ∷ [])).books ≡ length (tells front).books + 1
+commit_reported front t =
     let x = tells front in
-    ap (λ (y : Told). length y.books) (tell_more (record { live = []; books = [] }) front (record_of.Commit t ∷ [])) ∙ length_push x.books (its t x.live)
+    ap (λ (y : Recorded). length y.books) (tell_more (record { live = []; books = [] }) front (record_of.Commit t ∷ [])) ∙ length_push x.books (its t x.live)
 
 record_at : (front back : List Record) (r d : Record) (i : ℕ) → length front ≡ i → get_or (front ++ r ∷ back) i d ≡ r
 record_at front back r d i is =
@@ -118,7 +118,7 @@ one_counted front back r cs rising placed = subst (λ (n : ℕ). durable_count c
     let c = get_or cs n.at none in
     let at : length front ≡ c.place - 1 = let is = n.there none in omega (arith, is) in
     let is : r ≡ record_of.Commit c.txn = sym (record_at front back r r (c.place - 1) at) ∙ (placed n.at none n.within).there r in
-    let books : length (tells (front ++ r ∷ [])).books ≡ length (tells front).books + 1 = ap (λ (x : Record). length (tells (front ++ x ∷ [])).books) is ∙ commit_told front c.txn in
+    let books : length (tells (front ++ r ∷ [])).books ≡ length (tells front).books + 1 = ap (λ (x : Record). length (tells (front ++ x ∷ [])).books) is ∙ commit_reported front c.txn in
     let one = n.one in omega (arith, one, books))
     (next_count cs (length front) rising))
   where
@@ -158,8 +158,8 @@ module _ {D : Type 0} where
 
 module _ {D : Type 0} (seen : D → List ℕ) (may_leave : D → List ℕ → Type 0) (origin : Origin) where
   -- with the same book and the same commits under way
-  pub stays_told : (k n : Core D) (later : Base) → IsConsistent seen may_leave origin later n → Lasts k n → SameBook k n → TellsBook origin k → TellsBook origin n
-  stays_told k n later safe (more, is) same was =
+  pub stays_reported : (k n : Core D) (later : Base) → IsConsistent seen may_leave origin later n → Lasts k n → SameBook k n → TellsBook origin k → TellsBook origin n
+  stays_reported k n later safe (more, is) same was =
       let old = durable k.operations.store.log in
       let rest = in_flight n.operations.store.log ++ waiting n.operations.store.log in
       let cs = n.commits.items in
@@ -172,9 +172,9 @@ module _ {D : Type 0} (seen : D → List ℕ) (may_leave : D → List ℕ → Ty
       omega (arith, was, counted, now, books, book, commits)
 
   -- a commit more is under way, whose record is not durable
-  pub begins_told : (k n : Core D) (it : Commit) → durable n.operations.store.log ≡ durable k.operations.store.log → n.book.items ≡ k.book.items → n.commits.items ≡ k.commits.items ++ it ∷ [] → length (durable k.operations.store.log) < it.place
+  pub begins_reported : (k n : Core D) (it : Commit) → durable n.operations.store.log ≡ durable k.operations.store.log → n.book.items ≡ k.book.items → n.commits.items ≡ k.commits.items ++ it ∷ [] → length (durable k.operations.store.log) < it.place
       → TellsBook origin k → TellsBook origin n
-  begins_told k n it same book commits behind was =
+  begins_reported k n it same book commits behind was =
       let old = durable k.operations.store.log in
       let now : durable_count n.commits.items (length (durable n.operations.store.log)) ≡ durable_count k.commits.items (length old) =
       (λ i. durable_count (commits i) (length (same i))) ∙ count_push k.commits.items it (length old) behind in
@@ -183,9 +183,9 @@ module _ {D : Type 0} (seen : D → List ℕ) (may_leave : D → List ℕ → Ty
       omega (arith, was, now, books, size)
 
   -- the first is booked, whose record is durable
-  pub leaves_told : (k n : Core D) (c : Commit) (cs : List Commit) (done : Committed) → n.operations.store ≡ k.operations.store → k.commits.items ≡ c ∷ cs → n.commits.items ≡ cs → n.book.items ≡ k.book.items ++ done ∷ [] → c.place ≤ length (durable k.operations.store.log)
+  pub leaves_reported : (k n : Core D) (c : Commit) (cs : List Commit) (done : Committed) → n.operations.store ≡ k.operations.store → k.commits.items ≡ c ∷ cs → n.commits.items ≡ cs → n.book.items ≡ k.book.items ++ done ∷ [] → c.place ≤ length (durable k.operations.store.log)
       → TellsBook origin k → TellsBook origin n
-  leaves_told k n c cs done store queue rest book there was =
+  leaves_reported k n c cs done store queue rest book there was =
       let old = durable k.operations.store.log in
       let same : durable n.operations.store.log ≡ old = ap (λ s. durable s.log) store in
       let before : durable_count k.commits.items (length old) ≡ 1 + durable_count cs (length old) = ap (λ (xs : List Commit). durable_count xs (length old)) queue ∙ count_some c cs (length old) there in
@@ -195,8 +195,8 @@ module _ {D : Type 0} (seen : D → List ℕ) (may_leave : D → List ℕ → Ty
       omega (arith, was, before, now, books, size)
 
   -- the area begins with the book
-  pub starts_told : (k : Core D) → k.book.items ≡ origin.earlier → k.commits.items ≡ [] → TellsBook origin k
-  starts_told k book commits =
+  pub starts_reported : (k : Core D) → k.book.items ≡ origin.earlier → k.commits.items ≡ [] → TellsBook origin k
+  starts_reported k book commits =
       let none : durable_count k.commits.items (length (durable k.operations.store.log)) ≡ 0 = ap (λ (cs : List Commit). durable_count cs (length (durable k.operations.store.log))) commits in
       let size : length k.book.items ≡ length origin.earlier = ap (λ (b : List Committed). length b) book in
       omega (arith, none, size)

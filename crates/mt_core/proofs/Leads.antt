@@ -21,7 +21,7 @@ use Rattle.mt_op.specs.Operations.{Acts}
 use Rattle.mt_op.specs.Records.{end_with}
 use Rattle.mt_op.specs.declared.scope.OpScope.{OpScope}
 use Rattle.mt_replay.specs.Recoverable.{LeadsOn, pages_held}
-use Rattle.mt_replay.specs.Told.{op_of, reply_in, call_of, call_in, calls_in}
+use Rattle.mt_replay.specs.Recorded.{op_of, reply_in, call_of, call_in, calls_in}
 
 some_is : (a b : LoggedOp) → Some a ≡ Some b → a ≡ b
 some_is a b is = cc

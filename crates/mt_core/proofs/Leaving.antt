@@ -31,12 +31,12 @@ use Rattle.mt_frame.specs.declared.records.Record.{Record}
 use Rattle.mt_slock.specs.Views.{held_of}
 use Rattle.mt_core.specs.Runs.{running_in, AreHeldBy, is_at_work, IsOwned, is_open, entry_pages, entry_bytes, undo_bytes, left_of}
 use Rattle.mt_steps.specs.Plans.{undo_pages}
-use Rattle.mt_core.specs.Consistent.{Origin, state_of, state_in, IsNumbered, AreTold, IsQueued, IsWithinSchema, IsFit, IsConsistent, IsIn}
+use Rattle.mt_core.specs.Consistent.{Origin, state_of, state_in, IsNumbered, AreReported, IsQueued, IsWithinSchema, IsFit, IsConsistent, IsIn}
 use Rattle.mt_core.specs.declared.parts.Core.{Core}
 use Rattle.mt_core.specs.declared.parts.Running.{Running}
 use Rattle.mt_core.proofs.Underway.{runs_none}
 use Rattle.mt_core.proofs.Effects.{last_kept, weighs_apart, weighs_others}
-use Rattle.mt_core.proofs.Told.{told_put}
+use Rattle.mt_core.proofs.Reported.{reported_put}
 use Rattle.mt_core.proofs.Queued.{queued_first, queued_members}
 use Rattle.mt_live.proofs.Alone.{put_other}
 
@@ -164,7 +164,7 @@ module _ {D : Type 0} (seen : D → List ℕ) (may_leave : D → List ℕ → Ty
           };
           holds = subst (λ (w : World). Holds (held_in w) base) w_same safe.holds;
           runs = λ i d lt. let was = safe.runs i d lt in record { under = subst (λ (w : World). IsUnderWay origin.relations origin.counters w (get_or k.running.items i d).scope) w_same was.under; budget = was.budget; number = was.number; moving = was.moving };
-          told = told_put k.last (appended n.operations.store.log) k.live.members n.live.members t None (λ m is. absurd cc) members (subst (λ (X : Type 0). X) (λ i. AreTold k.last k.live.members (appended (sym store i).log)) safe.told);
+          outcome = reported_put k.last (appended n.operations.store.log) k.live.members n.live.members t None (λ m is. absurd cc) members (subst (λ (X : Type 0). X) (λ i. AreReported k.last k.live.members (appended (sym store i).log)) safe.outcome);
           claims = omega arith;
         };
         state = state;
@@ -221,7 +221,7 @@ module _ {D : Type 0} (seen : D → List ℕ) (may_leave : D → List ℕ → Ty
           };
           holds = safe.holds;
           runs = safe.runs;
-          told = told_put k.last (appended k.operations.store.log) k.live.members n.live.members t None (λ m is. absurd cc) members safe.told;
+          outcome = reported_put k.last (appended k.operations.store.log) k.live.members n.live.members t None (λ m is. absurd cc) members safe.outcome;
           claims = omega arith;
         };
         state = state;

@@ -14,7 +14,7 @@ pub mod Undoing
 pub mod Refusing
 pub mod Entering
 pub mod Inverse
-pub mod Told
+pub mod Reported
 pub mod Inverses
 pub mod Queued
 pub mod Members

@@ -78,7 +78,7 @@ module _ {D : Type 0} (seen : D → List ℕ) (may_leave : D → List ℕ → Ty
           };
           holds = safe.holds;
           runs = safe.runs;
-          told = safe.told;
+          outcome = safe.outcome;
           claims = safe.claims;
         };
         state = state;

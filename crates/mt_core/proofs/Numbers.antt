@@ -81,10 +81,10 @@ adds_pages s old new more =
     (λ one. let (c, image, bytes, there, is) = one in record { more = _; is = is; none = λ t n. page_undoes t n s.txn s.number c.page image bytes _ c.edits.items }) more
 
 pub adds_dropped : (s : OpScope) (old new : List Record) (r : Result TakenBack Refusal) → TellsDropped s old new r → AddsNoInverse old new
-adds_dropped s old new (Ok taken.Clear) told = record { more = dropped_with s.txn s.number s.standing; is = told; none = λ t n. dropped_undoes t n s.txn s.number s.standing }
-adds_dropped s old new (Ok taken.More) told = adds_none old new told
-adds_dropped s old new (Ok taken.Flush) told = adds_none old new told
-adds_dropped s old new (Err why) told = adds_none old new told
+adds_dropped s old new (Ok taken.Clear) outcome = record { more = dropped_with s.txn s.number s.standing; is = outcome; none = λ t n. dropped_undoes t n s.txn s.number s.standing }
+adds_dropped s old new (Ok taken.More) outcome = adds_none old new outcome
+adds_dropped s old new (Ok taken.Flush) outcome = adds_none old new outcome
+adds_dropped s old new (Err why) outcome = adds_none old new outcome
 
 module _ (last begun : ℕ) (ms : List Member) where
   -- other locks, and records more that end nothing that is to come
@@ -132,13 +132,13 @@ module _ (last begun : ℕ) (ms : List Member) where
 
   -- a step of a taking back
   pub numbered_dropped : (s : OpScope) (old new : List PageLock) (records more : List Record) (r : Result TakenBack Refusal) → s.number ≤ last → new ≡ old → TellsDropped s records more r → IsNumbered last begun ms old records → IsNumbered last begun ms new more
-  numbered_dropped s old new records more (Ok taken.Clear) known locks told k =
-      subst (IsNumbered last begun ms new) (sym told)
+  numbered_dropped s old new records more (Ok taken.Clear) known locks outcome k =
+      subst (IsNumbered last begun ms new) (sym outcome)
       (numbered_more old new records (dropped_with s.txn s.number s.standing) (subst (All (λ (l : PageLock). l.op ≤ last)) (sym locks) k.locks)
       (λ n above. dropped_ends_op n s.txn s.number s.standing (λ is. absurd (omega (arith, is, above, known)))) (λ u. dropped_ends_txn u s.txn s.number s.standing) k)
-  numbered_dropped s old new records more (Ok taken.More) known locks told k = numbered_locks old new records more (subst (All (λ (l : PageLock). l.op ≤ last)) (sym locks) k.locks) told k
-  numbered_dropped s old new records more (Ok taken.Flush) known locks told k = numbered_locks old new records more (subst (All (λ (l : PageLock). l.op ≤ last)) (sym locks) k.locks) told k
-  numbered_dropped s old new records more (Err why) known locks told k = numbered_locks old new records more (subst (All (λ (l : PageLock). l.op ≤ last)) (sym locks) k.locks) told k
+  numbered_dropped s old new records more (Ok taken.More) known locks outcome k = numbered_locks old new records more (subst (All (λ (l : PageLock). l.op ≤ last)) (sym locks) k.locks) outcome k
+  numbered_dropped s old new records more (Ok taken.Flush) known locks outcome k = numbered_locks old new records more (subst (All (λ (l : PageLock). l.op ≤ last)) (sym locks) k.locks) outcome k
+  numbered_dropped s old new records more (Err why) known locks outcome k = numbered_locks old new records more (subst (All (λ (l : PageLock). l.op ≤ last)) (sym locks) k.locks) outcome k
 
   -- locks go
   pub numbered_without : (number : ℕ) (locks : List PageLock) (records : List Record) → IsNumbered last begun ms locks records → IsNumbered last begun ms (locks_without number locks) records

@@ -9,34 +9,34 @@ use Rattle.mt_model.specs.History.{after, IsLegal}
 use Rattle.mt_model.specs.Model.{Base}
 use Rattle.mt_model.specs.declared.history.Committed.{Committed}
 use Rattle.mt_replay.proofs.Walking.{tell_more}
-use Rattle.mt_replay.specs.Told.{Told, Finished, calls_of, its, without, told, tell, tells, stands_for}
+use Rattle.mt_replay.specs.Recorded.{Recorded, Finished, calls_of, its, without, plus_record, tell, tells, stands_for}
 use Rattle.mt_core.proofs.Recovering.{books_run}
 use Rattle.mt_core.specs.Restartable.{effects_of}
 
 -- more commits than before, and those as before
-record Follows (x y : Told) : Type 0 where
+record Follows (x y : Recorded) : Type 0 where
   more : List (List Finished)
   is : y.books ≡ x.books ++ more
 
-same_books : (x y : Told) → y.books ≡ x.books → Follows x y
+same_books : (x y : Recorded) → y.books ≡ x.books → Follows x y
 same_books x y same = record { more = []; is = same ∙ sym (append-nil x.books) }
 
-told_follows : (x : Told) (r : Record) → Follows x (told x r)
-told_follows x (Page txn op page image start old new) = same_books x x refl
-told_follows x (OpEnd txn op undoes done) = go (undoes == 0)
+reported_follows : (x : Recorded) (r : Record) → Follows x (plus_record x r)
+reported_follows x (Page txn op page image start old new) = same_books x x refl
+reported_follows x (OpEnd txn op undoes done) = go (undoes == 0)
   where
     go : (c : Bool) → Follows x (cond c (record { live = x.live ++ record { txn = txn; op = op; done = done } ∷ []; books = x.books }) (record { live = without txn undoes x.live; books = x.books }))
     go true = record { more = []; is = sym (append-nil x.books) }
     go false = record { more = []; is = sym (append-nil x.books) }
-told_follows x (OpDropped txn op) = same_books x x refl
-told_follows x (Commit txn) = record { more = its txn x.live ∷ []; is = refl }
-told_follows x (AbortEnd txn) = record { more = []; is = sym (append-nil x.books) }
+reported_follows x (OpDropped txn op) = same_books x x refl
+reported_follows x (Commit txn) = record { more = its txn x.live ∷ []; is = refl }
+reported_follows x (AbortEnd txn) = record { more = []; is = sym (append-nil x.books) }
 
-tell_follows : (x : Told) (rs : List Record) → Follows x (tell x rs)
+tell_follows : (x : Recorded) (rs : List Record) → Follows x (tell x rs)
 tell_follows x [] = same_books x x refl
 tell_follows x (r ∷ rs) =
-    let one = told_follows x r in
-    let rest = tell_follows (told x r) rs in
+    let one = reported_follows x r in
+    let rest = tell_follows (plus_record x r) rs in
     record { more = one.more ++ rest.more; is = rest.is ∙ ap (λ (bs : List (List Finished)). bs ++ rest.more) one.is ∙ append_assoc x.books one.more rest.more }
 
 front_follows : (front back : List Record) → Follows (tells front) (tells (front ++ back))

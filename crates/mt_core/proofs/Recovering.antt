@@ -29,7 +29,7 @@ use Rattle.mt_model.specs.Pending.{steps_at}
 use Rattle.mt_model.specs.declared.history.Committed.{Committed}
 use Rattle.mt_pool.specs.Views.{pages}
 use Rattle.mt_replay.specs.Recoverable.{IsSerial, IsOf, LeadsOn, all_pages, inverse_pages, pages_held}
-use Rattle.mt_replay.specs.Told.{Finished, op_of, calls_of, losers, run_all, stands_for, tells}
+use Rattle.mt_replay.specs.Recorded.{Finished, op_of, calls_of, losers, run_all, stands_for, tells}
 use Rattle.mt_space.specs.Rooms.{free_in, free_of}
 use Rattle.mt_steps.specs.Plans.{free_pages}
 use Rattle.mt_core.proofs.Calling.{open_some}

@@ -37,7 +37,7 @@ use Rattle.mt_pool.specs.Views.{pages}
 use Rattle.mt_replay.proofs.Beginnings.{begin_more, begin_all, begin_one}
 use Rattle.mt_replay.proofs.Walking.{tell_more}
 use Rattle.mt_replay.specs.Recoverable.{EachBeginning, IsRecoverable, IsOf, LeadsOn, all_pages, inverse_images, pages_held}
-use Rattle.mt_replay.specs.Told.{Told, Finished, op_of, reply_in, call_of, calls_in, calls_of, its, others as others_of, without, tells, run_all}
+use Rattle.mt_replay.specs.Recorded.{Recorded, Finished, op_of, reply_in, call_of, calls_in, calls_of, its, others as others_of, without, tells, run_all}
 use Rattle.mt_slock.specs.Views.{held_of}
 use Rattle.mt_space.specs.Changes.{PageBytes}
 use Rattle.mt_steps.specs.Logged.{logged_of}
@@ -47,14 +47,14 @@ use Rattle.mt_steps.specs.Repeated.{held}
 use Rattle.mt_core.proofs.Did.{AreApartFrom, Tallies, tally_same, tally_end, tally_undone, tally_commit, tally_abort, tally_booked, without_did, effects_turn, effects_only, did_last, did_push, rising_apart, only_gone, calls_did}
 use Rattle.mt_core.proofs.Finding.{idle_did, acted_last, inverse_logged}
 use Rattle.mt_core.proofs.Imaged.{images_held, images_quiet}
-use Rattle.mt_core.proofs.Lasting.{lasts_same, lasts_then, stays_told, begins_told, leaves_told, starts_told}
+use Rattle.mt_core.proofs.Lasting.{lasts_same, lasts_then, stays_reported, begins_reported, leaves_reported, starts_reported}
 use Rattle.mt_core.proofs.Leads.{calls_append, leads_quietly, logged_did, logged_is}
 use Rattle.mt_core.proofs.Members.{changed_other}
 use Rattle.mt_core.proofs.Recovering.{effects_acted, recovers}
 use Rattle.mt_live.specs.Laws.{in_turn}
 use Rattle.mt_core.proofs.Between.{appends_none}
 use Rattle.mt_core.specs.Booked.{txns_of}
-use Rattle.mt_core.specs.Consistent.{Origin, session_in, state_in, state_of, IsConsistent, IsTold}
+use Rattle.mt_core.specs.Consistent.{Origin, session_in, state_in, state_of, IsConsistent, IsReported}
 use Rattle.mt_core.specs.Restartable.{did, effects_of, entry_of, numbers_did, numbers_of, TellsOf, Recovers, IsRestartable, TellsBook, Lasts, SameArea, IsQuiet, AppendsQuietly, AppendsEnd, QuietlyAppends, SameBook, NotesEnd, NotesUndone}
 use Rattle.mt_core.specs.Runs.{is_at_work, is_open, TakesBack}
 use Rattle.mt_core.specs.declared.parts.Commit.{Commit}
@@ -64,8 +64,8 @@ use Rattle.mt_core.specs.declared.parts.Running.{Running}
 -- ---- records that tell nothing
 
 module _ (opening : PageBytes) (rs more : List Record) (q : IsQuiet opening rs more) where
-  pub untold : tells (rs ++ more) ≡ tells rs
-  untold = tell_more (record { live = []; books = [] }) rs more ∙ q.told (tells rs)
+  pub unreported : tells (rs ++ more) ≡ tells rs
+  unreported = tell_more (record { live = []; books = [] }) rs more ∙ q.outcome (tells rs)
 
   pub uncalled : calls_in (rs ++ more) ≡ calls_in rs
   uncalled = calls_append rs more ∙ ap (λ (cs : List Call). calls_in rs ++ cs) q.calls ∙ append-nil (calls_in rs)
@@ -74,13 +74,13 @@ module _ (opening : PageBytes) (rs more : List Record) (q : IsQuiet opening rs m
   quiet_recovers relations counters total bytes first k = record {
     leads = leads_quietly relations counters total opening rs more q.held q.calls k.leads;
     serial = record {
-      same = ap (run first) uncalled ∙ k.serial.same ∙ sym (ap (λ (x : Told). run (run_all first x.books) (calls_of x.live)) untold);
-      acted = subst (λ (x : Told). IsActed (run_all first x.books) (calls_of x.live)) (sym untold) k.serial.acted;
-      bounds = subst (λ (x : Told). IsBase (run_all first x.books)) (sym untold) k.serial.bounds;
+      same = ap (run first) uncalled ∙ k.serial.same ∙ sym (ap (λ (x : Recorded). run (run_all first x.books) (calls_of x.live)) unreported);
+      acted = subst (λ (x : Recorded). IsActed (run_all first x.books) (calls_of x.live)) (sym unreported) k.serial.acted;
+      bounds = subst (λ (x : Recorded). IsBase (run_all first x.books)) (sym unreported) k.serial.bounds;
     };
-    within = subst (λ (x : Told). AllByRecursion (λ (f : Finished). IsOf relations counters f.done) x.live) (sym untold) k.within;
-    free = subst (λ (X : Type 0). X) (λ i. all_pages (sym untold i).live ≤ free_pages total (sym q.held i)) k.free;
-    images = subst (λ (x : Told). inverse_images * length x.live + 5 < bytes) (sym untold) k.images;
+    within = subst (λ (x : Recorded). AllByRecursion (λ (f : Finished). IsOf relations counters f.done) x.live) (sym unreported) k.within;
+    free = subst (λ (X : Type 0). X) (λ i. all_pages (sym unreported i).live ≤ free_pages total (sym q.held i)) k.free;
+    images = subst (λ (x : Recorded). inverse_images * length x.live + 5 < bytes) (sym unreported) k.images;
   }
 
 -- ---- transactions' numbers
@@ -193,7 +193,7 @@ module _ {D : Type 0} (seen : D → List ℕ) (may_leave : D → List ℕ → Ty
   quiet_now k rs more base q n = record {
     since = n.since;
     book = n.book;
-    tally = subst (Tallies (map effects_of n.since) (txns_of k.commits.items) (num k.live.members) (filter did k.live.standing)) (sym (untold origin.pages rs more q)) n.tally;
+    tally = subst (Tallies (map effects_of n.since) (txns_of k.commits.items) (num k.live.members) (filter did k.live.standing)) (sym (unreported origin.pages rs more q)) n.tally;
     leads = ap (run origin.begun) (uncalled origin.pages rs more q) ∙ n.leads;
   }
 
@@ -242,7 +242,7 @@ module _ {D : Type 0} (seen : D → List ℕ) (may_leave : D → List ℕ → Ty
         few = few;
       }
 
-  -- ---- nothing is told anew
+  -- ---- nothing is reported anew
 
   pub same_area : (k n : Core D) → n.operations.store ≡ k.operations.store → SameArea k n
   same_area k n store = record { total = ap (λ s. pages s.pool) store; bytes = ap (λ s. area_size s.log) store; lasts = lasts_same k n (ap (λ s. durable s.log) store) }
@@ -258,7 +258,7 @@ module _ {D : Type 0} (seen : D → List ℕ) (may_leave : D → List ℕ → Ty
       let bases : base ≡ later = sym (base_is k base safe_k) ∙ (λ i. runs (after origin.first (sym book.book i)) (sym standing i)) ∙ base_is n later safe_n in
       let tally : Tallies (map effects_of was.since) (txns_of k.commits.items) (num n.live.members) (filter did k.live.standing) (tells old) = tally_same (map effects_of was.since) (txns_of k.commits.items) (num k.live.members) (num n.live.members) (filter did k.live.standing) (tells old) was.tally numbers in
       let here : Now n old later = record { since = was.since; book = book.book ∙ was.book; tally = subst (λ (X : Type 0). X) (λ i. Tallies (map effects_of was.since) (txns_of (sym book.commits i)) (num n.live.members) (filter did (sym standing i)) (tells old)) tally; leads = was.leads ∙ bases } in
-      stays k n later safe_n q few (appended_now n old (appended n.operations.store.log) later q.appends here) (stays_told seen may_leave origin k n later safe_n q.area.lasts book r.booked) r
+      stays k n later safe_n q few (appended_now n old (appended n.operations.store.log) later q.appends here) (stays_reported seen may_leave origin k n later safe_n q.area.lasts book r.booked) r
 
   pub store_same : (k n : Core D) (base later : Base) → IsConsistent seen may_leave origin base k → IsConsistent seen may_leave origin later n → n.operations.store ≡ k.operations.store → SameBook k n → n.live ≡ k.live → IsRestartable origin k → IsRestartable origin n
   store_same k n base later safe_k safe_n store book live r = stays_same k n base later safe_k safe_n (quiet_store k n store) book (ap (λ l. l.standing) live) (λ t. ap (λ l. num l.members t) live) (subst (λ l. length l.members ≤ 64) (sym live) r.few) r
@@ -332,7 +332,7 @@ module _ {D : Type 0} (seen : D → List ℕ) (may_leave : D → List ℕ → Ty
       call = (r.op, reply)
 
       many : length m.member.operations ≡ length m.member.calls
-      many = (safe_k.told t m.member m.is).many
+      many = (safe_k.outcome t m.member m.is).many
 
       pushed : num n.live.members t ≡ num k.live.members t ++ cond (has_inverse call) (r.scope.number ∷ []) []
       pushed =
@@ -352,7 +352,7 @@ module _ {D : Type 0} (seen : D → List ℕ) (may_leave : D → List ℕ → Ty
       none_same : (ns : List ℕ) (h : Bool) → has_inverse call ≡ h → h ≡ false → ns ++ cond (has_inverse call) (r.scope.number ∷ []) [] ≡ ns
       none_same ns h is none = ap (λ (c : Bool). ns ++ cond c (r.scope.number ∷ []) []) (is ∙ none) ∙ append-nil ns
 
-      tally_in : (x : Told) (es : List Entry) → filter did n.live.standing ≡ es → Tallies (map effects_of was.since) (txns_of k.commits.items) (num n.live.members) es x
+      tally_in : (x : Recorded) (es : List Entry) → filter did n.live.standing ≡ es → Tallies (map effects_of was.since) (txns_of k.commits.items) (num n.live.members) es x
           → Tallies (map effects_of was.since) (txns_of n.commits.items) (num n.live.members) (filter did n.live.standing) x
       tally_in x es is tally = subst (λ (X : Type 0). X) (λ i. Tallies (map effects_of was.since) (txns_of (sym e.same.commits i)) (num n.live.members) (sym is i) x) tally
 
@@ -371,7 +371,7 @@ module _ {D : Type 0} (seen : D → List ℕ) (may_leave : D → List ℕ → Ty
           let nothing : inverse_of r.scope.op (reply_of base r.scope.op) ≡ None = none_of (inverse_of r.scope.op (reply_of base r.scope.op)) (ap (λ (y : Reply). is_some (inverse_of r.scope.op y)) replies ∙ logged_did r.scope.op reply ∙ ap is_some is) in
           let tally = tally_same (map effects_of was.since) (txns_of k.commits.items) (num k.live.members) (num n.live.members) (filter did k.live.standing) (tells old) was.tally numbers in
           let now : Now n old later = record { since = was.since; book = e.same.book ∙ was.book; tally = tally_in (tells old) (filter did k.live.standing) entries tally; leads = was.leads ∙ sym (later_is ∙ base_effectless base r.scope.op nothing) } in
-          stays k n later safe_n (record { area = same; appends = appends_none origin.pages old (appended n.operations.store.log) records }) few (subst (λ (rs : List Record). Now n rs later) (sym records) now) (stays_told seen may_leave origin k n later safe_n same.lasts e.same restartable.booked) restartable
+          stays k n later safe_n (record { area = same; appends = appends_none origin.pages old (appended n.operations.store.log) records }) few (subst (λ (rs : List Record). Now n rs later) (sym records) now) (stays_reported seen may_leave origin k n later safe_n same.lasts e.same restartable.booked) restartable
         where
           none_of : {A : Type 0} (o : Option A) → is_some o ≡ false → o ≡ None
           none_of None is = refl
@@ -382,16 +382,16 @@ module _ {D : Type 0} (seen : D → List ℕ) (may_leave : D → List ℕ → Ty
           let tells_it = logged_is r.scope.op reply done is in
           let some : has_inverse call ≡ true = is_did ∙ ap is_some is in
           let records : appended n.operations.store.log ≡ old ++ it ∷ [] = a.is ∙ ap (λ (o : Option LoggedOp). old ++ end_with r.scope.txn r.scope.number r.scope.undoes o) is in
-          let now_told : tells (old ++ it ∷ []) ≡ record { live = (tells old).live ++ f ∷ []; books = (tells old).books } =
+          let now_reported : tells (old ++ it ∷ []) ≡ record { live = (tells old).live ++ f ∷ []; books = (tells old).books } =
           tell_more (record { live = []; books = [] }) old (it ∷ [])
-          ∙ ap {A = Bool} {B = Told} (λ (c : Bool). cond c (record { live = (tells old).live ++ f ∷ []; books = (tells old).books }) (record { live = without r.scope.txn r.scope.undoes (tells old).live; books = (tells old).books })) (eq-eqb r.scope.undoes 0 fore) in
+          ∙ ap {A = Bool} {B = Recorded} (λ (c : Bool). cond c (record { live = (tells old).live ++ f ∷ []; books = (tells old).books }) (record { live = without r.scope.txn r.scope.undoes (tells old).live; books = (tells old).books })) (eq-eqb r.scope.undoes 0 fore) in
           let same_entry : entry_of f ≡ entry = λ i. record { txn = r.scope.txn; op = (tells_it.0 ∙ sym copy) i; reply = tells_it.1 i } in
           let entries : filter did n.live.standing ≡ filter did k.live.standing ++ entry_of f ∷ [] = stood ∙ ap (λ (c : Bool). filter did k.live.standing ++ cond c (entry ∷ []) []) some ∙ ap (λ (x : Entry). filter did k.live.standing ++ x ∷ []) (sym same_entry) in
           let mine : num n.live.members t ≡ num k.live.members t ++ r.scope.number ∷ [] = pushed ∙ ap (λ (c : Bool). num k.live.members t ++ cond c (r.scope.number ∷ []) []) some in
           let tally = tally_end (map effects_of was.since) (txns_of k.commits.items) (num k.live.members) (num n.live.members) (filter did k.live.standing) (tells old) was.tally f (apart_from k.live.members k.commits.items t safe_k.fit.queued.each working) mine rest in
           let led : run origin.begun (calls_in (old ++ it ∷ [])) ≡ later = ap (run origin.begun) (calls_append old (it ∷ [])) ∙ run-append origin.begun (calls_in old) (call_of done ∷ []) ∙ (λ i. base_after (was.leads i) (tells_it.0 i)) ∙ sym later_is in
-          let now : Now n (old ++ it ∷ []) later = record { since = was.since; book = e.same.book ∙ was.book; tally = subst (Tallies (map effects_of was.since) (txns_of n.commits.items) (num n.live.members) (filter did n.live.standing)) (sym now_told) (tally_in (record { live = (tells old).live ++ f ∷ []; books = (tells old).books }) (filter did k.live.standing ++ entry_of f ∷ []) entries tally); leads = led } in
-          grows k n later it safe_n same few records a.leads (subst (λ (rs : List Record). Now n rs later) (sym records) now) (stays_told seen may_leave origin k n later safe_n same.lasts e.same restartable.booked) restartable
+          let now : Now n (old ++ it ∷ []) later = record { since = was.since; book = e.same.book ∙ was.book; tally = subst (Tallies (map effects_of was.since) (txns_of n.commits.items) (num n.live.members) (filter did n.live.standing)) (sym now_reported) (tally_in (record { live = (tells old).live ++ f ∷ []; books = (tells old).books }) (filter did k.live.standing ++ entry_of f ∷ []) entries tally); leads = led } in
+          grows k n later it safe_n same few records a.leads (subst (λ (rs : List Record). Now n rs later) (sym records) now) (stays_reported seen may_leave origin k n later safe_n same.lasts e.same restartable.booked) restartable
 
   -- ---- an inverse has ended
 
@@ -415,8 +415,8 @@ module _ {D : Type 0} (seen : D → List ℕ) (may_leave : D → List ℕ → Ty
       m : AtWork (member_of k.live.members t)
       m = at_work_of (member_of k.live.members t) working
 
-      told_of : IsTold k.last old t m.member
-      told_of = safe_k.told t m.member m.is
+      reported_of : IsReported k.last old t m.member
+      reported_of = safe_k.outcome t m.member m.is
 
       c : Cut t k.live.standing takes.entry r.scope.op
       c = cut_of t k.live.standing takes.entry r.scope.op takes.last takes.inverse
@@ -458,13 +458,13 @@ module _ {D : Type 0} (seen : D → List ℕ) (may_leave : D → List ℕ → Ty
           records : appended n.operations.store.log ≡ old ++ it ∷ []
           records = a.is ∙ ap (λ (o : Option LoggedOp). old ++ end_with r.scope.txn r.scope.number r.scope.undoes o) is
 
-          cut_told : Told
-          cut_told = record { live = without t r.scope.undoes (tells old).live; books = (tells old).books }
+          cut_reported : Recorded
+          cut_reported = record { live = without t r.scope.undoes (tells old).live; books = (tells old).books }
 
-          now_told : tells (old ++ it ∷ []) ≡ cut_told
-          now_told =
+          now_reported : tells (old ++ it ∷ []) ≡ cut_reported
+          now_reported =
               tell_more (record { live = []; books = [] }) old (it ∷ [])
-              ∙ ap {A = Bool} {B = Told} (λ (h : Bool). cond h (record { live = (tells old).live ++ record { txn = r.scope.txn; op = r.scope.number; done = done } ∷ []; books = (tells old).books }) (record { live = without r.scope.txn r.scope.undoes (tells old).live; books = (tells old).books })) (ne_eqb r.scope.undoes 0 back)
+              ∙ ap {A = Bool} {B = Recorded} (λ (h : Bool). cond h (record { live = (tells old).live ++ record { txn = r.scope.txn; op = r.scope.number; done = done } ∷ []; books = (tells old).books }) (record { live = without r.scope.txn r.scope.undoes (tells old).live; books = (tells old).books })) (ne_eqb r.scope.undoes 0 back)
 
           tells_it : (op_of done ≡ r.scope.op) × (reply_in done ≡ reply)
           tells_it = logged_is r.scope.op reply done is
@@ -472,11 +472,11 @@ module _ {D : Type 0} (seen : D → List ℕ) (may_leave : D → List ℕ → Ty
           led : run origin.begun (calls_in (old ++ it ∷ [])) ≡ base_after base r.scope.op
           led = ap (run origin.begun) (calls_append old (it ∷ [])) ∙ run-append origin.begun (calls_in old) (call_of done ∷ []) ∙ (λ i. base_after (was.leads i) (tells_it.0 i))
 
-          tallied : Tallies (map effects_of was.since) (txns_of k.commits.items) (num n.live.members) (front ++ behind) cut_told → IsRestartable origin n
+          tallied : Tallies (map effects_of was.since) (txns_of k.commits.items) (num n.live.members) (front ++ behind) cut_reported → IsRestartable origin n
           tallied tally =
-              let here = subst (λ (X : Type 0). X) (λ i. Tallies (map effects_of was.since) (txns_of (sym e.same.commits i)) (num n.live.members) (sym stands i) (sym now_told i)) tally in
+              let here = subst (λ (X : Type 0). X) (λ i. Tallies (map effects_of was.since) (txns_of (sym e.same.commits i)) (num n.live.members) (sym stands i) (sym now_reported i)) tally in
               let now : Now n (old ++ it ∷ []) (base_after base r.scope.op) = record { since = was.since; book = e.same.book ∙ was.book; tally = here; leads = led } in
-              grows k n (base_after base r.scope.op) it safe_n same few records a.leads (subst (λ (rs : List Record). Now n rs (base_after base r.scope.op)) (sym records) now) (stays_told seen may_leave origin k n (base_after base r.scope.op) safe_n same.lasts e.same restartable.booked) restartable
+              grows k n (base_after base r.scope.op) it safe_n same few records a.leads (subst (λ (rs : List Record). Now n rs (base_after base r.scope.op)) (sym records) now) (stays_reported seen may_leave origin k n (base_after base r.scope.op) safe_n same.lasts e.same restartable.booked) restartable
 
           at : (o : Option ℕ) → last_place m.member.calls ≡ o → IsRestartable origin n
           at None place = let none : operation_at m.member None ≡ Some r.scope.undoes = ap (operation_at m.member) (sym place) ∙ named in absurd cc
@@ -484,8 +484,8 @@ module _ {D : Type 0} (seen : D → List ℕ) (may_leave : D → List ℕ → Ty
               let number : get_or m.member.operations p 0 ≡ r.scope.undoes = some_number (get_or m.member.operations p 0) r.scope.undoes (ap (operation_at m.member) (sym place) ∙ named) in
               let left : num n.live.members t ≡ numbers_did (take p m.member.calls) (take p m.member.operations) = now_mine ∙ ap (λ (o : Option ℕ). numbers_of (Some (cut_to m.member o))) place ∙ open_did (cut_at m.member p) m.working in
               let mine : num k.live.members t ≡ num n.live.members t ++ r.scope.undoes ∷ [] =
-              ap numbers_of m.is ∙ open_did m.member m.working ∙ did_last m.member.calls m.member.operations p told_of.many place ∙ (λ i. sym left i ++ number i ∷ []) in
-              let less = rising_apart m.member.calls m.member.operations (num n.live.members t) r.scope.undoes told_of.rising (sym (ap numbers_of m.is ∙ open_did m.member m.working) ∙ mine) in
+              ap numbers_of m.is ∙ open_did m.member m.working ∙ did_last m.member.calls m.member.operations p reported_of.many place ∙ (λ i. sym left i ++ number i ∷ []) in
+              let less = rising_apart m.member.calls m.member.operations (num n.live.members t) r.scope.undoes reported_of.rising (sym (ap numbers_of m.is ∙ open_did m.member m.working) ∙ mine) in
               tallied (tally_undone (map effects_of was.since) (txns_of k.commits.items) (num k.live.members) (num n.live.members) (filter did k.live.standing) (tells old) was.tally t r.scope.undoes front takes.entry behind stood c.done.its none_behind
               (apart_from k.live.members k.commits.items t safe_k.fit.queued.each working) mine less rest)
             where
@@ -515,11 +515,11 @@ module _ {D : Type 0} (seen : D → List ℕ) (may_leave : D → List ℕ → Ty
       let tally = tally_commit (map effects_of was.since) (txns_of k.commits.items) (num k.live.members) (num n.live.members) (filter did k.live.standing) (tells old) was.tally t mine
       (λ u apart. ap numbers_of (changed_other (λ x. with_state x Committing) k.live.members n.live.members t members u apart)) in
       let names : txns_of k.commits.items ++ t ∷ [] ≡ txns_of n.commits.items = sym (map-append (λ (x : Commit). x.txn) k.commits.items (it ∷ [])) ∙ sym (ap txns_of commits) in
-      let now_told : record { live = others_of t (tells old).live; books = (tells old).books ++ its t (tells old).live ∷ [] } ≡ tells (old ++ CommitOf t ∷ []) = sym (tell_more (record { live = []; books = [] }) old (CommitOf t ∷ [])) in
-      let here = subst (λ (X : Type 0). X) (λ i. Tallies (map effects_of was.since) (names i) (num n.live.members) (filter did (sym standing i)) (now_told i)) tally in
+      let now_reported : record { live = others_of t (tells old).live; books = (tells old).books ++ its t (tells old).live ∷ [] } ≡ tells (old ++ CommitOf t ∷ []) = sym (tell_more (record { live = []; books = [] }) old (CommitOf t ∷ [])) in
+      let here = subst (λ (X : Type 0). X) (λ i. Tallies (map effects_of was.since) (names i) (num n.live.members) (filter did (sym standing i)) (now_reported i)) tally in
       let now : Now n (old ++ CommitOf t ∷ []) later = record { since = was.since; book = book ∙ was.book; tally = here; leads = ap (run origin.begun) (ends_calls old (CommitOf t) refl) ∙ was.leads ∙ bases } in
       grows k n later (CommitOf t) safe_n same (subst (λ (x : ℕ). x ≤ 64) (sym count) r.few) records (ends_leads old (appended n.operations.store.log) (CommitOf t) (pages k.operations.store.pool) (ap held (logged_more origin.pages old (CommitOf t ∷ []))) refl records)
-      (subst (λ (rs : List Record). Now n rs later) (sym records) now) (begins_told seen may_leave origin k n it lasting book commits behind r.booked) r
+      (subst (λ (rs : List Record). Now n rs later) (sym records) now) (begins_reported seen may_leave origin k n it lasting book commits behind r.booked) r
 
   pub aborted : (k n : Core D) (base later : Base) (t : ℕ) → IsConsistent seen may_leave origin base k → IsConsistent seen may_leave origin later n → SameArea k n
       → appended n.operations.store.log ≡ appended k.operations.store.log ++ AbortEnd t ∷ [] → ((u : ℕ) → member_of n.live.members u ≡ put (member_of k.live.members) t None u) → length n.live.members + 1 ≡ length k.live.members
@@ -530,8 +530,8 @@ module _ {D : Type 0} (seen : D → List ℕ) (may_leave : D → List ℕ → Ty
       let tally = tally_abort (map effects_of was.since) (txns_of k.commits.items) (num k.live.members) (num n.live.members) (filter did k.live.standing) (tells old) was.tally t (apart_from k.live.members k.commits.items t safe_k.fit.queued.each working)
       (put_num k.live.members n.live.members t None members) (other_num k.live.members n.live.members t None members) in
       let stands : kept (others t) (filter did k.live.standing) ≡ filter did n.live.standing = sym (ap (filter did) standing ∙ filter-swap did (λ (x : Entry). others t x.txn) k.live.standing) in
-      let now_told : record { live = others_of t (tells old).live; books = (tells old).books } ≡ tells (old ++ AbortEnd t ∷ []) = sym (tell_more (record { live = []; books = [] }) old (AbortEnd t ∷ [])) in
-      let here = subst (λ (X : Type 0). X) (λ i. Tallies (map effects_of was.since) (txns_of (sym book.commits i)) (num n.live.members) (stands i) (now_told i)) tally in
+      let now_reported : record { live = others_of t (tells old).live; books = (tells old).books } ≡ tells (old ++ AbortEnd t ∷ []) = sym (tell_more (record { live = []; books = [] }) old (AbortEnd t ∷ [])) in
+      let here = subst (λ (X : Type 0). X) (λ i. Tallies (map effects_of was.since) (txns_of (sym book.commits i)) (num n.live.members) (stands i) (now_reported i)) tally in
       let effects : (z : Core D) (b : Base) → IsConsistent seen may_leave origin b z → run (after origin.first z.book.items) (calls (filter did z.live.standing)) ≡ b = λ z b safe.
       ap (run (after origin.first z.book.items)) (sym (calls_did z.live.standing)) ∙ (effects_acted (after origin.first z.book.items) (calls z.live.standing) safe.fit.kept.sound.acted).1 ∙ base_is z b safe in
       let still : filter did n.live.standing ≡ filter did k.live.standing = ap (filter did) standing ∙ idle_did t k.live.standing (idle_all t k.live.standing nothing) in
@@ -539,7 +539,7 @@ module _ {D : Type 0} (seen : D → List ℕ) (may_leave : D → List ℕ → Ty
       let now : Now n (old ++ AbortEnd t ∷ []) later = record { since = was.since; book = book.book ∙ was.book; tally = here; leads = ap (run origin.begun) (ends_calls old (AbortEnd t) refl) ∙ was.leads ∙ bases } in
       let few = r.few in
       grows k n later (AbortEnd t) safe_n same (omega (arith, few, count)) records (ends_leads old (appended n.operations.store.log) (AbortEnd t) (pages k.operations.store.pool) (ap held (logged_more origin.pages old (AbortEnd t ∷ []))) refl records)
-      (subst (λ (rs : List Record). Now n rs later) (sym records) now) (stays_told seen may_leave origin k n later safe_n same.lasts book r.booked) r
+      (subst (λ (rs : List Record). Now n rs later) (sym records) now) (stays_reported seen may_leave origin k n later safe_n same.lasts book r.booked) r
 
   -- ---- a commit is booked
 
@@ -569,7 +569,7 @@ module _ {D : Type 0} (seen : D → List ℕ) (may_leave : D → List ℕ → Ty
       let here : Now n old later = record { since = was.since ++ done ∷ []; book = whole; tally = subst (λ (X : Type 0). X) (λ i. Tallies (books i) (txns_of (sym rest i)) (num n.live.members) (stands i) (tells old)) tally; leads = was.leads ∙ bases } in
       let q = quiet_store k n store in
       let few = r.few in
-      stays k n later safe_n q (omega (arith, few, count)) (appended_now n old (appended n.operations.store.log) later q.appends here) (leaves_told seen may_leave origin k n c cs done store queue rest book there r.booked) r
+      stays k n later safe_n q (omega (arith, few, count)) (appended_now n old (appended n.operations.store.log) later q.appends here) (leaves_reported seen may_leave origin k n c cs done store queue rest book there r.booked) r
 
   -- ---- the log's area begins
 
@@ -603,6 +603,6 @@ module _ {D : Type 0} (seen : D → List ℕ) (may_leave : D → List ℕ → Ty
         beginnings = λ area front back is. quiet_recovers origin.pages [] front (quiet front back is) origin.relations origin.counters total (area_size k.operations.store.log) origin.begun (recovered area);
         begun = begun;
         tells = tells_of k records origin.begun safe now;
-        booked = starts_told seen may_leave origin k book commits;
+        booked = starts_reported seen may_leave origin k book commits;
         few = let nobody : length k.live.members ≡ 0 = ap (λ (ms : List Member). length ms) members in omega (arith, nobody);
       }

@@ -26,12 +26,12 @@ use Rattle.mt_slock.specs.Views.{held_of}
 use Rattle.mt_steps.specs.Held.{Holds}
 use Rattle.mt_live.specs.declared.transactions.TxnState.TheVariants.{Aborting}
 use Rattle.mt_core.specs.Runs.{running_in, is_for, state_in, AreApart, AreHeldBy, IsRunning, IsOwned, is_at_work, is_open, pages_of, left_of, kept_bytes, taken_bytes}
-use Rattle.mt_core.specs.Consistent.{Origin, state_of, IsNumbered, AreTold, IsQueued, IsConsistent, IsFit, IsIn}
+use Rattle.mt_core.specs.Consistent.{Origin, state_of, IsNumbered, AreReported, IsQueued, IsConsistent, IsFit, IsIn}
 use Rattle.mt_core.specs.declared.parts.Core.{Core}
 use Rattle.mt_core.specs.declared.parts.Running.{Running}
 use Rattle.mt_core.proofs.Calling.{numbered_last}
 use Rattle.mt_core.proofs.Holders.{held_push, sums_push}
-use Rattle.mt_core.proofs.Told.{told_last}
+use Rattle.mt_core.proofs.Reported.{reported_last}
 
 -- one that is to be undone is at work
 pub aborting_open : (o : Option Member) → option_map (λ (m : Member). m.state) o ≡ Some Aborting → is_open o ≡ true
@@ -73,7 +73,7 @@ module _ {D : Type 0} (seen : D → List ℕ) (may_leave : D → List ℕ → Ty
               (omega arith);
           holds = subst (λ (p : PageBytes). Holds p base) (sym (rests_held (world seen origin.pages k.operations) (world seen origin.pages n.operations) rests)) safe.holds;
           runs = λ i d lt. let was = safe.runs i d lt in record { under = rests_own origin.relations origin.counters (world seen origin.pages k.operations) (world seen origin.pages n.operations) (get_or k.running.items i d).scope rests was.under; budget = was.budget; number = was.number; moving = was.moving };
-          told = subst (λ (X : Type 0). X) (λ i. AreTold k.last k.live.members (sym rests.records i)) safe.told;
+          outcome = subst (λ (X : Type 0). X) (λ i. AreReported k.last k.live.members (sym rests.records i)) safe.outcome;
           claims = same ∙ claims;
         };
         state = refl;
@@ -144,7 +144,7 @@ module _ {D : Type 0} (seen : D → List ℕ) (may_leave : D → List ℕ → Ty
           };
           holds = safe.holds;
           runs = subst (All (IsRunning origin.relations origin.counters (world seen origin.pages k.operations) (k.last + 1))) (sym items) (All-push (IsRunning origin.relations origin.counters (world seen origin.pages k.operations) (k.last + 1)) k.running.items r still mine);
-          told = told_last k.last (k.last + 1) k.live.members (appended k.operations.store.log) (omega arith) safe.told;
+          outcome = reported_last k.last (k.last + 1) k.live.members (appended k.operations.store.log) (omega arith) safe.outcome;
           claims = omega arith;
         };
         state = state;

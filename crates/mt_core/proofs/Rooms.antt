@@ -57,7 +57,7 @@ module _ {D : Type 0} (seen : D → List ℕ) (may_leave : D → List ℕ → Ty
           };
           holds = safe.holds;
           runs = subst (All (IsRunning origin.relations origin.counters (world seen origin.pages k.operations) k.last)) (sym running) safe.runs;
-          told = safe.told;
+          outcome = safe.outcome;
           claims = omega arith;
         };
         state = state;

@@ -157,7 +157,7 @@ module _ {D : Type 0} (seen : D → List ℕ) (may_leave : D → List ℕ → Ty
             };
             holds = subst (λ (f : PageBytes). Holds f base) (sym (images_held pages records fresh.images)) turns.holds;
             runs = λ i d lt. absurd (omega (arith, lt, no_running));
-            told = λ t m is. absurd (let none : member_of k.live.members t ≡ None = none_lives t in cc);
+            outcome = λ t m is. absurd (let none : member_of k.live.members t ≡ None = none_lives t in cc);
             claims = omega arith;
           };
           state = same_state;

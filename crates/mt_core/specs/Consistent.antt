@@ -105,14 +105,14 @@ pub record IsDue (records : List Record) (t n : ℕ) : Type 0 where
 
 -- The operations of a transaction are numbered in the order of their ends, and each that did something may be taken
 -- back.
-pub record IsTold (last : ℕ) (records : List Record) (t : ℕ) (m : Member) : Type 0 where
+pub record IsReported (last : ℕ) (records : List Record) (t : ℕ) (m : Member) : Type 0 where
   pub many : length m.operations ≡ length m.calls
   pub numbers : All (λ n. (1 ≤ n) × (n ≤ last)) m.operations
   pub rising : AllPairs (λ a b. a < b) m.operations
   pub due : (i : ℕ) (c : Call) → i < length m.calls → c ≡ slice_index_or m.calls i c → has_inverse c ≡ true → IsDue records t (slice_index_or m.operations i 0)
 
-abbrev pub AreTold : ℕ → List Member → List Record → Type 0
-AreTold last ms records = (t : ℕ) (m : Member) → member_of ms t ≡ Some m → IsTold last records t m
+abbrev pub AreReported : ℕ → List Member → List Record → Type 0
+AreReported last ms records = (t : ℕ) (m : Member) → member_of ms t ≡ Some m → IsReported last records t m
 
 abbrev pub session_or : Option Member → ℕ
 session_or None = 0
@@ -186,7 +186,7 @@ pub record IsConsistent {D : Type 0} (seen : D → List ℕ) (may_leave : D → 
   pub fit : IsFit seen may_leave origin base k
   pub holds : Holds (held_in (world seen origin.pages k.operations)) base
   pub runs : All (IsRunning origin.relations origin.counters (world seen origin.pages k.operations) k.last) k.running.items
-  pub told : AreTold k.last k.live.members (appended k.operations.store.log)
+  pub outcome : AreReported k.last k.live.members (appended k.operations.store.log)
   pub claims : claimed k.operations ≡ sum_by pages_of k.running.items + sum_by entry_pages k.live.standing
 
 -- each transaction is open, commits or is to be undone as before; but for one, which is in this state
@@ -237,10 +237,10 @@ pub record IsAlone {D : Type 0} (seen : D → List ℕ) (origin : Origin) (k : C
   pub others : (i : ℕ) (d : Running) → i < length k.running.items → i ≢ place → IsRunning origin.relations origin.counters (world seen origin.pages k.operations) k.last (slice_index_or k.running.items i d)
 
 -- before its end, the records reported each call; none takes it back
-pub record IsToldBefore (last : ℕ) (ms : List Member) (records : List Record) (s : OpScope) (reply : Reply) : Type 0 where
+pub record IsReportedBefore (last : ℕ) (ms : List Member) (records : List Record) (s : OpScope) (reply : Reply) : Type 0 where
   pub was : List Record
   pub ended : records ≡ was ++ end_of s reply
-  pub told : AreTold last ms was
+  pub outcome : AreReported last ms was
   pub standing : s.undoes ≡ 0 → some_record (undoes_op s.txn s.number) was ≡ false
 
 -- The operation at a place has acted on the pages, with this reply, and has not ended yet.
@@ -250,7 +250,7 @@ pub record IsReady {D : Type 0} (seen : D → List ℕ) (may_leave : D → List 
   pub holds : Holds (held_in (world seen origin.pages k.operations)) (base_after base r.scope.op)
   pub replies : reply_of base r.scope.op ≡ reply
   pub small : HasSmallReply reply
-  pub told : IsToldBefore k.last k.live.members (appended k.operations.store.log) r.scope reply
+  pub outcome : IsReportedBefore k.last k.live.members (appended k.operations.store.log) r.scope reply
   pub claims : claimed k.operations + own_needs r.scope.op r.scope.split ≡ sum_by pages_of k.running.items + sum_by entry_pages k.live.standing
 
 -- what is at a place is ready, with this reply
@@ -262,7 +262,7 @@ pub record IsCleared {D : Type 0} (seen : D → List ℕ) (may_leave : D → Lis
   pub fit : IsFit seen may_leave origin base k
   pub alone : IsAlone seen origin k place r Cleared
   pub holds : Holds (held_in (world seen origin.pages k.operations)) base
-  pub told : AreTold k.last k.live.members (appended k.operations.store.log)
+  pub outcome : AreReported k.last k.live.members (appended k.operations.store.log)
   pub claims : claimed k.operations ≡ sum_by pages_of k.running.items + sum_by entry_pages k.live.standing
 
 -- what is at a place is taken back

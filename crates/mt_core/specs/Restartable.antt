@@ -19,7 +19,7 @@ use Rattle.mt_op.specs.declared.answers.Stepped.TheVariants as stepped
 use Rattle.mt_op.specs.declared.scope.OpScope.{OpScope}
 use Rattle.mt_pool.specs.Views.{pages}
 use Rattle.mt_replay.specs.Recoverable.{EachBeginning, IsRecoverable, LeadsOn, pages_held}
-use Rattle.mt_replay.specs.Told.{Told, Finished, tell, tells, its, op_of, reply_in, calls_in, calls_of}
+use Rattle.mt_replay.specs.Recorded.{Recorded, Finished, tell, tells, its, op_of, reply_in, calls_in, calls_of}
 use Rattle.mt_space.specs.Changes.{PageBytes}
 use Rattle.mt_core.specs.Booked.{txns_of, durable_count}
 use Rattle.mt_core.specs.Consistent.{Origin, session_in, IsConsistent}
@@ -53,7 +53,7 @@ numbers_of (Some m) = cond (is_at_work m.state) (numbers_did m.calls m.operation
 
 -- Of a book with commits of these transactions after it, in their order, and of the others, which are at work: what
 -- each has committed, and what each has done, under its numbers.
-pub record IsTelling (book : List Committed) (ts : List ℕ) (ms : List Member) (standing : List Entry) (x : Told) : Type 0 where
+pub record IsTelling (book : List Committed) (ts : List ℕ) (ms : List Member) (standing : List Entry) (x : Recorded) : Type 0 where
   pub books : map calls_of x.books ≡ map effects_of (book ++ in_turn (session_in ms) ts standing)
   pub live : map entry_of x.live ≡ filter did (without_all ts standing)
   pub numbers : (t : ℕ) → map (λ (f : Finished). f.op) (its t x.live) ≡ numbers_of (member_of ms t)
@@ -103,7 +103,7 @@ pub record SameArea {D : Type 0} (k n : Core D) : Type 0 where
 pub record IsQuiet (opening : PageBytes) (records more : List Record) : Type 0 where
   pub held : pages_held opening (records ++ more) ≡ pages_held opening records
   pub calls : calls_in more ≡ []
-  pub told : (x : Told) → tell x more ≡ x
+  pub outcome : (x : Recorded) → tell x more ≡ x
 
 -- each beginning of what is appended is such
 pub record AppendsQuietly (opening : PageBytes) (old new : List Record) : Type 0 where

@@ -9,7 +9,7 @@ use Rattle.mt_log.specs.Batch.{joined}
 use Rattle.mt_log.specs.Found.{records_of}
 use Rattle.mt_log.specs.declared.batch.Batch.{Batch}
 use Rattle.mt_replay.specs.Losers.{all_finished, finished_of}
-use Rattle.mt_replay.specs.Told.{Finished}
+use Rattle.mt_replay.specs.Recorded.{Finished}
 use Rattle.mt_replay.specs.declared.losers.Loser.{Loser}
 use Rattle.mt_explain.specs.Histories.{Recounts, history_text}
 use Rattle.mt_explain.specs.Explanations.{batch_lines, explained, note_all, noted, put_back_line, undo_line, undo_lines, unfinished}
@@ -58,7 +58,7 @@ not_zero n other = go (n == 0) refl
 
 -- the text of a history is that of its batches
 pub text_is : (bs : List Batch) (h : History) → Recounts bs h → history_text h ≡ explained bs
-text_is bs h told =
-    ap (λ (x : List Batch). (numbered batch_lines 1 x ++ concat (map put_back_line h.unfinished.items)) ++ undo_lines (all_finished h.losers.items)) told.same
-    ∙ ap (λ us. (numbered batch_lines 1 bs ++ concat (map put_back_line us)) ++ undo_lines (all_finished h.losers.items)) told.unfinished_told
-    ∙ ap (λ fs. (numbered batch_lines 1 bs ++ concat (map put_back_line (unfinished (joined (records_of bs))))) ++ undo_lines fs) told.losers_told
+text_is bs h outcome =
+    ap (λ (x : List Batch). (numbered batch_lines 1 x ++ concat (map put_back_line h.unfinished.items)) ++ undo_lines (all_finished h.losers.items)) outcome.same
+    ∙ ap (λ us. (numbered batch_lines 1 bs ++ concat (map put_back_line us)) ++ undo_lines (all_finished h.losers.items)) outcome.unfinished_reported
+    ∙ ap (λ fs. (numbered batch_lines 1 bs ++ concat (map put_back_line (unfinished (joined (records_of bs))))) ++ undo_lines fs) outcome.losers_reported

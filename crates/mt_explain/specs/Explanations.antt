@@ -10,7 +10,7 @@ use Rattle.mt_model.specs.declared.operations.Op.TheVariants.{Get, Insert, Updat
 use Rattle.mt_log.specs.Batch.{joined}
 use Rattle.mt_log.specs.Found.{records_of}
 use Rattle.mt_log.specs.declared.batch.Batch.{Batch}
-use Rattle.mt_replay.specs.Told.{Finished, losers, op_of, undo_of}
+use Rattle.mt_replay.specs.Recorded.{Finished, losers, op_of, undo_of}
 use Rattle.mt_explain.specs.Listings.{hex_text, numbered}
 use Rattle.mt_explain.specs.declared.unfinished.Unfinished.{Unfinished}
 

@@ -31,7 +31,7 @@ pub struct History {
 /// The history of these batches. The only refusal is [`Refusal::NoMemory`].
 pub fn history_of(alloc: Global, batches: Vec<Batch>) -> Result<History, Refusal>
     requires { AreOfGrammar batches.items }
-    ensures told { IfOk result (Recounts batches.items) }
+    ensures outcome { IfOk result (Recounts batches.items) }
     ensures only_memory { IfErr result (λ why. why ≡ Refusal.NoMemory) }
 {
     let unfinished = unfinished_of(alloc, batches.as_slice())?;

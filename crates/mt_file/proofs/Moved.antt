@@ -170,6 +170,6 @@ room_seen pages p s old r row held over = subst (λ (m : List ℕ). room_of m + 
 -- ---- of a plan that is made
 
 pub done_weaker : (step : Step) (P Q : Plan → Type 0) → ((plan : Plan) → P plan → Q plan) → IfDone step P → IfDone step Q
-done_weaker (Need p mode) P Q f told = tt
-done_weaker (Done plan) P Q f told = f plan told
-done_weaker Full P Q f told = tt
+done_weaker (Need p mode) P Q f outcome = tt
+done_weaker (Done plan) P Q f outcome = f plan outcome
+done_weaker Full P Q f outcome = tt

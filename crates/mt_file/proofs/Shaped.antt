@@ -1,4 +1,4 @@
--- A page of records is well formed where it is so in some way: of two records which one lies before the other can be told.
+-- A page of records is well formed where it is so in some way: of two records which one lies before the other can be reported.
 use Rattle.std.proofs.Common.{◌⊎◌, inl, inr, ◌<◌, ◌≤◌, ◌+◌, ℕ, List, arith}
 use Rattle.std.proofs.Props.{props}
 use Rattle.std.proofs.lemmas.Bool.{cases_lt}
@@ -11,7 +11,7 @@ shaped_of page some = record {
   zeros = ∥∥₁_elim some (hlevel props) (λ s. s.zeros);
   table = ∥∥₁_elim some (hlevel props) (λ s. s.table);
   each = ∥∥₁_elim some (hlevel props) (λ s. s.each);
-  apart = λ i below j under other. told (offset page i) (size page i) (offset page j) (size page j) (cases_lt (offset page i) (offset page j + size page j))
+  apart = λ i below j under other. outcome (offset page i) (size page i) (offset page j) (size page j) (cases_lt (offset page i) (offset page j + size page j))
       (λ late. ∥∥₁_elim some (hlevel props) (λ s. behind (offset page i) (size page i) (offset page j) (size page j) late (s.apart i below j under other)));
   room = ∥∥₁_elim some (hlevel props) (λ s. s.room);
 }
@@ -20,6 +20,6 @@ shaped_of page some = record {
     behind a n b m late (inl before) = absurd (omega arith)
     behind a n b m late (inr after) = after
 
-    told : (a n b m : ℕ) → (a < b + m) ⊎ (b + m ≤ a) → (a < b + m → a + n ≤ b) → (b + m ≤ a) ⊎ (a + n ≤ b)
-    told a n b m (inl late) f = inr (f late)
-    told a n b m (inr before) f = inl before
+    outcome : (a n b m : ℕ) → (a < b + m) ⊎ (b + m ≤ a) → (a < b + m → a + n ≤ b) → (b + m ≤ a) ⊎ (a + n ≤ b)
+    outcome a n b m (inl late) f = inr (f late)
+    outcome a n b m (inr before) f = inl before

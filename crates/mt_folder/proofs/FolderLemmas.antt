@@ -112,7 +112,7 @@ new_other name other bytes files apart =
 -- a device that is lent and comes back with the bytes of its file leaves each file as before
 pub lent_and_back : (old mid new : Files) (name bytes : List ℕ) → IsHeld old name bytes → IsLent old mid name → Puts mid new name bytes → AreKept old new
 lent_and_back old mid new name bytes held lent back = record {
-  told = back.told ∙ lent.told;
+  outcome = back.outcome ∙ lent.outcome;
   all = λ other. go other (bytes_eq other name) refl (is_some old) refl;
 }
   where
@@ -124,10 +124,10 @@ lent_and_back old mid new name bytes held lent back = record {
     go other false e k is = let apart : other ≢ name = λ same. let yes : bytes_eq other name ≡ true = (bytes_eq-Decides other name).1 same in cc in back.others other apart ∙ lent.others other apart
     go other true e true is =
         let same : other ≡ name = (bytes_eq-Decides other name).0 e in
-        let after : known_in new name ≡ Some bytes = back.held (back.told ∙ lent.told ∙ is) in
+        let after : known_in new name ≡ Some bytes = back.held (back.outcome ∙ lent.outcome ∙ is) in
         let before : known_in old name ≡ Some bytes = held is in
         ap (known_in new) same ∙ after ∙ sym before ∙ sym (ap (known_in old) same)
-    go other true e false is = nothing new other (back.told ∙ lent.told ∙ is) ∙ sym (nothing old other is)
+    go other true e false is = nothing new other (back.outcome ∙ lent.outcome ∙ is) ∙ sym (nothing old other is)
 
 -- the bytes of a file that is held, where they are known
 pub held_known : (files : Files) (name bytes : List ℕ) → IsHeld files name bytes → Rattle.std.specs.Option.IfSome (known_in files name) (λ held. bytes ≡ held)
@@ -139,7 +139,7 @@ held_known (Some f) name bytes held = let e : f name ≡ Some bytes = held refl 
 -- the file at the place of a name is given other bytes
 pub gave : (old new : List (List ℕ × List ℕ)) (place : ℕ) (name bytes : List ℕ) → Some place ≡ position (is_named name) old → Gives old new place bytes → Puts (Some (λ n. file_of n old)) (Some (λ n. file_of n new)) name bytes
 gave old new place name bytes at g = record {
-  told = refl;
+  outcome = refl;
   held = λ u. ap (file_of name) g.given ∙ put_at name bytes old place g.file at g.at;
   others = λ other apart. ap (file_of other) g.given ∙ put_other name other bytes old place g.file at g.at apart;
 }
@@ -147,7 +147,7 @@ gave old new place name bytes at g = record {
 -- a file of a name that there was not is added
 pub added : (old new : List (List ℕ × List ℕ)) (name bytes : List ℕ) → None ≡ position (is_named name) old → new ≡ old ++ (name, bytes) ∷ [] → Puts (Some (λ n. file_of n old)) (Some (λ n. file_of n new)) name bytes
 added old new name bytes none is = record {
-  told = refl;
+  outcome = refl;
   held = λ u. ap (file_of name) is ∙ put_new name bytes old none;
   others = λ other apart. ap (file_of other) is ∙ new_other name other bytes old apart;
 }
@@ -159,21 +159,21 @@ not_there files name none there = let none_held : file_of name files ≡ None = 
 -- ---- one change after another
 
 pub kept_still : (files : Files) → AreKept files files
-kept_still files = record { told = refl; all = λ name. refl }
+kept_still files = record { outcome = refl; all = λ name. refl }
 
 pub kept_then : (old mid new : Files) → AreKept old mid → AreKept mid new → AreKept old new
-kept_then old mid new before after = record { told = after.told ∙ before.told; all = λ name. after.all name ∙ before.all name }
+kept_then old mid new before after = record { outcome = after.outcome ∙ before.outcome; all = λ name. after.all name ∙ before.all name }
 
 pub put_then : (old mid new : Files) (name bytes : List ℕ) → AreKept old mid → Puts mid new name bytes → Puts old new name bytes
 put_then old mid new name bytes before after = record {
-  told = after.told ∙ before.told;
+  outcome = after.outcome ∙ before.outcome;
   held = after.held;
   others = λ other apart. after.others other apart ∙ before.all other;
 }
 
 pub lent_then : (old mid new : Files) (name : List ℕ) → AreKept old mid → IsLent mid new name → IsLent old new name
 lent_then old mid new name before after = record {
-  told = after.told ∙ before.told;
+  outcome = after.outcome ∙ before.outcome;
   there = after.there;
   others = λ other apart. after.others other apart ∙ before.all other;
 }
@@ -184,8 +184,8 @@ pub refused_before : (old mid : Files) (name : List ℕ) (why : Refusal) → Are
 refused_before old mid name why kept is = subst (λ (held : Option (List ℕ)). IsFileRefusal held why) (kept.all name) is
 
 still_none : (old mid : Files) → is_some mid ≡ is_some old → old ≡ None → mid ≡ None
-still_none old None told none = refl
-still_none old (Some files) told none = let bad : true ≡ false = told ∙ ap is_some none in cc
+still_none old None outcome none = refl
+still_none old (Some files) outcome none = let bad : true ≡ false = outcome ∙ ap is_some none in cc
 
 pub why_before : (old mid : Files) (why : Option Reason) → AreKept old mid → KnowsWhy mid why → KnowsWhy old why
-why_before old mid why kept knows = λ none. knows (still_none old mid kept.told none)
+why_before old mid why kept knows = λ none. knows (still_none old mid kept.outcome none)

@@ -50,17 +50,17 @@ IsThere files name = is_some files ≡ true → IsSome (known_in files name)
 
 -- each file as before
 pub record AreKept (old new : Files) : Type 0 where
-  pub told : is_some new ≡ is_some old
+  pub outcome : is_some new ≡ is_some old
   pub all : (name : List ℕ) → known_in new name ≡ known_in old name
 
 -- the file of this name is lent: what it has is not known until it is back, and each other one is as before
 pub record IsLent (old new : Files) (name : List ℕ) : Type 0 where
-  pub told : is_some new ≡ is_some old
+  pub outcome : is_some new ≡ is_some old
   pub there : IsThere new name
   pub others : (other : List ℕ) → other ≢ name → known_in new other ≡ known_in old other
 
 -- the file of this name has these bytes, and each other one is as before
 pub record Puts (old new : Files) (name bytes : List ℕ) : Type 0 where
-  pub told : is_some new ≡ is_some old
+  pub outcome : is_some new ≡ is_some old
   pub held : IsHeld new name bytes
   pub others : (other : List ℕ) → other ≢ name → known_in new other ≡ known_in old other

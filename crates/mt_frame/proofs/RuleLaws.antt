@@ -39,16 +39,16 @@ pub record Notes (old new : AreaRules) (r : Record) : Type 0 where
   pub finished : (t o : ℕ) → contains pair_cmp new.finished (t, o) ≡ (contains pair_cmp old.finished (t, o) || finishes t o r)
   pub undone : (t o : ℕ) → contains pair_cmp new.undone (t, o) ≡ (contains pair_cmp old.undone (t, o) || undoes_op t o r)
 
-told : (is : Record → Bool) (a b : Bool) (rs : List Record) (r : Record) → a ≡ (b || is r) → b ≡ some_record is rs → a ≡ some_record is (rs ++ r ∷ [])
-told is a b rs r now was = now ∙ ap (λ c. c || is r) was ∙ sym (some_record-push is rs r)
+outcome : (is : Record → Bool) (a b : Bool) (rs : List Record) (r : Record) → a ≡ (b || is r) → b ≡ some_record is rs → a ≡ some_record is (rs ++ r ∷ [])
+outcome is a b rs r now was = now ∙ ap (λ c. c || is r) was ∙ sym (some_record-push is rs r)
 
 pub Knows-push : (old new : AreaRules) (rs : List Record) (r : Record) → Notes old new r → Knows old rs → Knows new (rs ++ r ∷ [])
 Knows-push old new rs r n k = record {
-  ended = λ t. told (ends_txn t) _ _ rs r (n.ended t) (k.ended t);
-  imaged = λ p. told (is_of_page p) _ _ rs r (n.imaged p) (k.imaged p);
-  over = λ o. told (ends_op o) _ _ rs r (n.over o) (k.over o);
-  finished = λ t o. told (finishes t o) _ _ rs r (n.finished t o) (k.finished t o);
-  undone = λ t o. told (undoes_op t o) _ _ rs r (n.undone t o) (k.undone t o);
+  ended = λ t. outcome (ends_txn t) _ _ rs r (n.ended t) (k.ended t);
+  imaged = λ p. outcome (is_of_page p) _ _ rs r (n.imaged p) (k.imaged p);
+  over = λ o. outcome (ends_op o) _ _ rs r (n.over o) (k.over o);
+  finished = λ t o. outcome (finishes t o) _ _ rs r (n.finished t o) (k.finished t o);
+  undone = λ t o. outcome (undoes_op t o) _ _ rs r (n.undone t o) (k.undone t o);
 }
 
 -- ---- sets

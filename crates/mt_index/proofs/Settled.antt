@@ -370,31 +370,31 @@ misplaced_unsettled pages homes done b p marked real home wrong =
     let member = met (nodes pages) (IsMember pages homes b) b wrong.0.front p m.chain wrong.0.walk wrong.0.real m.linked m.each in
     (member.kind, λ settled. wrong.1 (subst (λ (c : ℕ). AreAlone pages c p) member.home settled.each))
 
--- where this is told of each page, all are settled
+-- where this is reported of each page, all are settled
 pub all_settled : (total : ℕ) (pages : PageBytes) (homes : List ℕ) (done : ℕ) → AreKinds total pages → AreMarked pages homes done → ((p : ℕ) → p < total → Settles pages homes p)
     → (p : ℕ) → kind pages p ≡ 2 → IsSettled pages homes p
-all_settled total pages homes done kinds marked told p two =
+all_settled total pages homes done kinds marked outcome p two =
     let below : (n : ℕ) → kind pages n ≡ 2 → n < total = λ n is. kinds.within n (λ z. let w : kind pages n ≡ 0 = z in omega (arith, is, w)) in
-    let some = (told p (below p two) two).home in
+    let some = (outcome p (below p two) two).home in
     let b = get_or homes p 0 in
     let r = marked.back p some in
     let m = subst (IsMarked pages homes) (sym r.2) (marked.each r.0 r.1) in
     let member = first_each (nodes pages) (IsMember pages homes b) b m.chain m.linked some m.each in
-    (told b (below b member.kind) member.kind).bucket member.home p refl
+    (outcome b (below b member.kind) member.kind).bucket member.home p refl
 
 -- ---- what an answer tells
 
 pub none_follows : {A : Type 0} (B : ℕ → Type 0) (o : Option ℕ) → o ≡ None → MatchOption o A B → A
-none_follows {A} B o none told = subst (λ (x : Option ℕ). MatchOption x A B) none told
+none_follows {A} B o none outcome = subst (λ (x : Option ℕ). MatchOption x A B) none outcome
 
 -- what follows from either answer, where one is given
 pub answer_follows : {E A C : Type 0} {B D : ℕ → Type 0} → (A → C) → ((p : ℕ) → B p → D p) → (r : Result (Option ℕ) E) → IfOk r (λ o. MatchOption o A B) → IfOk r (λ o. MatchOption o C D)
-answer_follows f g (Ok None) told = f told
-answer_follows f g (Ok (Some p)) told = g p told
-answer_follows f g (Err e) told = tt
+answer_follows f g (Ok None) outcome = f outcome
+answer_follows f g (Ok (Some p)) outcome = g p outcome
+answer_follows f g (Err e) outcome = tt
 
 -- what follows of a page that is named
 pub page_follows : {E : Type 0} (A : Type 0) {B C : ℕ → Type 0} → ((p : ℕ) → B p → C p) → (r : Result (Option ℕ) E) → IfOk r (λ o. MatchOption o A B) → IfOk r (λ o. IfSome o C)
-page_follows A g (Ok None) told = tt
-page_follows A g (Ok (Some p)) told = g p told
-page_follows A g (Err e) told = tt
+page_follows A g (Ok None) outcome = tt
+page_follows A g (Ok (Some p)) outcome = g p outcome
+page_follows A g (Err e) outcome = tt

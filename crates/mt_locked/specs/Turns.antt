@@ -41,9 +41,9 @@ abbrev pub HasTurned : {D : Type 0} → Ghosts D → Base → Type 0
 HasTurned g base = ∥ IsTurn g base ∥₁
 
 -- what a rotation makes of what is kept, and what it answers
-pub record IsRotation {D : Type 0} (g : Ghosts D) (commits : ℕ) (old new : KeptSeen) (told : Result Bool Refusal) : Type 0 where
+pub record IsRotation {D : Type 0} (g : Ghosts D) (commits : ℕ) (old new : KeptSeen) (outcome : Result Bool Refusal) : Type 0 where
   pub turned : IsTurned commits old new
-  pub why : IfErr told IsTurnFault
-  pub did : told ≡ Ok true → HasTurned g old.base
+  pub why : IfErr outcome IsTurnFault
+  pub did : outcome ≡ Ok true → HasTurned g old.base
   -- if no more than the device is left, it is refused
-  pub gone : new.is_left ≡ true → IsErr told
+  pub gone : new.is_left ≡ true → IsErr outcome

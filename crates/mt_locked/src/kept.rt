@@ -241,8 +241,12 @@ fn turn_kept<D: Device + Drop>(
     let Kept { held, past } = kept;
     match held {
         Ok(kernel) => {
-            let Turned { held, past, told } = turn(kernel, commits, alloc, frames);
-            (Kept { held, past }, told)
+            let Turned {
+                held,
+                past,
+                outcome,
+            } = turn(kernel, commits, alloc, frames);
+            (Kept { held, past }, outcome)
         }
         Err(device) => {
             let left = Kept {

@@ -52,12 +52,12 @@ impl Past {
 }
 
 // A book as contracts see it.
-pub(crate) fn told_of(book: &[Committed]) -> History<Committed>
+pub(crate) fn reported_of(book: &[Committed]) -> History<Committed>
     ensures { result.items ≡ book.now }
 {
-    let mut told = History::new();
+    let mut outcome = History::new();
     for done in book {
-        told = told.and(done);
+        outcome = outcome.and(done);
     }
-    told
+    outcome
 }

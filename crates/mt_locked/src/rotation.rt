@@ -6,7 +6,7 @@ ghost use Rattle.mt_restart.specs.TurnFaults.{IsTurnFault};
 ghost use Rattle.mt_locked.specs.Turns.{HasTurned};
 
 use crate::based::Based;
-use crate::past::{Past, told_of};
+use crate::past::{Past, reported_of};
 use mt_base::Refusal;
 use mt_disk::Device;
 use mt_restart::{NotRotated, rotate};
@@ -17,23 +17,23 @@ use std::alloc::Global;
 pub(crate) struct Turned<D: Device> {
     pub(crate) held: Result<Based<D>, D>,
     pub(crate) past: Past,
-    pub(crate) told: Result<bool, Refusal>,
+    pub(crate) outcome: Result<bool, Refusal>,
 }
 
 // The kernel, and what is answered.
-fn kept<D: Device>(kernel: Based<D>, told: Result<bool, Refusal>) -> Turned<D>
+fn kept<D: Device>(kernel: Based<D>, outcome: Result<bool, Refusal>) -> Turned<D>
     ensures held { result.held ≡ Ok kernel }
-    ensures told { result.told ≡ told }
+    ensures outcome { result.outcome ≡ outcome }
 {
     Turned {
         held: Ok(kernel),
         past: Past::none(),
-        told,
+        outcome,
     }
 }
 
 // What a refusal with the kernel comes to. But for these, a transaction lives.
-fn outcome(why: Refusal) -> Result<bool, Refusal>
+fn answer_to(why: Refusal) -> Result<bool, Refusal>
     ensures why { IfErr result IsTurnFault }
     ensures not { IfOk result (λ did. did ≡ false) }
     ensures fault { IsTurnFault why → IsErr result }
@@ -59,9 +59,9 @@ pub(crate) fn turn<D: Device + Drop>(
     frames: usize,
 ) -> Turned<D>
     ensures turned { IsTurned commits (whole kernel) (seen_of result.held result.past) }
-    ensures why { IfErr result.told IsTurnFault }
-    ensures did { result.told ≡ Ok true → HasTurned ⟦<D as Device>⟧ kernel.base }
-    ensures gone { (seen_of result.held result.past).is_left ≡ true → IsErr result.told }
+    ensures why { IfErr result.outcome IsTurnFault }
+    ensures did { result.outcome ≡ Ok true → HasTurned ⟦<D as Device>⟧ kernel.base }
+    ensures gone { (seen_of result.held result.past).is_left ≡ true → IsErr result.outcome }
 {
     if kernel.has_failed() {
         return kept(kernel, Err(Refusal::DeviceFailed));
@@ -74,25 +74,25 @@ pub(crate) fn turn<D: Device + Drop>(
 
 fn rotated<D: Device + Drop>(kernel: Based<D>, alloc: Global, frames: usize) -> Turned<D>
     ensures keeps { KeepsAll kernel (seen_of result.held result.past) }
-    ensures why { IfErr result.told IsTurnFault }
-    ensures did { result.told ≡ Ok true → HasTurned ⟦<D as Device>⟧ kernel.base }
-    ensures gone { (seen_of result.held result.past).is_left ≡ true → IsErr result.told }
+    ensures why { IfErr result.outcome IsTurnFault }
+    ensures did { result.outcome ≡ Ok true → HasTurned ⟦<D as Device>⟧ kernel.base }
+    ensures gone { (seen_of result.held result.past).is_left ≡ true → IsErr result.outcome }
 {
     let book = kernel.book();
     let len = book.len() as u64;
-    let told = told_of(book);
+    let reported = reported_of(book);
     let Based { kernel, base } = kernel;
     match rotate(alloc, kernel, frames) {
         Ok(kernel) => kept(Based { kernel, base }, Ok(true)),
-        Err(NotRotated::Kept(why, kernel)) => kept(Based { kernel, base }, outcome(why)),
+        Err(NotRotated::Kept(why, kernel)) => kept(Based { kernel, base }, answer_to(why)),
         Err(NotRotated::Ended(why, device)) => Turned {
             held: Err(device),
             past: Past {
                 len,
                 base,
-                book: told,
+                book: reported,
             },
-            told: outcome(why),
+            outcome: answer_to(why),
         },
     }
 }

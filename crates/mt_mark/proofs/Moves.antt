@@ -60,7 +60,7 @@ grow k seat made log list log' list' xs by v f p is same clear =
             base = h.base;
             holds = (h.holds.0 ++ xs, sym (append_assoc v.list h.holds.0 xs) ∙ (ap (λ l. l ++ xs) h.holds.1 ∙ is), NoneBy-append v.number h.holds.0 xs h.holds.2 (clear s));
           };
-      told = prefix_trans v.told list list' f.told p;
+      known = prefix_trans v.known list list' f.known p;
       sure = (let s = f.sure in let n = ap length is in omega (arith, length-append log xs));
     }
 
@@ -105,7 +105,7 @@ begins k n is legal =
   where
     one : (list : List Entry) → length k.book.value.items ≤ length list → (by : ℕ) (v : View) → get_elem? (first_end k ∷ []) by ≡ some v → Fits k (λ _. 0) 1 (labelled k.book.value.items) (labelled k.book.value.items) by v
     one list le zero v e = subst (Fits k (λ _. 0) 1 (labelled k.book.value.items) (labelled k.book.value.items) 0) (some-injective _ _ e)
-        record { keeper = λ _. record { first = refl; all = refl; made = refl; base = refl; book = refl }; pass = λ s. absurd (off s); told = (labelled k.book.value.items, refl); sure = omega (arith, length-labelled k.book.value.items) }
+        record { keeper = λ _. record { first = refl; all = refl; made = refl; base = refl; book = refl }; pass = λ s. absurd (off s); known = (labelled k.book.value.items, refl); sure = omega (arith, length-labelled k.book.value.items) }
     one list le (suc by) v e = absurd (some-ne-none v (sym e))
 
 -- a pass looks
@@ -121,7 +121,7 @@ looks k slots id v sees s h homes at range =
     let fw : Fits k h.seat h.made h.log h.list id w = record {
       keeper = λ q. absurd (off (sym p.apart ∙ q));
       pass = λ _. record { apart = p.apart; above = p.above; below = p.below; sits = p.sits; base = p.base; holds = ([], append-nil list ∙ is, tt) };
-      told = mine.told;
+      known = mine.known;
       sure = mine.sure;
     } in (
       w,
@@ -160,7 +160,7 @@ names k slots id v e keeper sure legal s h homes at range =
     let fw : Fits k h.seat h.made h.log list id w = record {
       keeper = λ q. record { first = p.first; all = refl; made = p.made; base = p.base; book = p.book };
       pass = λ q. absurd (off (sym (mine.pass q).apart ∙ keeper));
-      told = prefix_trans v.0.told h.list list mine.told longer;
+      known = prefix_trans v.0.known h.list list mine.known longer;
       sure = mine.sure;
     } in
     let other : (j : ℕ) (u : View) → j ≢ id → get_elem? s.views j ≡ some u → Fits k h.seat h.made h.log list j u =
@@ -181,32 +181,32 @@ names k slots id v e keeper sure legal s h homes at range =
         legal = subst (λ c. IsLegal c (dones list)) p.base legal;
         fits = views_set (Fits k h.seat h.made h.log list) s.views id w other fw;
       },
-      (refl, (e, refl, refl, subst (λ l. IsPrefix v.0.told l) (sym p.all) mine.told, sym same ∙ sym (word_is s.words (length h.log) h.word))),
+      (refl, (e, refl, refl, subst (λ l. IsPrefix v.0.known l) (sym p.all) mine.known, sym same ∙ sym (word_is s.words (length h.log) h.word))),
     )
 
 -- the pass whose entry is named enters it
-pub enters : (k : About) (slots id : ℕ) (v : Me Entry View) (at : ℕ) (pre : List Entry) (e : Entry) → v.0.sees ≡ true → v.0.told ≡ pre ++ e ∷ [] → e.pass ≡ v.0.number → length pre ≡ at → length v.0.list ≤ at → at ≤ v.0.sure
+pub enters : (k : About) (slots id : ℕ) (v : Me Entry View) (at : ℕ) (pre : List Entry) (e : Entry) → v.0.sees ≡ true → v.0.known ≡ pre ++ e ∷ [] → e.pass ≡ v.0.number → length pre ≡ at → length v.0.list ≤ at → at ≤ v.0.sure
     → Allows (Kept k) slots id v 0 (λ n. either (eqb n at) (at + 1) n) (Enters (step slots 0 at (at + 1) none) v)
-enters k slots id v at pre e sees told own long seen sure s h homes there range =
+enters k slots id v at pre e sees known own long seen sure s h homes there range =
     let b = k.base.value in
     let mine = h.fits id v.0 there in
     let p = mine.pass sees in
-    let told_length : length v.0.told ≡ at + 1 = (let l = ap length told in omega (arith, snoc_length pre e)) in
+    let reported_length : length v.0.known ≡ at + 1 = (let l = ap length known in omega (arith, snoc_length pre e)) in
     let here : length h.log ≡ at = dite (dec_le (at + 1) (length h.log))
-    (λ le. absurd (none_past v.0.number v.0.list p.holds.0 pre (prefix_shorter v.0.told h.log h.list mine.told h.begins (omega arith)).0 e
-    (p.holds.1 ∙ (sym (prefix_shorter v.0.told h.log h.list mine.told h.begins (omega arith)).1 ∙ (ap (λ l. l ++ (prefix_shorter v.0.told h.log h.list mine.told h.begins (omega arith)).0) told ∙ append_assoc pre (e ∷ []) (prefix_shorter v.0.told h.log h.list mine.told h.begins (omega arith)).0)))
+    (λ le. absurd (none_past v.0.number v.0.list p.holds.0 pre (prefix_shorter v.0.known h.log h.list mine.known h.begins (omega arith)).0 e
+    (p.holds.1 ∙ (sym (prefix_shorter v.0.known h.log h.list mine.known h.begins (omega arith)).1 ∙ (ap (λ l. l ++ (prefix_shorter v.0.known h.log h.list mine.known h.begins (omega arith)).0) known ∙ append_assoc pre (e ∷ []) (prefix_shorter v.0.known h.log h.list mine.known h.begins (omega arith)).0)))
     (omega arith) p.holds.2 own))
     (λ no. let r = mine.sure in omega arith) in
-    let whole : v.0.told ≡ h.list = prefix_whole v.0.told h.list mine.told (let n = h.near in omega arith) in
+    let whole : v.0.known ≡ h.list = prefix_whole v.0.known h.list mine.known (let n = h.near in omega arith) in
     let next = h.begins.0 in
-    let parts = same_front pre h.log (e ∷ []) next (sym told ∙ (whole ∙ sym h.begins.1)) (omega arith) in
+    let parts = same_front pre h.log (e ∷ []) next (sym known ∙ (whole ∙ sym h.begins.1)) (omega arith) in
     let one : next ≡ e ∷ [] = sym parts.1 in
-    let w : View = record v.0 { list = v.0.told } in
+    let w : View = record v.0 { list = v.0.known } in
     let word : slice_index s.words 0 ≡ at = word_is s.words (length h.log) h.word ∙ here in
     let fw : Fits k h.seat h.made h.list h.list id w = record {
       keeper = λ q. absurd (off (sym p.apart ∙ q));
-      pass = λ _. record { apart = p.apart; above = p.above; below = p.below; sits = p.sits; base = p.base; holds = ([], append-nil v.0.told ∙ whole, tt) };
-      told = mine.told;
+      pass = λ _. record { apart = p.apart; above = p.above; below = p.below; sits = p.sits; base = p.base; holds = ([], append-nil v.0.known ∙ whole, tt) };
+      known = mine.known;
       sure = (let r = mine.sure in let q = prefix_length h.log h.list h.begins in omega arith);
     } in
     let other : (j : ℕ) (u : View) → j ≢ id → get_elem? s.views j ≡ some u → Fits k h.seat h.made h.list h.list j u =
@@ -220,7 +220,7 @@ enters k slots id v at pre e sees told own long seen sure s h homes there range 
         seat = h.seat;
         log = h.list;
         list = h.list;
-        word = word_to s.words (length h.log) (length h.list) (either (eqb (slice_index s.words 0) at) (at + 1) (slice_index s.words 0)) h.word (new_word (slice_index s.words 0) at word ∙ (sym told_length ∙ ap length whole));
+        word = word_to s.words (length h.log) (length h.list) (either (eqb (slice_index s.words 0) at) (at + 1) (slice_index s.words 0)) h.word (new_word (slice_index s.words 0) at word ∙ (sym reported_length ∙ ap length whole));
         one = h.one;
         from = from_next k.book.value.items h.made h.log h.list e h.from (ap (λ l. h.log ++ l) (sym one) ∙ h.begins.1) (subst (λ n. 1 ≤ n) (sym own) p.above) (subst (λ n. n < h.made) (sym own) p.below);
         begins = prefix_self h.list;
@@ -228,22 +228,22 @@ enters k slots id v at pre e sees told own long seen sure s h homes there range 
         legal = h.legal;
         fits = views_set (Fits k h.seat h.made h.list h.list) s.views id w other fw;
       },
-      (refl, refl, word, (pre, e, told, (p.holds.0, p.holds.1 ∙ sym parts.0, p.holds.2))),
+      (refl, refl, word, (pre, e, known, (p.holds.0, p.holds.1 ∙ sym parts.0, p.holds.2))),
     )
 
--- a pass has seen just what it was told
-pub settles : (k : About) (slots id : ℕ) (v : Me Entry View) → v.0.sees ≡ true → IsPrefix v.0.list v.0.told → length v.0.told ≤ v.0.sure → Allows (Kept k) slots id v 0 (λ n. n) (Settles (step slots 0 0 0 none) v)
+-- a pass has seen just what it was reported
+pub settles : (k : About) (slots id : ℕ) (v : Me Entry View) → v.0.sees ≡ true → IsPrefix v.0.list v.0.known → length v.0.known ≤ v.0.sure → Allows (Kept k) slots id v 0 (λ n. n) (Settles (step slots 0 0 0 none) v)
 settles k slots id v sees longer sure s h homes at range =
     let b = k.base.value in
     let mine = h.fits id v.0 at in
     let p = mine.pass sees in
-    let front : IsPrefix v.0.told h.log = prefix_shorter v.0.told h.log h.list mine.told h.begins (let r = mine.sure in omega arith) in
+    let front : IsPrefix v.0.known h.log = prefix_shorter v.0.known h.log h.list mine.known h.begins (let r = mine.sure in omega arith) in
     let split : p.holds.0 ≡ longer.0 ++ front.0 = append_cancel v.0.list p.holds.0 (longer.0 ++ front.0) (p.holds.1 ∙ (sym front.1 ∙ (ap (λ l. l ++ front.0) (sym longer.1) ∙ append_assoc v.0.list longer.0 front.0))) in
-    let w : View = record v.0 { list = v.0.told } in
+    let w : View = record v.0 { list = v.0.known } in
     let fw : Fits k h.seat h.made h.log h.list id w = record {
       keeper = λ q. absurd (off (sym p.apart ∙ q));
       pass = λ _. record { apart = p.apart; above = p.above; below = p.below; sits = p.sits; base = p.base; holds = (front.0, front.1, NoneBy-back v.0.number longer.0 front.0 (subst (NoneBy v.0.number) split p.holds.2)) };
-      told = mine.told;
+      known = mine.known;
       sure = mine.sure;
     } in (
       w,
@@ -291,14 +291,14 @@ checks k slots id v keeper sure s h homes at range =
       },
       (
         refl,
-        subst (λ l. IsPrefix v.0.told l) (sym p.all) mine.told,
+        subst (λ l. IsPrefix v.0.known l) (sym p.all) mine.known,
         sym same ∙ sym (word_is s.words (length h.log) h.word),
         subst (λ (x : List Committed × ℕ × List Entry). IsFrom x.0 x.1 x.2) (λ i. (sym p.book i, sym p.made i, (whole ∙ sym p.all) i)) h.from,
       ),
     )
 
-fits_note : (k : About) (seat : ℕ → ℕ) (made : ℕ) (log list : List Entry) (by : ℕ) (v : View) (told : List Entry) (sure : ℕ) → IsPrefix told list → sure ≤ length log → Fits k seat made log list by (note v told sure)
-fits_note k seat made log list by v told sure p le = record { keeper = λ q. absurd (off q); pass = λ q. absurd (off q); told = p; sure = le }
+fits_note : (k : About) (seat : ℕ → ℕ) (made : ℕ) (log list : List Entry) (by : ℕ) (v : View) (known : List Entry) (sure : ℕ) → IsPrefix known list → sure ≤ length log → Fits k seat made log list by (note v known sure)
+fits_note k seat made log list by v known sure p le = record { keeper = λ q. absurd (off q); pass = λ q. absurd (off q); known = p; sure = le }
 
 -- a view that stays, and a new one
 splits_keep : (k : About) (s : State Entry View) (id : ℕ) (v right : View) (h : Kept k s) → get_elem? s.views id ≡ some v → ((by : ℕ) → Fits k h.seat h.made h.log h.list by right)
@@ -341,10 +341,10 @@ hears k id v other u s h at apart there =
     let now : F id (heard v u) = record {
       keeper = λ q. let e = mine.keeper q in record { first = e.first; all = e.all; made = e.made; base = e.base; book = e.book };
       pass = λ q. let e = mine.pass q in record { apart = e.apart; above = e.above; below = e.below; sits = e.sits; base = e.base; holds = e.holds };
-      told = theirs.told;
+      known = theirs.known;
       sure = (let x = mine.sure in let y = theirs.sure in omega arith);
     } in
-    let gone : F other spent = record { keeper = λ q. absurd (off q); pass = λ q. absurd (off q); told = (h.list, refl); sure = omega arith } in
+    let gone : F other spent = record { keeper = λ q. absurd (off q); pass = λ q. absurd (off q); known = (h.list, refl); sure = omega arith } in
     record {
       made = h.made;
       seat = h.seat;
@@ -383,19 +383,19 @@ new_passes k id v keeper sure s h at =
     record {
       keeper = λ q. absurd (away ((f.keeper q).first ∙ sym p.first));
       pass = λ q. let g = f.pass q in record { apart = g.apart; above = g.above; below = (let l = g.below in omega arith); sits = sits_old h.seat h.made (length left) u.number g.below ∙ g.sits; base = g.base; holds = g.holds };
-      told = f.told;
+      known = f.known;
       sure = f.sure;
     } in
     let now : F id (one_more v) = record {
       keeper = λ q. record { first = p.first; all = p.all; made = ap (λ m. m + 1) p.made; base = p.base; book = p.book };
       pass = λ q. absurd (off (sym (mine.pass q).apart ∙ keeper));
-      told = mine.told;
+      known = mine.known;
       sure = mine.sure;
     } in
     let comes : F (length left) (new_pass v) = record {
       keeper = λ q. absurd (off q);
       pass = λ _. record { apart = refl; above = (let m = p.made in let o = h.one in omega arith); below = (let m = p.made in omega arith); sits = sits_new h.seat h.made (length left) v.made p.made; base = p.base; holds = ([], append-nil v.list ∙ (p.all ∙ sym same), tt) };
-      told = (h.list, refl);
+      known = (h.list, refl);
       sure = omega arith;
     } in
     record {

@@ -77,7 +77,7 @@ impl Seat {
         requires { self.old.mark ≡ end.old.mark }
         ensures end { end.new ≡ end.old }
         ensures mark { self.new.mark ≡ self.old.mark }
-        ensures told { self.new.view ≡ heard self.old.view (end_note end.old.view) }
+        ensures known { self.new.view ≡ heard self.old.view (end_note end.old.view) }
     {
         let note = end.word.shared.split_seat::<EndNote>(&mut end.place);
         self.word.shared.join_seat::<Hear>(&mut self.place, note);
@@ -90,7 +90,7 @@ impl Seat {
         requires named { CanEnter self.old.view at }
         ensures mark { self.new.mark ≡ self.old.mark }
         ensures entered { result ≡ true }
-        ensures seen { self.new.view ≡ record self.old.view { list = self.old.view.told } }
+        ensures seen { self.new.view ≡ record self.old.view { list = self.old.view.known } }
         ensures others { OthersThen self.old.view }
     {
         let found = self
@@ -102,11 +102,11 @@ impl Seat {
 
     // Has seen just what the last note named.
     fn settle(&mut self)
-        requires longer { IsPrefix self.old.view.list self.old.view.told }
-        requires sure { length self.old.view.told ≤ self.old.view.sure }
+        requires longer { IsPrefix self.old.view.list self.old.view.known }
+        requires sure { length self.old.view.known ≤ self.old.view.sure }
         ensures mark { self.new.mark ≡ self.old.mark }
-        ensures seen { self.new.view ≡ record self.old.view { list = self.old.view.told } }
-        ensures others { Holds self.old.view.number self.old.view.list self.old.view.told }
+        ensures seen { self.new.view ≡ record self.old.view { list = self.old.view.known } }
+        ensures others { Holds self.old.view.number self.old.view.list self.old.view.known }
     {
         self.word.shared.load::<Settle>(&mut self.place, 0);
     }
@@ -190,7 +190,7 @@ impl End {
         requires legal { IsLegal self.old.view.base (dones (self.old.view.list ++ entry.now ∷ [])) }
         ensures mark { self.new.mark ≡ self.old.mark }
         ensures named { self.new.view ≡ record self.old.view { list = self.old.view.list ++ entry.now ∷ [] } }
-        ensures told { IsPrefix self.old.view.told self.old.view.list }
+        ensures known { IsPrefix self.old.view.known self.old.view.list }
         ensures stands { result ≡ length self.old.view.list }
     {
         self.word
@@ -203,7 +203,7 @@ impl End {
         requires { self.old.mark ≡ seat.old.mark }
         ensures seat { seat.new ≡ seat.old }
         ensures mark { self.new.mark ≡ self.old.mark }
-        ensures told { self.new.view ≡ heard self.old.view (pass_note seat.old.view) }
+        ensures known { self.new.view ≡ heard self.old.view (pass_note seat.old.view) }
     {
         let note = seat.word.shared.split_seat::<PassNote>(&mut seat.place);
         self.word.shared.join_seat::<Hear>(&mut self.place, note);
@@ -250,7 +250,7 @@ impl End {
     pub fn check(&mut self) -> u64
         requires confirmed { IsConfirmed self.old.view }
         ensures same { self.new ≡ self.old }
-        ensures told { IsPrefix self.old.view.told self.old.view.list }
+        ensures known { IsPrefix self.old.view.known self.old.view.list }
         ensures stands { result ≡ length self.old.view.list }
         ensures from { IsFrom self.old.view.book self.old.view.made self.old.view.list }
     {

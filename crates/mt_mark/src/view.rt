@@ -22,8 +22,8 @@ pub struct About {
 /// What a seat of the mark knows. No value of it is made: contracts alone see one.
 ///
 /// The end `keeps` the list, and may have named one entry more than the word counts. A pass `sees` a
-/// beginning of the history. By a note each is `told` of the other's list, which begins the end's, and that
-/// `sure` entries at least are counted. `made` is one more than there are passes, whose numbers are those below
+/// beginning of the history. A note gives each the other's list as its `known`, which begins the end's, and says
+/// that `sure` entries at least are counted. `made` is one more than there are passes, whose numbers are those below
 /// it from 1 on. `base` is the base at the opening, and `book` the book that stood when the mark was made.
 pub struct View {
     pub keeps: bool,
@@ -31,7 +31,7 @@ pub struct View {
     pub number: u64,
     pub made: u64,
     pub list: LinkedList<Entry>,
-    pub told: LinkedList<Entry>,
+    pub known: LinkedList<Entry>,
     pub sure: u64,
     pub base: Base,
     pub book: LinkedList<Committed>,

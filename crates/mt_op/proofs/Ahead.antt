@@ -26,7 +26,7 @@ use Rattle.mt_op.specs.declared.scope.Stage.{Stage}
 use Rattle.mt_op.specs.declared.scope.Stage.TheVariants.{Writing}
 use Rattle.mt_op.specs.declared.space_map.SpaceMap.{SpaceMap}
 use Rattle.mt_op.proofs.Chosen.{steps_then}
-use Rattle.mt_op.proofs.Faulting.{told_behind}
+use Rattle.mt_op.proofs.Faulting.{reported_behind}
 use Rattle.mt_op.proofs.Keeping.{same_records}
 use Rattle.mt_op.proofs.Staying.{rests_own}
 use Rattle.mt_op.proofs.Written.{rests_goes_as}
@@ -98,7 +98,7 @@ module _ {D : Type 0} (seen : D → List ℕ) (may_leave : D → List ℕ → Ty
   -- nothing but what is in frames has changed
   pub idle_ahead : (r : Result Stepped Refusal) → IsIdle r → s.stage ≡ Writing → HasBudget s → (r ≡ Ok stepped.Flush → IsFull o.store.pool × (m ≡ o)) → IfErr r IsCause
       → TellsFaults (failures o.store.device) (failures m.store.device) r → GoesAhead seen may_leave moment left_since failures o m s s r
-  idle_ahead r idle writing budget full why told = record {
+  idle_ahead r idle writing budget full why outcome = record {
     steps = λ opening relations counters ok k few some.
         (right opening relations counters ok, idle_steps relations counters (world seen opening o) (world seen opening m) s s r idle (rests_goes_as relations counters (world seen opening o) (world seen opening m) s (rests opening) k));
     moments = moments;
@@ -118,7 +118,7 @@ module _ {D : Type 0} (seen : D → List ℕ) (may_leave : D → List ℕ → Ty
     err = idle_err s r idle;
     flush = λ is. refl;
     why = why;
-    faults = told;
+    faults = outcome;
   }
 
   -- a call behind it that does not touch the device
@@ -146,5 +146,5 @@ module _ {D : Type 0} (seen : D → List ℕ) (may_leave : D → List ℕ → Ty
     err = a.err;
     flush = a.flush;
     why = a.why;
-    faults = told_behind (failures o.store.device) (failures m.store.device) (failures n.store.device) r unfailed a.faults;
+    faults = reported_behind (failures o.store.device) (failures m.store.device) (failures n.store.device) r unfailed a.faults;
   }

@@ -23,7 +23,7 @@ use Rattle.mt_op.specs.declared.operations.Operations.{Operations}
 use Rattle.mt_op.specs.declared.scope.OpScope.{OpScope}
 use Rattle.mt_op.specs.declared.scope.Stage.TheVariants.{Planning, Writing, Taking, Cleared}
 use Rattle.mt_op.specs.declared.space_map.SpaceMap.{SpaceMap}
-use Rattle.mt_op.proofs.Faulting.{no_fault, no_fault_ok, told_behind}
+use Rattle.mt_op.proofs.Faulting.{no_fault, no_fault_ok, reported_behind}
 use Rattle.mt_op.proofs.Going.{goes_behind}
 use Rattle.mt_op.proofs.Restored.{clears_goes}
 use Rattle.mt_op.proofs.Staying.{rests_own}
@@ -113,7 +113,7 @@ module _ {D : Type 0} (seen : D → List ℕ) (may_leave : D → List ℕ → Ty
   -- nothing but what is in frames has changed
   pub takes_none : (r : Result TakenBack Refusal) → TakesNone r → HasBudget s → (r ≡ Ok taken.Flush → IsFull o.store.pool × (m ≡ o)) → IfErr r IsCause → TellsFaults (failures o.store.device) (failures m.store.device) r
       → TakesBack seen may_leave moment left_since failures o m s s r
-  takes_none r none budget full why told = record {
+  takes_none r none budget full why outcome = record {
     goes = λ opening relations counters ok k. (right opening relations counters ok, rests_goes_as relations counters (world seen opening o) (world seen opening m) s (rests opening) k);
     moments = moments;
     more = λ is. absurd (none_more r none is);
@@ -130,7 +130,7 @@ module _ {D : Type 0} (seen : D → List ℕ) (may_leave : D → List ℕ → Ty
     flush = λ is. refl;
     full = full;
     why = why;
-    faults = told;
+    faults = outcome;
   }
 
   -- a page that is in a frame is put back
@@ -155,5 +155,5 @@ module _ {D : Type 0} (seen : D → List ℕ) (may_leave : D → List ℕ → Ty
     flush = λ is. absurd (b.never is);
     full = λ is. absurd (b.never is);
     why = cause_of r b.only_memory;
-    faults = told_behind (failures o.store.device) (failures m.store.device) (failures n.store.device) r unfailed (no_fault (failures m.store.device) (failures n.store.device) r b.only_memory (ap failures b.device));
+    faults = reported_behind (failures o.store.device) (failures m.store.device) (failures n.store.device) r unfailed (no_fault (failures m.store.device) (failures n.store.device) r b.only_memory (ap failures b.device));
   }

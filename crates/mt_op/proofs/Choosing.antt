@@ -33,7 +33,7 @@ use Rattle.mt_file.specs.declared.rooms.Rooms.{Rooms}
 use Rattle.mt_op.specs.declared.space_map.SpaceMap.{SpaceMap}
 use Rattle.mt_op.proofs.Ahead.{IsIdle, idle_works, idle_asks}
 use Rattle.mt_op.proofs.Chosen.{on_steps, steps_then}
-use Rattle.mt_op.proofs.Faulting.{no_fault, told_ok, told_err, told_behind}
+use Rattle.mt_op.proofs.Faulting.{no_fault, reported_ok, reported_err, reported_behind}
 use Rattle.mt_op.proofs.Going.{goes_on_behind, planning_of, rests_same}
 use Rattle.mt_op.proofs.Keeping.{same_keeps, same_records, stays_same, same_scope, ahead_scope, made_scope}
 use Rattle.mt_op.proofs.Staying.{rests_own, own_kept, open_same}
@@ -72,7 +72,7 @@ module _ {D : Type 0} (seen : D → List ℕ) (may_leave : D → List ℕ → Ty
   -- nothing but what is in frames has changed
   pub idle_locks : (r : Result Stepped Refusal) → IsIdle r → (r ≡ Ok stepped.Flush → IsFull o.store.pool × (m ≡ o)) → IfErr r IsCause
       → TellsFaults (failures o.store.device) (failures m.store.device) r → LocksPage seen may_leave moment left_since failures o m s s r
-  idle_locks r idle full why told = record {
+  idle_locks r idle full why outcome = record {
     goes = λ opening relations counters ok k.
         (right opening relations counters ok, idle_goes_on relations counters (world seen opening o) (world seen opening m) s s r idle (rests_goes_as relations counters (world seen opening o) (world seen opening m) s (rests opening) k));
     moments = moments;
@@ -84,7 +84,7 @@ module _ {D : Type 0} (seen : D → List ℕ) (may_leave : D → List ℕ → Ty
     locks = same_keeps s.number (IsNext o.rooms o.locks s) o.locks m.locks r (idle_asks r idle) locks;
     scope = same_scope s r (idle_asks r idle);
     why = why;
-    faults = told;
+    faults = outcome;
   }
 
   -- it is asked for behind it
@@ -107,7 +107,7 @@ module _ {D : Type 0} (seen : D → List ℕ) (may_leave : D → List ℕ → Ty
     locks = subst (λ (x : Rooms). KeepsLocks s.number (IsNext x o.locks s) o.locks n.locks r) rooms (subst (λ (ls : List PageLock). KeepsLocks s.number (IsNext m.rooms ls s) ls n.locks r) locks keeps);
     scope = scope;
     why = cause_memory r memory;
-    faults = told_behind (failures o.store.device) (failures m.store.device) (failures n.store.device) r unfailed (no_fault (failures m.store.device) (failures n.store.device) r memory (ap (λ (x : Store D). failures x.device) store));
+    faults = reported_behind (failures o.store.device) (failures m.store.device) (failures n.store.device) r unfailed (no_fault (failures m.store.device) (failures n.store.device) r memory (ap (λ (x : Store D). failures x.device) store));
   }
 
 -- ---- a step that plans
@@ -185,7 +185,7 @@ module _ {D : Type 0} (seen : D → List ℕ) (may_leave : D → List ℕ → Ty
     locks = l.locks;
     scope = l.scope;
     why = tt;
-    faults = told_ok (failures o.store.device) (failures n.store.device) (Ok a) a (Some a) refl l.faults;
+    faults = reported_ok (failures o.store.device) (failures n.store.device) (Ok a) a (Some a) refl l.faults;
   }
 
   pub locked_err : (why : Refusal) → HasBudget s → LocksPage seen may_leave moment left_since failures o n s t (Err why) → PlansOn seen may_leave moment left_since failures o n s t (Err why)
@@ -203,7 +203,7 @@ module _ {D : Type 0} (seen : D → List ℕ) (may_leave : D → List ℕ → Ty
     locks = l.locks;
     scope = l.scope;
     why = l.why;
-    faults = told_err (failures o.store.device) (failures n.store.device) (Err why) (Err why) why refl refl l.faults;
+    faults = reported_err (failures o.store.device) (failures n.store.device) (Err why) (Err why) why refl refl l.faults;
   }
 
 -- ---- a page of the plan is locked to be written
@@ -310,7 +310,7 @@ module _ {D : Type 0} (seen : D → List ℕ) (may_leave : D → List ℕ → Ty
     writing = λ writing. p.locks;
     went = λ writing is. absurd cc;
     why = p.why;
-    faults = told_err (failures o.store.device) (failures n.store.device) (Err why) (Err why) why refl refl p.faults;
+    faults = reported_err (failures o.store.device) (failures n.store.device) (Err why) (Err why) why refl refl p.faults;
   }
 
   -- it goes on planning
@@ -333,7 +333,7 @@ module _ {D : Type 0} (seen : D → List ℕ) (may_leave : D → List ℕ → Ty
     writing = λ writing. absurd (not_writing s planning writing);
     went = λ writing. absurd (not_writing s planning writing);
     why = tt;
-    faults = told_ok (failures o.store.device) (failures n.store.device) (Ok (Some a)) (Some a) a refl p.faults;
+    faults = reported_ok (failures o.store.device) (failures n.store.device) (Ok (Some a)) (Some a) a refl p.faults;
   }
 
   -- its plan is made, and it goes ahead
@@ -362,5 +362,5 @@ module _ {D : Type 0} (seen : D → List ℕ) (may_leave : D → List ℕ → Ty
         writing = λ writing. absurd (not_writing s planning writing);
         went = λ writing. absurd (not_writing s planning writing);
         why = a.why;
-        faults = told_behind (failures o.store.device) (failures n.store.device) (failures z.store.device) r (ap (λ (x : Operations D). failures x.store.device) made.0) a.faults;
+        faults = reported_behind (failures o.store.device) (failures n.store.device) (failures z.store.device) r (ap (λ (x : Operations D). failures x.store.device) made.0) a.faults;
       }

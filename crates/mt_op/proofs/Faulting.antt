@@ -18,12 +18,12 @@ no_fault before now r only same = record { later = omega arith; failed = λ is. 
 pub no_fault_ok : {T : Type 0} (before now : ℕ) (x : T) → now ≡ before → TellsFaults before now (Ok x)
 no_fault_ok before now x same = record { later = omega arith; failed = λ is. absurd cc; quiet = λ other. same }
 
--- an answer tells what the one that it was made of told
-pub told_ok : {T U : Type 0} (before now : ℕ) (r : Result T Refusal) (x : T) (y : U) → r ≡ Ok x → TellsFaults before now r → TellsFaults before now (Ok y)
-told_ok before now r x y is f = no_fault_ok before now y (f.quiet (λ e. absurd cc))
+-- an answer tells what the one that it was made of reported
+pub reported_ok : {T U : Type 0} (before now : ℕ) (r : Result T Refusal) (x : T) (y : U) → r ≡ Ok x → TellsFaults before now r → TellsFaults before now (Ok y)
+reported_ok before now r x y is f = no_fault_ok before now y (f.quiet (λ e. absurd cc))
 
-pub told_err : {T U : Type 0} (before now : ℕ) (r : Result T Refusal) (q : Result U Refusal) (why : Refusal) → r ≡ Err why → q ≡ Err why → TellsFaults before now r → TellsFaults before now q
-told_err before now r q why is same f = record {
+pub reported_err : {T U : Type 0} (before now : ℕ) (r : Result T Refusal) (q : Result U Refusal) (why : Refusal) → r ≡ Err why → q ≡ Err why → TellsFaults before now r → TellsFaults before now q
+reported_err before now r q why is same f = record {
   later = f.later;
   failed = λ e. f.failed (is ∙ ap Err (err_is q why same e));
   quiet = λ other. f.quiet (λ e. other (same ∙ ap Err (err_is r why is e)));
@@ -33,12 +33,12 @@ told_err before now r q why is same f = record {
     err_is x why is e = cc
 
 -- a call behind one in which the device did not fail
-pub told_behind : {T : Type 0} (before m now : ℕ) (r : Result T Refusal) → m ≡ before → TellsFaults m now r → TellsFaults before now r
-told_behind before m now r same f = subst (λ (n : ℕ). TellsFaults n now r) same f
+pub reported_behind : {T : Type 0} (before m now : ℕ) (r : Result T Refusal) → m ≡ before → TellsFaults m now r → TellsFaults before now r
+reported_behind before m now r same f = subst (λ (n : ℕ). TellsFaults n now r) same f
 
 -- the device failed in it
-pub fault_told : {T U V : Type 0} (before now : ℕ) (r : Result T U) (why : U) (q : Result V Refusal) → HasCause before now r → r ≡ Err why → q ≡ Err refusal.DeviceFailed → TellsFaults before now q
-fault_told before now r why q f is told = record { later = f.later; failed = λ e. f.failed (ap is_err is); quiet = λ other. absurd (other told) }
+pub fault_reported : {T U V : Type 0} (before now : ℕ) (r : Result T U) (why : U) (q : Result V Refusal) → HasCause before now r → r ≡ Err why → q ≡ Err refusal.DeviceFailed → TellsFaults before now q
+fault_reported before now r why q f is outcome = record { later = f.later; failed = λ e. f.failed (ap is_err is); quiet = λ other. absurd (other outcome) }
 
 -- it did not
 pub unfailed : {T U : Type 0} (before now : ℕ) (r : Result T U) (x : T) → HasCause before now r → r ≡ Ok x → now ≡ before

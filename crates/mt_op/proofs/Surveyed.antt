@@ -107,10 +107,10 @@ module _ {D : Type 0} (seen : D → List ℕ) (may_leave : D → List ℕ → Ty
   pub counters_page : (relations : ℕ) (o : Operations D) (bytes : List ℕ) → ((opening : PageBytes) (counters : ℕ) → IsRight seen may_leave opening relations counters o → bytes ≡ held_in (world seen opening o) 2) → IsIdle seen may_leave relations o
       → (get_or bytes 0 0 ≡ relations) × AreCounters (get_or bytes 0 0) (get_or bytes 1 0) bytes
   counters_page relations o bytes is idle = (
-    ∥∥₁_elim idle (hlevel props) (λ (opening, counters, right, free). (subst (AreCounters relations counters) (sym (is opening counters right)) right.sound.good.counts).relations_told),
+    ∥∥₁_elim idle (hlevel props) (λ (opening, counters, right, free). (subst (AreCounters relations counters) (sym (is opening counters right)) right.sound.good.counts).relations_reported),
     ∥∥₁_elim idle (hlevel (props, ints)) (λ (opening, counters, right, free).
         let are = subst (AreCounters relations counters) (sym (is opening counters right)) right.sound.good.counts in
-        subst (λ (X : Type 0). X) (λ i. AreCounters (sym are.relations_told i) (sym are.counters_told i) bytes) are),
+        subst (λ (X : Type 0). X) (λ i. AreCounters (sym are.relations_reported i) (sym are.counters_reported i) bytes) are),
   )
 
 -- ---- pages of records
@@ -142,9 +142,9 @@ pub same_base : (relations counters total : ℕ) (pages : PageBytes) (held b non
 same_base relations counters total pages held b none bytes good holds same counted kept listed = record {
   rows = all_listed pages total b held inside holds.rows listed;
   counts = λ c lt.
-      let told : get_or (pages 2) 1 0 ≡ counters = good.counts.counters_told in
-      let here : c < get_or bytes 1 0 = subst (λ (xs : List ℕ). c < get_or xs 1 0) (sym same) (omega (arith, told)) in
-      ap (λ f. f c) kept ∙ counted c here ∙ ap (λ (xs : List ℕ). count_in xs c) same ∙ sym (holds.counts c (omega (arith, told)));
+      let outcome : get_or (pages 2) 1 0 ≡ counters = good.counts.counters_reported in
+      let here : c < get_or bytes 1 0 = subst (λ (xs : List ℕ). c < get_or xs 1 0) (sym same) (omega (arith, outcome)) in
+      ap (λ f. f c) kept ∙ counted c here ∙ ap (λ (xs : List ℕ). count_in xs c) same ∙ sym (holds.counts c (omega (arith, outcome)));
 }
   where
     inside : (q s : ℕ) (row : Row) → record_in pages q s ≡ Some row → q < total

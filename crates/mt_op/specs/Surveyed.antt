@@ -31,6 +31,6 @@ pub record OnlyReads {D : Type 0} (seen : D → List ℕ) (may_leave : D → Lis
 pub record IsSurvey (relations counters total : ℕ) (pages : PageBytes) (held : Base) (survey : Survey) : Type 0 where
   pub depth : survey.depth ≡ depth_in (pages 1)
   pub free : survey.free ≡ free_pages total pages
-  pub relations_told : relations_of survey.base ≡ relations
-  pub counters_told : length (counters_of survey.base) ≡ counters
+  pub relations_reported : relations_of survey.base ≡ relations
+  pub counters_reported : length (counters_of survey.base) ≡ counters
   pub base : IsSame counters (base_of survey.base) held

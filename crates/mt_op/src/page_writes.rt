@@ -91,7 +91,7 @@ impl<D: Device> Operations<D> {
         ensures { EndsOperation D.seen D.may_leave D.moment D.left_since D.faults
             self.old self.new scope.old scope.new result }
     {
-        let (answer, done) = told(scope)?;
+        let (answer, done) = outcome(scope)?;
         if let Some(done) = done {
             self.append_end(scope, done)?;
         }
@@ -211,13 +211,13 @@ fn made_ready(scope: &mut OpScope) -> Reply
 }
 
 // A copy of an operation's reply, and what its end logs of it.
-fn told(scope: &OpScope) -> Result<(Reply, Option<LoggedOp>), Refusal>
+fn outcome(scope: &OpScope) -> Result<(Reply, Option<LoggedOp>), Refusal>
     requires { IsSome scope.now.reply }
-    ensures reply { IfOk result (λ told. scope.now.reply ≡ Some told.0) }
-    ensures logged { IfOk result (λ told. told.1 ≡ logged_of scope.now.op told.0) }
+    ensures reply { IfOk result (λ outcome. scope.now.reply ≡ Some outcome.0) }
+    ensures logged { IfOk result (λ outcome. outcome.1 ≡ logged_of scope.now.op outcome.0) }
     ensures operation { (relations counters : ℕ) → relations ≤ MAX_RELATIONS → counters ≤ MAX_COUNTERS
         → IsWithin relations counters scope.now.op
-        → IfOk result (λ told. HasSmallReply told.0 → IfSome told.1 IsOperation) }
+        → IfOk result (λ outcome. HasSmallReply outcome.0 → IfSome outcome.1 IsOperation) }
     ensures only_memory { IfErr result (λ why. why ≡ Refusal.NoMemory) }
 {
     let Some(reply) = &scope.reply else {

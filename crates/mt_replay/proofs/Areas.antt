@@ -27,7 +27,7 @@ use Rattle.mt_log.specs.Masters.{IsRuling, Rules, area_size, area_start}
 use Rattle.mt_replay.specs.Memory.{AreFirst}
 use Rattle.mt_replay.specs.Recoverable.{IsRecoverable, pages_held}
 use Rattle.mt_replay.specs.Stands.{AreHeld, CanRestart, HasArea, ShowsBase}
-use Rattle.mt_replay.specs.Told.{calls_of, op_of, Finished, losers, stands_for}
+use Rattle.mt_replay.specs.Recorded.{calls_of, op_of, Finished, losers, stands_for}
 use Rattle.mt_replay.specs.Undoing.{UndoesAll}
 use Rattle.mt_replay.specs.declared.losers.Loser.{Loser}
 

@@ -30,7 +30,7 @@ use Rattle.mt_replay.specs.Losers.{HasUndone}
 use Rattle.mt_replay.specs.declared.losers.Loser.{Loser}
 use Rattle.mt_replay.specs.Memory.{AreFirst, AreGood}
 use Rattle.mt_replay.specs.Recoverable.{IsOf}
-use Rattle.mt_replay.specs.Told.{undo_of, reply_back}
+use Rattle.mt_replay.specs.Recorded.{undo_of, reply_back}
 use Rattle.mt_replay.specs.Undoing.{IsRoom, IsUndoing, Misses, Undoes, UndoesOne}
 
 -- ---- good pages in memory
@@ -55,12 +55,12 @@ pub all_there : (items : List (List ℕ)) (p : ℕ) → (slice_get items p ≡ N
 all_there items p e = let there = slice_get-get_or items p [] e.1 in let none = e.0 in cc
 
 -- the relations are as many as page 2 tells
-told_is : (items : List (List ℕ)) (relations counters : ℕ) (f : PageBytes) → AreFirst items f → IsGood relations counters (length items) f → get_or (get_or items 2 []) 0 0 ≡ relations
-told_is items relations counters f first good = ap (λ (page : List ℕ). get_or page 0 0) (first 2 (two_inside relations counters (length items) f good)) ∙ good.counts.relations_told
+reported_is : (items : List (List ℕ)) (relations counters : ℕ) (f : PageBytes) → AreFirst items f → IsGood relations counters (length items) f → get_or (get_or items 2 []) 0 0 ≡ relations
+reported_is items relations counters f first good = ap (λ (page : List ℕ). get_or page 0 0) (first 2 (two_inside relations counters (length items) f good)) ∙ good.counts.relations_reported
 
 pub few_relations : (items : List (List ℕ)) (relations counters : ℕ) (f : PageBytes) → AreGood items → AreFirst items f → IsGood relations counters (length items) f → relations ≤ 64
 few_relations items relations counters f some first good = ∥∥₁_elim some (hlevel props) (λ (g, others, more, same, fine, few).
-    omega (arith, few, told_is items relations counters f first good, told_is items others more g same fine))
+    omega (arith, few, reported_is items relations counters f first good, reported_is items others more g same fine))
 
 pub shaped_in : (items : List (List ℕ)) (map page : List ℕ) (p : ℕ) → AreGood items → p < length items → map ≡ get_or items 0 map → page ≡ get_or items p page → get_or map p 0 ≡ 3 → IsShaped page
 shaped_in items map page p some lt is_map is_page records = shaped_of page (∥∥₁_map some (λ (f, relations, counters, first, good, few).
@@ -160,21 +160,21 @@ module _ (items : List (List ℕ)) (d : LoggedOp) (good : AreGood items) (fine :
       (in_memory (λ r c pages o. (free_pages (length items) pages < own_needs o false) ⊎ IsTight room pages (record_bytes o)) of op is full relations counters f first g)
 
 -- what page 2 tells is the schema
-module _ (items : List (List ℕ)) (page : List ℕ) (told : SchemaSizes) (is_page : page ≡ get_or items 2 page)
-    (schema : (relations counters : ℕ) → AreCounters relations counters page → (told.relations ≡ relations) × (told.counters ≡ counters)) where
-  told_schema : (relations counters : ℕ) (f : PageBytes) → AreFirst items f → IsGood relations counters (length items) f → (told.relations ≡ relations) × (told.counters ≡ counters)
-  told_schema relations counters f first g =
+module _ (items : List (List ℕ)) (page : List ℕ) (outcome : SchemaSizes) (is_page : page ≡ get_or items 2 page)
+    (schema : (relations counters : ℕ) → AreCounters relations counters page → (outcome.relations ≡ relations) × (outcome.counters ≡ counters)) where
+  reported_schema : (relations counters : ℕ) (f : PageBytes) → AreFirst items f → IsGood relations counters (length items) f → (outcome.relations ≡ relations) × (outcome.counters ≡ counters)
+  reported_schema relations counters f first g =
       schema relations counters (subst (AreCounters relations counters) (sym (read_is items f 2 page first (two_inside relations counters (length items) f g) is_page)) g.counts)
 
-  pub of_all : (d : LoggedOp) → IsOf told.relations told.counters d → (relations counters : ℕ) (f : PageBytes) → AreFirst items f → IsGood relations counters (length items) f → IsOf relations counters d
+  pub of_all : (d : LoggedOp) → IsOf outcome.relations outcome.counters d → (relations counters : ℕ) (f : PageBytes) → AreFirst items f → IsGood relations counters (length items) f → IsOf relations counters d
   of_all d of relations counters f first g =
-      let e = told_schema relations counters f first g in
-      subst (λ (c : ℕ). IsOf relations c d) e.1 (subst (λ (r : ℕ). IsOf r told.counters d) e.0 of)
+      let e = reported_schema relations counters f first g in
+      subst (λ (c : ℕ). IsOf relations c d) e.1 (subst (λ (r : ℕ). IsOf r outcome.counters d) e.0 of)
 
-  pub missed_schema : (d : LoggedOp) → (IsOf told.relations told.counters d → ⊥) → Misses items d
+  pub missed_schema : (d : LoggedOp) → (IsOf outcome.relations outcome.counters d → ⊥) → Misses items d
   missed_schema d other relations counters f first g b finds =
-      let e = told_schema relations counters f first g in
-      other (subst (λ (c : ℕ). IsOf told.relations c d) (sym e.1) (subst (λ (r : ℕ). IsOf r counters d) (sym e.0) finds.within))
+      let e = reported_schema relations counters f first g in
+      other (subst (λ (c : ℕ). IsOf outcome.relations c d) (sym e.1) (subst (λ (r : ℕ). IsOf r counters d) (sym e.0) finds.within))
 
 -- ---- one behind others
 

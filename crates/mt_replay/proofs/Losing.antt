@@ -14,8 +14,8 @@ use Rattle.mt_frame.specs.declared.records.LoggedOp.{LoggedOp}
 use Rattle.mt_frame.specs.declared.records.Record.{Record}
 use Rattle.mt_frame.specs.declared.records.Record.TheVariants.{Page, OpEnd, OpDropped, Commit, AbortEnd}
 use Rattle.mt_log.specs.declared.batch.Batch.{Batch}
-use Rattle.mt_replay.specs.Told.{Told, Finished, told, tell, losers, others, is_but, without}
-use Rattle.mt_replay.specs.Losers.{finished_of, all_finished, HasEnded, HasTold, Tells}
+use Rattle.mt_replay.specs.Recorded.{Recorded, Finished, plus_record, tell, losers, others, is_but, without}
+use Rattle.mt_replay.specs.Losers.{finished_of, all_finished, HasEnded, HasRecorded, Tells}
 use Rattle.mt_replay.specs.declared.losers.Loser.{Loser}
 use Rattle.mt_replay.specs.declared.losers.Telling.{Telling}
 use Rattle.mt_replay.proofs.Imaged.{record_at}
@@ -60,22 +60,22 @@ left_ended false e u = refl
 abbrev pub survives : List Record → Finished → Bool
 survives rs f = not (some_record (ends_txn f.txn) rs || some_record (undoes_op f.txn f.op) rs)
 
-abbrev pub none : Told
+abbrev pub none : Recorded
 none = record { live = []; books = [] }
 
 -- what a record leaves of the losers behind it
 abbrev pub own : Record → List Record → List Finished
-own r rs = filter (survives rs) (told none r).live
+own r rs = filter (survives rs) (plus_record none r).live
 
 -- what is live behind an end, which is an inverse or is not
-abbrev told_by : Told → ℕ → ℕ → ℕ → LoggedOp → Bool → Told
-told_by s txn op undoes done b = cond b (record { live = s.live ++ record { txn = txn; op = op; done = done } ∷ []; books = s.books }) (record { live = without txn undoes s.live; books = s.books })
+abbrev reported_by : Recorded → ℕ → ℕ → ℕ → LoggedOp → Bool → Recorded
+reported_by s txn op undoes done b = cond b (record { live = s.live ++ record { txn = txn; op = op; done = done } ∷ []; books = s.books }) (record { live = without txn undoes s.live; books = s.books })
 
 abbrev survives_end : List Record → ℕ → ℕ → Bool → Finished → Bool
 survives_end rs txn undoes b f = not (some_record (ends_txn f.txn) rs || (((txn == f.txn) && ((undoes == f.op) && not b)) || some_record (undoes_op f.txn f.op) rs))
 
-step_end : (s : Told) (txn op undoes : ℕ) (done : LoggedOp) (rs : List Record) (b : Bool)
-    → filter (survives rs) (told_by s txn op undoes done b).live ≡ filter (survives_end rs txn undoes b) s.live ++ filter (survives rs) (told_by none txn op undoes done b).live
+step_end : (s : Recorded) (txn op undoes : ℕ) (done : LoggedOp) (rs : List Record) (b : Bool)
+    → filter (survives rs) (reported_by s txn op undoes done b).live ≡ filter (survives_end rs txn undoes b) s.live ++ filter (survives rs) (reported_by none txn op undoes done b).live
 step_end s txn op undoes done rs true =
     filter-append (survives rs) s.live (record { txn = txn; op = op; done = done } ∷ [])
     ∙ ap (λ (fs : List Finished). fs ++ filter (survives rs) (record { txn = txn; op = op; done = done } ∷ []))
@@ -88,7 +88,7 @@ step_end s txn op undoes done rs false =
     ((λ i. same_sides f.txn txn i && same_sides f.op undoes i) ∙ sym (and_true (txn == f.txn) (undoes == f.op)))) s.live
     ∙ sym (append-nil (filter (survives_end rs txn undoes false) s.live))
 
-step_left : (s : Told) (txn : ℕ) (rs : List Record) → filter (survives rs) (others txn s.live)
+step_left : (s : Recorded) (txn : ℕ) (rs : List Record) → filter (survives rs) (others txn s.live)
     ≡ filter (λ (f : Finished). not (((txn == f.txn) || some_record (ends_txn f.txn) rs) || some_record (undoes_op f.txn f.op) rs)) s.live ++ []
 step_left s txn rs =
     filter_both (survives rs) (λ (f : Finished). not (f.txn == txn)) s.live
@@ -97,7 +97,7 @@ step_left s txn rs =
     ∙ ap (λ (a : Bool). not ((a || some_record (ends_txn f.txn) rs) || some_record (undoes_op f.txn f.op) rs)) (same_sides f.txn txn)) s.live
     ∙ sym (append-nil (filter (λ (f : Finished). not (((txn == f.txn) || some_record (ends_txn f.txn) rs) || some_record (undoes_op f.txn f.op) rs)) s.live))
 
-step : (s : Told) (r : Record) (rs : List Record) → filter (survives rs) (told s r).live ≡ filter (survives (r ∷ rs)) s.live ++ own r rs
+step : (s : Recorded) (r : Record) (rs : List Record) → filter (survives rs) (plus_record s r).live ≡ filter (survives (r ∷ rs)) s.live ++ own r rs
 step s (Page txn op page image start old new) rs = sym (append-nil (filter (survives rs) s.live))
 step s (OpEnd txn op undoes done) rs = step_end s txn op undoes done rs (undoes == 0)
 step s (OpDropped txn op) rs = sym (append-nil (filter (survives rs) s.live))
@@ -105,16 +105,16 @@ step s (Commit txn) rs = step_left s txn rs
 step s (AbortEnd txn) rs = step_left s txn rs
 
 -- what was live before the records and survives them, and their own losers
-tell_live : (s : Told) (rs : List Record) → (tell s rs).live ≡ filter (survives rs) s.live ++ losers rs
+tell_live : (s : Recorded) (rs : List Record) → (tell s rs).live ≡ filter (survives rs) s.live ++ losers rs
 tell_live s [] = sym (append-nil (filter (survives []) s.live) ∙ filter_all s.live)
 tell_live s (r ∷ rs) =
-    tell_live (told s r) rs
+    tell_live (plus_record s r) rs
     ∙ ap (λ (fs : List Finished). fs ++ losers rs) (step s r rs)
     ∙ append_assoc (filter (survives (r ∷ rs)) s.live) (own r rs) (losers rs)
-    ∙ ap (λ (fs : List Finished). filter (survives (r ∷ rs)) s.live ++ fs) (sym (tell_live (told none r) rs))
+    ∙ ap (λ (fs : List Finished). filter (survives (r ∷ rs)) s.live ++ fs) (sym (tell_live (plus_record none r) rs))
 
 pub losers_next : (r : Record) (rs : List Record) → losers (r ∷ rs) ≡ own r rs ++ losers rs
-losers_next r rs = tell_live (told none r) rs
+losers_next r rs = tell_live (plus_record none r) rs
 
 -- ---- lists of losers
 
@@ -126,12 +126,12 @@ pub all_reverse : (P : Loser → Type 0) (list : List Loser) → AllByRecursion 
 all_reverse P [] all = tt
 all_reverse P (l ∷ list) all = subst (AllByRecursion P) (sym (reverse-append (l ∷ []) list)) (all_push P (reverse list) l (all_reverse P list all.1) all.0)
 
--- ---- one record before those that were told
+-- ---- one record before those that were reported
 
 -- an end of its own, whose transaction has ended behind it, or which is undone there
 pub tells_over : (batch : Batch) (txn op : ℕ) (done : LoggedOp) (x : Telling) → (contains nat_cmp x.ended txn || contains pair_cmp x.undone (txn, op)) ≡ true → Tells batch (OpEnd txn op 0 done ∷ []) x x
 tells_over batch txn op done x over = record {
-  told = λ behind h. record {
+  outcome = λ behind h. record {
     losers = h.losers ∙ sym (losers_next (OpEnd txn op 0 done) behind
         ∙ ap (λ (b : Bool). cond (not b) (record { txn = txn; op = op; done = done } ∷ []) [] ++ losers behind) ((λ i. sym (h.ended txn) i || sym (h.undone txn op) i) ∙ over));
     ended = λ t. h.ended t;
@@ -146,7 +146,7 @@ pub tells_loser : (batch : Batch) (l : Loser) (old new : Telling) → batch.plac
     → new.losers.items ≡ old.losers.items ++ l ∷ [] → new.ended ≡ old.ended → new.undone ≡ old.undone
     → Tells batch (OpEnd l.txn l.op 0 l.done ∷ []) old new
 tells_loser batch l old new place among grammar alone is same_ended same_undone = record {
-  told = λ behind h. record {
+  outcome = λ behind h. record {
     losers = ap (λ (ls : List Loser). all_finished (reverse ls)) is ∙ ap all_finished (reverse-append old.losers.items (l ∷ [])) ∙ ap (λ (fs : List Finished). finished_of l ∷ fs) h.losers
         ∙ sym (losers_next (OpEnd l.txn l.op 0 l.done) behind
         ∙ ap (λ (b : Bool). cond (not b) (finished_of l ∷ []) [] ++ losers behind) ((λ i. sym (h.ended l.txn) i || sym (h.undone l.txn l.op) i) ∙ alone));
@@ -162,10 +162,10 @@ pub tells_inverse : (batch : Batch) (txn op undoes : ℕ) (done : LoggedOp) (old
     → ((t o : ℕ) → contains pair_cmp new.undone (t, o) ≡ (contains pair_cmp old.undone (t, o) || ((txn == t) && (undoes == o))))
     → Tells batch (OpEnd txn op undoes done ∷ []) old new
 tells_inverse batch txn op undoes done old new some same same_ended noted = record {
-  told = λ behind h. record {
+  outcome = λ behind h. record {
     losers = ap (λ (ls : List Loser). all_finished (reverse ls)) same ∙ h.losers
         ∙ sym (losers_next (OpEnd txn op undoes done) behind
-        ∙ ap (λ (b : Bool). filter (survives behind) (told_by none txn op undoes done b).live ++ losers behind) (ne_eqb undoes 0 some));
+        ∙ ap (λ (b : Bool). filter (survives behind) (reported_by none txn op undoes done b).live ++ losers behind) (ne_eqb undoes 0 some));
     ended = λ t. (λ i. contains nat_cmp (same_ended i) t) ∙ h.ended t;
     undone = λ t o.
         noted t o ∙ ap (λ (a : Bool). a || ((txn == t) && (undoes == o))) (h.undone t o) ∙ or_comm (some_record (undoes_op t o) behind) ((txn == t) && (undoes == o))
@@ -182,7 +182,7 @@ pub tells_ended : (batch : Batch) (r : Record) (txn : ℕ) (old new : Telling)
     → ((t : ℕ) → contains nat_cmp new.ended t ≡ (contains nat_cmp old.ended t || (txn == t)))
     → Tells batch (r ∷ []) old new
 tells_ended batch r txn old new gone ends undoes same same_undone noted = record {
-  told = λ behind h. record {
+  outcome = λ behind h. record {
     losers = ap (λ (ls : List Loser). all_finished (reverse ls)) same ∙ h.losers ∙ sym (losers_next r behind ∙ ap (λ (fs : List Finished). fs ++ losers behind) (gone behind));
     ended = λ t.
         noted t ∙ ap (λ (a : Bool). a || (txn == t)) (h.ended t) ∙ or_comm (some_record (ends_txn t) behind) (txn == t)
@@ -195,7 +195,7 @@ tells_ended batch r txn old new gone ends undoes same same_undone noted = record
 -- another record, which ends nothing
 pub tells_same : (batch : Batch) (r : Record) (x : Telling) → ((rs : List Record) → own r rs ≡ []) → ((t : ℕ) → ends_txn t r ≡ false) → ((t o : ℕ) → undoes_op t o r ≡ false) → Tells batch (r ∷ []) x x
 tells_same batch r x gone ends undoes = record {
-  told = λ behind h. record {
+  outcome = λ behind h. record {
     losers = h.losers ∙ sym (losers_next r behind ∙ ap (λ (fs : List Finished). fs ++ losers behind) (gone behind));
     ended = λ t. h.ended t ∙ sym (ap (λ (a : Bool). a || some_record (ends_txn t) behind) (ends t));
     undone = λ t o. h.undone t o ∙ sym (ap (λ (a : Bool). a || some_record (undoes_op t o) behind) (undoes t o));
@@ -206,10 +206,10 @@ tells_same batch r x gone ends undoes = record {
 -- ---- one before the other
 
 pub tells_none : (batch : Batch) (x : Telling) → Tells batch [] x x
-tells_none batch x = record { told = λ behind h. h; ended = λ batches there all. all }
+tells_none batch x = record { outcome = λ behind h. h; ended = λ batches there all. all }
 
 pub tells_then : (batch : Batch) (rs : List Record) (i : ℕ) (r : Record) (old mid new : Telling) → i < length rs → r ≡ get_or rs i r → Tells batch (drop (i + 1) rs) old mid → Tells batch (r ∷ []) mid new → Tells batch (drop i rs) old new
 tells_then batch rs i r old mid new lt is first second = record {
-  told = λ behind h. subst (λ (qs : List Record). HasTold new (qs ++ behind)) (sym (record_at rs i r lt is)) (second.told (drop (i + 1) rs ++ behind) (first.told behind h));
+  outcome = λ behind h. subst (λ (qs : List Record). HasRecorded new (qs ++ behind)) (sym (record_at rs i r lt is)) (second.outcome (drop (i + 1) rs ++ behind) (first.outcome behind h));
   ended = λ batches there all. second.ended batches there (first.ended batches there all);
 }

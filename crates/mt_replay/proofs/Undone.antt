@@ -18,7 +18,7 @@ use Rattle.mt_model.proofs.Undo.{base_back}
 use Rattle.mt_space.specs.Changes.{PageBytes}
 use Rattle.mt_steps.specs.Held.{Holds}
 use Rattle.mt_steps.specs.Plans.{IsGood, free_pages, own_needs}
-use Rattle.mt_replay.specs.Told.{op_of, reply_in, undo_of, reply_back, call_of, calls_of, Finished, losers, stands_for}
+use Rattle.mt_replay.specs.Recorded.{op_of, reply_in, undo_of, reply_back, call_of, calls_of, Finished, losers, stands_for}
 use Rattle.mt_replay.specs.Recoverable.{IsOf, pages_held, inverse_pages, all_pages}
 use Rattle.mt_replay.specs.Undoing.{UndoesOne, UndoesAll}
 use Rattle.mt_replay.specs.Laws.{RestartFindsBase, EachInverseFinds}

@@ -14,6 +14,6 @@ is_commit (AbortEnd txn) = false
 
 -- as many batches, records in them, and commits among these
 pub record AreFigures (batches : List (List Record)) (figures : Figures) : Type 0 where
-  pub batches_told : figures.batches ≡ length batches
-  pub records_told : figures.records ≡ length (joined batches)
-  pub commits_told : figures.commits ≡ count_by is_commit (joined batches)
+  pub batches_reported : figures.batches ≡ length batches
+  pub records_reported : figures.records ≡ length (joined batches)
+  pub commits_reported : figures.commits ≡ count_by is_commit (joined batches)

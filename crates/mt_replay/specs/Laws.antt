@@ -6,7 +6,7 @@ use Rattle.mt_model.specs.History.{run}
 use Rattle.mt_space.specs.Changes.{PageBytes}
 use Rattle.mt_steps.specs.Held.{Holds}
 use Rattle.mt_steps.specs.Plans.{IsGood}
-use Rattle.mt_replay.specs.Told.{calls_of, op_of, Finished, losers, stands_for}
+use Rattle.mt_replay.specs.Recorded.{calls_of, op_of, Finished, losers, stands_for}
 use Rattle.mt_replay.specs.Recoverable.{IsRecoverable, pages_held}
 use Rattle.mt_replay.specs.Undoing.{UndoesAll, Finds}
 

@@ -1,4 +1,4 @@
-pub mod Told
+pub mod Recorded
 pub mod Recoverable
 pub mod Undoing
 pub mod Laws

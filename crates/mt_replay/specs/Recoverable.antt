@@ -12,7 +12,7 @@ use Rattle.mt_space.specs.Changes.{PageBytes}
 use Rattle.mt_steps.specs.Held.{Holds}
 use Rattle.mt_steps.specs.Plans.{IsGood, free_pages}
 use Rattle.mt_steps.specs.Repeated.{logged, held}
-use Rattle.mt_replay.specs.Told.{calls_in, calls_of, Finished, losers, stands_for}
+use Rattle.mt_replay.specs.Recorded.{calls_in, calls_of, Finished, losers, stands_for}
 
 -- it holds of every beginning
 abbrev pub EachBeginning : (List Record → Type 0) → List Record → Type 0

@@ -21,7 +21,7 @@ use Rattle.mt_log.specs.Masters.{BreaksMaster, IsRuling, IsUnformatted, area_end
 use Rattle.mt_replay.specs.Memory.{AreFirst}
 use Rattle.mt_replay.specs.Recoverable.{pages_held}
 use Rattle.mt_replay.specs.Stands.{HasArea}
-use Rattle.mt_replay.specs.Told.{losers}
+use Rattle.mt_replay.specs.Recorded.{losers}
 use Rattle.mt_replay.specs.declared.figures.Figures.{Figures}
 use Rattle.mt_replay.specs.declared.losers.Loser.{Loser}
 
@@ -48,13 +48,13 @@ pub record IsReplayed (c : List ℕ) (slot : MasterSlot) (figures : Figures) (it
   pub list : List Loser
   pub repeated : AreRepeated c slot batches held list
   pub undone : AreUndone held list items
-  pub figures_told : AreFigures (records_of batches) figures
+  pub figures_reported : AreFigures (records_of batches) figures
 
 -- the log's area, as the ruling slot names it, and its figures
 pub record IsLog (c : List ℕ) (slot : MasterSlot) (figures : Figures) : Type 0 where
   pub batches : List (List Record)
   pub area : HasArea c slot batches
-  pub figures_told : AreFigures batches figures
+  pub figures_reported : AreFigures batches figures
 
 -- ---- refusals
 

@@ -11,7 +11,7 @@ use Rattle.mt_pool.specs.Kept.{carried}
 use Rattle.mt_space.specs.Changes.{PageBytes}
 use Rattle.mt_steps.specs.Held.{Holds}
 use Rattle.mt_log.specs.Masters.{IsRuling, area_size, area_start, area_end}
-use Rattle.mt_replay.specs.Told.{losers, stands_for}
+use Rattle.mt_replay.specs.Recorded.{losers, stands_for}
 use Rattle.mt_replay.specs.Losers.{all_finished}
 use Rattle.mt_replay.specs.declared.losers.Loser.{Loser}
 use Rattle.mt_replay.specs.Recoverable.{IsRecoverable, pages_held}

@@ -13,7 +13,7 @@ use Rattle.mt_steps.specs.Held.{Holds}
 use Rattle.mt_file.specs.Rooms.{fits_of}
 use Rattle.mt_space.specs.Kinds.{kind}
 use Rattle.mt_steps.specs.Plans.{HasNoRecord, IsGood, TakesPages, free_pages, own_needs, record_bytes}
-use Rattle.mt_replay.specs.Told.{undo_of, reply_back, Finished}
+use Rattle.mt_replay.specs.Recorded.{undo_of, reply_back, Finished}
 use Rattle.mt_replay.specs.Recoverable.{IsOf}
 
 -- a page of records that takes a record of so many bytes

@@ -9,8 +9,8 @@ ghost use Rattle.mt_frame.specs.Known.{pair_cmp};
 ghost use Rattle.mt_frame.specs.declared.records.Record.TheVariants.{OpEnd};
 ghost use Rattle.mt_log.specs.Batch.{joined};
 ghost use Rattle.mt_log.specs.Found.{records_of};
-ghost use Rattle.mt_replay.specs.Told.{losers};
-ghost use Rattle.mt_replay.specs.Losers.{all_finished, AreOfGrammar, HasEnded, HasTold, Tells};
+ghost use Rattle.mt_replay.specs.Recorded.{losers};
+ghost use Rattle.mt_replay.specs.Losers.{all_finished, AreOfGrammar, HasEnded, HasRecorded, Tells};
 
 use mt_base::{OpNo, Refusal, TxnNo};
 use mt_frame::{LoggedOp, Record};
@@ -66,7 +66,7 @@ fn note_undone(set: &mut BTreeSet<(u64, u64)>, txn: TxnNo, op: u64) -> Result<()
 impl Telling {
     // What is known after the last record: nothing.
     fn new(alloc: Global) -> Telling
-        ensures told { HasTold result [] }
+        ensures outcome { HasRecorded result [] }
         ensures none { result.losers.items ≡ [] }
     {
         Telling {

@@ -79,12 +79,13 @@ impl AllPages {
     }
 
     // Whether page 2 is the counters page of the schema that it has the counts of.
-    fn has_schema(&self, told: SchemaSizes) -> bool
-        ensures { MatchBool result (HasSchema self.now.pages.items told.relations told.counters)
-            (HasSchema self.now.pages.items told.relations told.counters → ⊥) }
+    fn has_schema(&self, counted: SchemaSizes) -> bool
+        ensures { MatchBool result (HasSchema self.now.pages.items counted.relations counted.counters)
+            (HasSchema self.now.pages.items counted.relations counted.counters → ⊥) }
     {
         let page = &self.pages[usize::from(COUNTERS)];
-        relation_count_fits(told.relations) && mt_steps::check(page, told.relations, told.counters)
+        relation_count_fits(counted.relations)
+            && mt_steps::check(page, counted.relations, counted.counters)
     }
 
     // Whether a page is one of the schema, if it is of records.
@@ -263,14 +264,14 @@ impl AllPages {
         if !self.has_map() {
             return Ok(Some(PageNo::new(MAP)));
         }
-        let told = sizes(&self.pages[usize::from(COUNTERS)]);
-        if !self.has_schema(told) {
+        let counted = sizes(&self.pages[usize::from(COUNTERS)]);
+        if !self.has_schema(counted) {
             return Ok(Some(PageNo::new(COUNTERS)));
         }
-        if let Some(page) = mt_index::check(alloc, &self.pages, told.relations)? {
+        if let Some(page) = mt_index::check(alloc, &self.pages, counted.relations)? {
             return Ok(Some(page));
         }
-        if let Some(page) = self.first_malformed(told.relations) {
+        if let Some(page) = self.first_malformed(counted.relations) {
             return Ok(Some(page));
         }
         if let Some(page) = self.first_misnaming() {

@@ -11,7 +11,7 @@ ghost use Rattle.mt_replay.specs.Memory.{AreWhole, AreFirst, AreGood, Sets, Make
 ghost use Rattle.mt_replay.specs.Checks.{AreBroken, AreChecked};
 ghost use Rattle.mt_replay.specs.Faults.{IsFaulty};
 ghost use Rattle.mt_replay.specs.Recoverable.{IsOf};
-ghost use Rattle.mt_replay.specs.Told.{undo_of, reply_back};
+ghost use Rattle.mt_replay.specs.Recorded.{undo_of, reply_back};
 ghost use Rattle.mt_replay.specs.Undoing.{IsRoom, IsUndoPlan, Misses, Undoes};
 
 use crate::losers::Loser;
@@ -93,14 +93,14 @@ fn is_as_logged(done: &LoggedOp, reply: &Reply) -> bool
 }
 
 // Whether what is logged is of a relation or counter of the schema.
-fn is_of(told: SchemaSizes, done: &LoggedOp) -> bool
-    ensures { IsTrue result ↔ IsOf told.relations told.counters done.now }
+fn is_of(counted: SchemaSizes, done: &LoggedOp) -> bool
+    ensures { IsTrue result ↔ IsOf counted.relations counted.counters done.now }
 {
     match done {
-        LoggedOp::Insert { relation, .. } => relation.get() < told.relations,
-        LoggedOp::Update { relation, .. } => relation.get() < told.relations,
-        LoggedOp::Delete { relation, .. } => relation.get() < told.relations,
-        LoggedOp::Add { counter, .. } => counter.get() < told.counters,
+        LoggedOp::Insert { relation, .. } => relation.get() < counted.relations,
+        LoggedOp::Update { relation, .. } => relation.get() < counted.relations,
+        LoggedOp::Delete { relation, .. } => relation.get() < counted.relations,
+        LoggedOp::Add { counter, .. } => counter.get() < counted.counters,
     }
 }
 

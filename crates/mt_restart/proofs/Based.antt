@@ -59,7 +59,7 @@ base_of_good relations counters total f good =
       record { rows = λ r k. value_named f (good.meaning r k); counts = λ c. pick (count_in (f 2) c) (cases_lt c counters) },
       record {
         rows = record { found = rows.found; there = rows.there };
-        counts = λ c lt. picked (count_in (f 2) c) c counters (cases_lt c counters) (subst (λ (n : ℕ). c < n) good.counts.counters_told lt);
+        counts = λ c lt. picked (count_in (f 2) c) c counters (cases_lt c counters) (subst (λ (n : ℕ). c < n) good.counts.counters_reported lt);
       },
       λ c. limited (count_in (f 2) c) c counters (cases_lt c counters) (good.counts.each c),
     )

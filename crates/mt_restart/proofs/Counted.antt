@@ -24,10 +24,10 @@ module _ {D : Type 0} {g : Ghosts D} (seen : D → List ℕ) (may_leave : D → 
 
   pub begins_on : (pages : PageBytes) (relations counters : ℕ) (b : Base) → counters ≡ get_or (pages 2) 1 0 → Holds pages b → IsBase b
       → ((m : Base) → Holds pages m → IsBase m → IsOpened seen may_leave relations counters m k) → BeginsOn seen may_leave b k
-  begins_on pages relations counters b told holds bounds opens =
+  begins_on pages relations counters b outcome holds bounds opens =
       let first = opens b holds bounds in
       record {
         opened = as_it_is relations counters b first;
         same = λ m same in_bounds. as_it_is relations counters m
-            (opens m (holds_same pages b m holds (subst (λ (n : ℕ). IsSame n m b) (first.counters_are ∙ told) same)) in_bounds);
+            (opens m (holds_same pages b m holds (subst (λ (n : ℕ). IsSame n m b) (first.counters_are ∙ outcome) same)) in_bounds);
       }

@@ -132,7 +132,7 @@ module _ (s : Schema) (c : List ℕ) (has : HasFirstPages s c) where
           found = λ r k v is. let no = no_row r k in absurd cc;
           there = λ r k v there. no_row r k ∙ h.rows.there r k v there;
         };
-        counts = λ k lt. sym (n.starts k (omega (arith, lt, n.formed.counters_told)));
+        counts = λ k lt. sym (n.starts k (omega (arith, lt, n.formed.counters_reported)));
       }
 
   area_held : Has c (pages_end s) empty_area → HoldsBatches c (pages_end s) (area_end s) (pages_in s) ([] ∷ [])

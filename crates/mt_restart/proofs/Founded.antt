@@ -23,7 +23,7 @@ use Rattle.mt_replay.specs.Memory.{AreFirst}
 use Rattle.mt_replay.specs.Recoverable.{pages_held}
 use Rattle.mt_replay.specs.Refused.{BreaksFormat, IsCause}
 use Rattle.mt_replay.specs.Stands.{CanRestart, IsReadAs}
-use Rattle.mt_replay.specs.Told.{Finished, losers}
+use Rattle.mt_replay.specs.Recorded.{Finished, losers}
 use Rattle.mt_replay.specs.Undoing.{UndoesAll}
 use Rattle.mt_space.specs.Changes.{PageBytes}
 use Rattle.mt_steps.proofs.Formatting.{formatted_good}

@@ -118,10 +118,10 @@ module _ {D : Type 0} (seen : D → List ℕ) (may : D → List ℕ → Type 0) 
     pub opens_again : (b : Base) → Holds (bytes_of r.restored.pages.items) b → IsBase b → Opens seen may o r.beside.escrow r.beside.relations r.beside.counters b
     opens_again b holds bounds =
         let good = is.checked.good in
-        let told : r.beside.counters ≡ is.checked.counters = is.beside.counters ∙ good.counts.counters_told in
+        let outcome : r.beside.counters ≡ is.checked.counters = is.beside.counters ∙ good.counts.counters_reported in
         ∣ (
           record { first = b; earlier = []; begun = b; pages = bytes_of r.restored.pages.items; relations = is.checked.relations; counters = is.checked.counters },
-          record { relations_are = sym (is.beside.relations ∙ good.counts.relations_told); counters_are = sym told; first_is = refl },
+          record { relations_are = sym (is.beside.relations ∙ good.counts.relations_reported); counters_are = sym outcome; first_is = refl },
           record {
             schema = record { few_relations = is.checked.fits.1; few_counters = good.counts.few };
             area = record { begun = refl; none = refl };
@@ -130,8 +130,8 @@ module _ {D : Type 0} (seen : D → List ℕ) (may : D → List ℕ → Type 0) 
             right = right (bytes_of r.restored.pages.items) is.checked.relations is.checked.counters kept (log_images s.log same_log) (subst (λ (n : ℕ). IsGood is.checked.relations is.checked.counters n (bytes_of r.restored.pages.items)) (sym many) good) shows
                 (subst (λ (n : ℕ). FitsPages n (bytes_of r.restored.pages.items) r.beside.idle) (sym many) is.beside.fits);
             escrowed = record {
-              all = is.beside.all ∙ told;
-              counts = λ c lt. is.beside.counts c (subst (λ (n : ℕ). c < n) (sym told) lt) ∙ sym (holds.counts c (subst (λ (n : ℕ). c < n) (sym good.counts.counters_told) lt));
+              all = is.beside.all ∙ outcome;
+              counts = λ c lt. is.beside.counts c (subst (λ (n : ℕ). c < n) (sym outcome) lt) ∙ sym (holds.counts c (subst (λ (n : ℕ). c < n) (sym good.counts.counters_reported) lt));
             };
           },
         ) ∣₁
@@ -143,8 +143,8 @@ opened_as seen may own relations counters frames b items x k beside shows opened
     let alike = own relations counters (length items) shows.pages (bytes_of items) (λ p lt. shows.first p lt) shows.good in
     let o = opened (alike.1 b shows.holds) in
     record {
-      relations_are = o.relations_are ∙ beside.relations ∙ alike.0.counts.relations_told;
-      counters_are = o.counters_are ∙ beside.counters ∙ alike.0.counts.counters_told;
+      relations_are = o.relations_are ∙ beside.relations ∙ alike.0.counts.relations_reported;
+      counters_are = o.counters_are ∙ beside.counters ∙ alike.0.counts.counters_reported;
       shows = o.shows;
       restarts = o.restarts;
     }

@@ -20,7 +20,7 @@ use Rattle.mt_pool.specs.Turns.{IsImageOnly}
 use Rattle.mt_replay.specs.Laws.{OnlyOwnPagesMatter}
 use Rattle.mt_replay.specs.Recoverable.{IsOf, IsRecoverable, all_pages, inverse_images, pages_held}
 use Rattle.mt_replay.specs.Stands.{CanRestart, IsReadAs, ShowsBase}
-use Rattle.mt_replay.specs.Told.{Finished, Told, calls_in, calls_of, run_all, stands_for, tells}
+use Rattle.mt_replay.specs.Recorded.{Finished, Recorded, calls_in, calls_of, run_all, stands_for, tells}
 use Rattle.mt_space.specs.Changes.{PageBytes}
 use Rattle.mt_steps.specs.Held.{Holds}
 use Rattle.mt_steps.specs.Plans.{IsGood, free_pages}
@@ -48,23 +48,23 @@ are_images n rs only = All-from_recursion (λ (r : Record). txn_of r ≡ 0) rs (
 
 -- ---- a restart over images
 
-nothing_told : Told
-nothing_told = record { live = []; books = [] }
+nothing_reported : Recorded
+nothing_reported = record { live = []; books = [] }
 
 module _ (relations counters total bytes : ℕ) (pages : PageBytes) (b : Base) (images : List Record) (each : AllByRecursion IsRecord images) (alone : AreImages images) where
-  told : tells images ≡ nothing_told
-  unfolding nothing_told
-  told = (images_end_nothing images each alone).told (record { live = []; books = [] })
+  outcome : tells images ≡ nothing_reported
+  unfolding nothing_reported
+  outcome = (images_end_nothing images each alone).outcome (record { live = []; books = [] })
 
   no_calls : calls_in images ≡ []
   no_calls = (images_end_nothing images each alone).calls
 
   pub stands_still : b ≡ stands_for b images
-  unfolding nothing_told
-  stands_still = subst (λ (t : Told). b ≡ run_all b t.books) (sym told) refl
+  unfolding nothing_reported
+  stands_still = subst (λ (t : Recorded). b ≡ run_all b t.books) (sym outcome) refl
 
   pub recoverable_images : IsGood relations counters total pages → IsBase b → 5 < bytes → IsRecoverable relations counters total bytes pages b images
-  unfolding nothing_told
+  unfolding nothing_reported
   recoverable_images good bounds large =
       let held = images_held pages images alone in
       record {
@@ -74,13 +74,13 @@ module _ (relations counters total bytes : ℕ) (pages : PageBytes) (b : Base) (
           acted = λ x holds. subst (IsActed x) (sym no_calls) tt;
         };
         serial = record {
-          same = subst (λ (X : Type 0). X) (λ i. run b (sym no_calls i) ≡ run (run_all b (sym told i).books) (calls_of (sym told i).live)) refl;
-          acted = subst (λ (t : Told). IsActed (run_all b t.books) (calls_of t.live)) (sym told) tt;
-          bounds = subst (λ (t : Told). IsBase (run_all b t.books)) (sym told) bounds;
+          same = subst (λ (X : Type 0). X) (λ i. run b (sym no_calls i) ≡ run (run_all b (sym outcome i).books) (calls_of (sym outcome i).live)) refl;
+          acted = subst (λ (t : Recorded). IsActed (run_all b t.books) (calls_of t.live)) (sym outcome) tt;
+          bounds = subst (λ (t : Recorded). IsBase (run_all b t.books)) (sym outcome) bounds;
         };
-        within = subst (λ (t : Told). AllByRecursion (λ (f : Finished). IsOf relations counters f.done) t.live) (sym told) tt;
-        free = subst (λ (t : Told). all_pages t.live ≤ free_pages total (pages_held pages images)) (sym told) (omega arith);
-        images = subst (λ (t : Told). inverse_images * length t.live + 5 < bytes) (sym told) (omega (arith, large));
+        within = subst (λ (t : Recorded). AllByRecursion (λ (f : Finished). IsOf relations counters f.done) t.live) (sym outcome) tt;
+        free = subst (λ (t : Recorded). all_pages t.live ≤ free_pages total (pages_held pages images)) (sym outcome) (omega arith);
+        images = subst (λ (t : Recorded). inverse_images * length t.live + 5 < bytes) (sym outcome) (omega (arith, large));
       }
 
 -- ---- what a crash leaves, read as the old area or as the next one

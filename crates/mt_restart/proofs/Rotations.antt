@@ -190,8 +190,8 @@ module _ {D : Type 0} {g : Ghosts D} (seen : D → List ℕ) (may_leave : D → 
       → ShowsBase k.relations k.counters items (after first k.core.book.items) → IsBase (after first k.core.book.items) → ((b : Base) → Holds (bytes_of items) b → IsBase b → Opens seen may_leave o e x.relations x.counters b) → GoesOn seen may_leave first k.core rest o e
   goes_on k first rest o e frames items x is nobody starts beside shows bounds opens =
       let alike = own k.relations k.counters (length items) shows.pages (bytes_of items) (λ p lt. shows.first p lt) shows.good in
-      let rels : x.relations ≡ rest.relations = beside.relations ∙ alike.0.counts.relations_told ∙ sym is.relations in
-      let counts : x.counters ≡ rest.counters = beside.counters ∙ alike.0.counts.counters_told ∙ sym is.counters in
+      let rels : x.relations ≡ rest.relations = beside.relations ∙ alike.0.counts.relations_reported ∙ sym is.relations in
+      let counts : x.counters ≡ rest.counters = beside.counters ∙ alike.0.counts.counters_reported ∙ sym is.counters in
       record {
         is = is.parts;
         nobody = nobody;
@@ -239,13 +239,13 @@ stands_before seen may_leave k m first why device nobody still stays schema star
 
 -- there is one first cause, with which the kernel is handed back as it was
 pub handed_back : {D : Type 0} {g : Ghosts D} (k : Kernel D g) (why : Refusal) → early_cause k ≡ Some why → (other : Refusal) → early_cause k ≡ Some other → ◌≡◌ {A = Result (Kernel D g) (NotRotated D g)} (Err (Kept why k)) (Err (Kept other k))
-handed_back k why is other told = ap (λ (w : Refusal). Err (Kept w k)) (same why other (sym is ∙ told))
+handed_back k why is other outcome = ap (λ (w : Refusal). Err (Kept w k)) (same why other (sym is ∙ outcome))
   where
     same : (w x : Refusal) → Some w ≡ Some x → w ≡ x
     same w x e = cc
 
 pub not_early : {D : Type 0} {g : Ghosts D} (k : Kernel D g) (why : Refusal) → is_failed k ≡ false → HasNobody k → early_cause k ≡ Some why → ⊥
-not_early k why is nobody told = never why (sym (early_none k is nobody) ∙ told)
+not_early k why is nobody outcome = never why (sym (early_none k is nobody) ∙ outcome)
   where
     never : (w : Refusal) → None ≡ Some w → ⊥
     never w e = cc

@@ -14,7 +14,7 @@ use Rattle.mt_restart.specs.Inspected.{IsInspected, IsOfPages, Surveys}
 -- where the pages in memory show a base, it is a survey of that base
 pub surveys_shown : OnlyOwnPagesMatter → (relations counters : ℕ) (b : Base) (c : List ℕ) (slot : MasterSlot) (figures : Figures) (items : List (List ℕ)) (survey : Survey)
     → IsReplayed c slot figures items → ShowsBase relations counters items b → IsOfPages items survey → Surveys relations counters b c survey
-surveys_shown own relations counters b c slot figures items survey replayed shown told =
+surveys_shown own relations counters b c slot figures items survey replayed shown outcome =
     let matter = own relations counters (length items) shown.pages (bytes_of items) shown.first shown.good in
     record {
       slot = slot;
@@ -23,12 +23,12 @@ surveys_shown own relations counters b c slot figures items survey replayed show
       replayed = replayed;
       good = matter.0;
       holds = matter.1 b shown.holds;
-      told = told relations counters b matter.0 (matter.1 b shown.holds);
+      outcome = outcome relations counters b matter.0 (matter.1 b shown.holds);
     }
 
 -- it is one of any bytes
 pub inspected_of : (c : List ℕ) (slot : MasterSlot) (figures : Figures) (items : List (List ℕ)) (survey : Survey) → IsReplayed c slot figures items → IsOfPages items survey → IsInspected c survey
-inspected_of c slot figures items survey replayed told =
+inspected_of c slot figures items survey replayed outcome =
     let checked = replayed.undone.after in
     let based = base_of_good checked.relations checked.counters (length items) (bytes_of items) checked.good in
     record {
@@ -44,7 +44,7 @@ inspected_of c slot figures items survey replayed told =
         replayed = replayed;
         good = checked.good;
         holds = based.1;
-        told = told checked.relations checked.counters based.0 checked.good based.1;
+        outcome = outcome checked.relations checked.counters based.0 checked.good based.1;
       };
-      only = λ b holds. (told checked.relations checked.counters b checked.good holds).base;
+      only = λ b holds. (outcome checked.relations checked.counters b checked.good holds).base;
     }

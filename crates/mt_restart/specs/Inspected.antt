@@ -22,7 +22,7 @@ pub record Surveys (relations counters : ℕ) (held : Base) (c : List ℕ) (surv
   pub replayed : IsReplayed c slot figures items
   pub good : IsGood relations counters (length items) (bytes_of items)
   pub holds : Holds (bytes_of items) held
-  pub told : IsSurvey relations counters (length items) (bytes_of items) held survey
+  pub outcome : IsSurvey relations counters (length items) (bytes_of items) held survey
 
 -- Of any bytes: of some schema, and of a base that the pages hold; every base that they hold is the survey's.
 pub record IsInspected (c : List ℕ) (survey : Survey) : Type 0 where

@@ -14,10 +14,10 @@ pub record MarksMore (records : List Record) (old new : List Bool) : Type 0 wher
   pub size : length new ≡ length old
   pub marks : (p : ℕ) → p < length old → get_or new p false ≡ (get_or old p false || has_image (carried records) p)
 
--- Told is of a page whether it has no image and other bytes than its slot.
-pub record TellsLost (bytes : List ℕ) (imaged : Bool) (c : List ℕ) (p : ℕ) (told : Bool) : Type 0 where
-  pub lost : told ≡ true → (imaged ≡ false) × (slot MASTER_BYTES c p ≢ bytes)
-  pub kept : told ≡ false → imaged ≡ false → slot MASTER_BYTES c p ≡ bytes
+-- What is reported of a page is whether it has no image and other bytes than its slot.
+pub record TellsLost (bytes : List ℕ) (imaged : Bool) (c : List ℕ) (p : ℕ) (outcome : Bool) : Type 0 where
+  pub lost : outcome ≡ true → (imaged ≡ false) × (slot MASTER_BYTES c p ≢ bytes)
+  pub kept : outcome ≡ false → imaged ≡ false → slot MASTER_BYTES c p ≡ bytes
 
 -- Marked are the pages that have no image and other bytes than their slots, or memory ran out or the device failed.
 -- The device is only read.

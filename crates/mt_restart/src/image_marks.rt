@@ -84,7 +84,7 @@ fn is_lost<D: Device>(
 ) -> Result<bool, DeviceFault>
     requires inside { MASTER_BYTES + PAGE_BYTES * page + PAGE_BYTES ≤ length (D.seen device.old) }
     requires few { page < MAX_PAGES }
-    ensures told { IfOk result (λ told. TellsLost bytes.now imaged (D.seen device.old) page told) }
+    ensures outcome { IfOk result (λ outcome. TellsLost bytes.now imaged (D.seen device.old) page outcome) }
     ensures reads { OnlyReads D.seen D.may_leave D.moment D.left_since device.old device.new }
     ensures cause { HasCause (D.faults device.old) (D.faults device.new) result }
 {
@@ -114,8 +114,8 @@ pub(crate) fn lost_pages<D: Device>(
 {
     let mut lost = Vec::with_capacity(alloc, pages.len())?;
     for page in 0..pages.len() {
-        let told = is_lost(device, page, &pages[page], imaged[page])?;
-        lost.push(told)?;
+        let outcome = is_lost(device, page, &pages[page], imaged[page])?;
+        lost.push(outcome)?;
     }
     Ok(lost)
 }

@@ -22,7 +22,7 @@ use std::alloc::Global;
 /// [`Refusal::BadFormat`] has the place of a slot or a batch that breaks a rule. The device is only read: no write,
 /// no sync, and its content is as before in any case.
 pub fn report<D: Device>(alloc: Global, device: &mut D) -> Result<Report, Refusal>
-    ensures told { IfOk result (IsReport (D.seen device.old)) }
+    ensures outcome { IfOk result (IsReport (D.seen device.old)) }
     ensures no_other_refusal { (relations counters : ℕ) (b : Base)
         → CanRestart relations counters (D.seen device.old) b
         → IfErr result (λ why. (why ≡ Refusal.NoMemory) ⊎ (why ≡ Refusal.DeviceFailed)) }

@@ -104,7 +104,7 @@ const CUTS: Tally = Tally {
 /// Only if nothing is left is no slot open.
 #[test]
 fn each_beginning_of_a_device_is_answered(rt: HostRuntime) -> Result<(), Fail> {
-    let told = cuts(rt.alloc())?;
-    assert!(rt; told == CUTS);
+    let outcome = cuts(rt.alloc())?;
+    assert!(rt; outcome == CUTS);
     Ok(())
 }

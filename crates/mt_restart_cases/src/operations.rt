@@ -1,6 +1,6 @@
 // An operation that splits a bucket: taken back after each of its steps, and over refused memory.
 use crate::common::put_away;
-use crate::whole_operations::{Told, aborted, called, committed, kernel_of, run, stepped};
+use crate::whole_operations::{Outcome, aborted, called, committed, kernel_of, run, stepped};
 use mt_base::{Bytes, Refusal, RelNo, TxnNo};
 use mt_disk::MemDevice;
 use mt_model::{Base, Op, Row};
@@ -21,14 +21,14 @@ fn insert_of(alloc: Global, number: u8) -> Result<Op, Refusal> {
 }
 
 // Commits the first 58 keys, each in a transaction of its own: how the last one ends.
-fn fill(alloc: Global, kernel: &mut Kernel<MemDevice>) -> Result<Told, Refusal> {
-    let mut told = Told::Stuck;
+fn fill(alloc: Global, kernel: &mut Kernel<MemDevice>) -> Result<Outcome, Refusal> {
+    let mut outcome = Outcome::Stuck;
     for number in 0..58u8 {
         let txn = kernel.begin(1)?;
         let _done = run(kernel, txn, insert_of(alloc, number)?);
-        told = committed(kernel, txn);
+        outcome = committed(kernel, txn);
     }
-    Ok(told)
+    Ok(outcome)
 }
 
 // Calls the insert of key 58, makes so many steps of it, and aborts it: what it answered last.
@@ -36,14 +36,14 @@ fn give_up_behind(
     alloc: Global,
     kernel: &mut Kernel<MemDevice>,
     steps: u8,
-) -> Result<Told, Refusal> {
+) -> Result<Outcome, Refusal> {
     let txn = kernel.begin(1)?;
-    let mut told = called(kernel, txn, insert_of(alloc, 58)?);
+    let mut outcome = called(kernel, txn, insert_of(alloc, 58)?);
     for _step in 0..steps {
-        told = stepped(kernel, txn);
+        outcome = stepped(kernel, txn);
     }
     let _aborted = aborted(kernel, txn);
-    Ok(told)
+    Ok(outcome)
 }
 
 fn is_same_row(first: &Row, second: &Row) -> bool {
@@ -81,8 +81,8 @@ fn give_up_in_turn(alloc: Global, kernel: &mut Kernel<MemDevice>) -> Result<(u8,
     let before = kernel.survey()?;
     let mut are = true;
     for steps in 0..40u8 {
-        let told = give_up_behind(alloc, kernel, steps)?;
-        if told == Told::Done {
+        let outcome = give_up_behind(alloc, kernel, steps)?;
+        if outcome == Outcome::Done {
             return Ok((steps, are));
         }
         are = are && is_as_at(kernel, &before)?;
@@ -96,16 +96,20 @@ fn give_up_in_turn(alloc: Global, kernel: &mut Kernel<MemDevice>) -> Result<(u8,
 fn a_split_is_taken_back_behind_each_step(rt: HostRuntime) -> Result<(), Fail> {
     let mut kernel = kernel_of(rt.alloc(), 64, 4, 64, &COUNTERS)?;
     let filled = fill(rt.alloc(), &mut kernel);
-    let told = give_up_in_turn(rt.alloc(), &mut kernel);
+    let outcome = give_up_in_turn(rt.alloc(), &mut kernel);
     put_away(kernel);
-    assert!(rt; filled? == Told::Committed(58) && told? == (12, true));
+    assert!(rt; filled? == Outcome::Committed(58) && outcome? == (12, true));
     Ok(())
 }
 
-const NO_MEMORY: Told = Told::Refused(Refusal::NoMemory);
+const NO_MEMORY: Outcome = Outcome::Refused(Refusal::NoMemory);
 
 // Calls the insert of key 58, once more if memory was refused.
-fn call_again(alloc: Global, kernel: &mut Kernel<MemDevice>, txn: TxnNo) -> Result<Told, Refusal> {
+fn call_again(
+    alloc: Global,
+    kernel: &mut Kernel<MemDevice>,
+    txn: TxnNo,
+) -> Result<Outcome, Refusal> {
     match called(kernel, txn, insert_of(alloc, 58)?) {
         NO_MEMORY => Ok(called(kernel, txn, insert_of(alloc, 58)?)),
         other => Ok(other),
@@ -113,17 +117,17 @@ fn call_again(alloc: Global, kernel: &mut Kernel<MemDevice>, txn: TxnNo) -> Resu
 }
 
 // Makes the insert of key 58, and goes on if memory was refused.
-fn insert_over_refusals(alloc: Global, kernel: &mut Kernel<MemDevice>) -> Result<Told, Refusal> {
+fn insert_over_refusals(alloc: Global, kernel: &mut Kernel<MemDevice>) -> Result<Outcome, Refusal> {
     let txn = kernel.begin(1)?;
-    let mut told = call_again(alloc, kernel, txn)?;
+    let mut outcome = call_again(alloc, kernel, txn)?;
     for _step in 0..40u8 {
-        match told {
-            Told::Started | Told::Went | NO_MEMORY => {}
+        match outcome {
+            Outcome::Started | Outcome::Went | NO_MEMORY => {}
             other => return Ok(other),
         }
-        told = stepped(kernel, txn);
+        outcome = stepped(kernel, txn);
     }
-    Ok(told)
+    Ok(outcome)
 }
 
 // With an allocation refused in it (`rt try --test --fail-alloc N`) it shows that a refused step is made when it is
@@ -132,8 +136,8 @@ fn insert_over_refusals(alloc: Global, kernel: &mut Kernel<MemDevice>) -> Result
 fn a_split_goes_where_memory_was_refused(rt: HostRuntime) -> Result<(), Fail> {
     let mut kernel = kernel_of(rt.alloc(), 64, 4, 64, &COUNTERS)?;
     let filled = fill(rt.alloc(), &mut kernel);
-    let told = insert_over_refusals(rt.alloc(), &mut kernel);
+    let outcome = insert_over_refusals(rt.alloc(), &mut kernel);
     put_away(kernel);
-    assert!(rt; filled? == Told::Committed(58) && told? == Told::Done);
+    assert!(rt; filled? == Outcome::Committed(58) && outcome? == Outcome::Done);
     Ok(())
 }

@@ -22,8 +22,8 @@ fn stopped_in_turn(alloc: Global) -> Result<[Option<u64>; 5], Refusal> {
         Fill::New,
     )?;
     let mut stops = [None; 5];
-    for (told, fill) in stops.iter_mut().zip(FILLS) {
-        *told = stops_of(alloc, run.content.as_slice(), BASE, fill)?;
+    for (outcome, fill) in stops.iter_mut().zip(FILLS) {
+        *outcome = stops_of(alloc, run.content.as_slice(), BASE, fill)?;
     }
     Ok(stops)
 }

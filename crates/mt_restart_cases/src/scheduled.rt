@@ -181,8 +181,8 @@ fn a_row_stands_wherever_its_run_stops(rt: HostRuntime) -> Result<(), Fail> {
         bases: &[b" 5", b"0 a=x; 5"],
         calls: 4,
     };
-    let told = each_stop(rt.alloc(), &run)?;
-    assert!(rt; told == due(10, ROW_OPENINGS, 1));
+    let outcome = each_stop(rt.alloc(), &run)?;
+    assert!(rt; outcome == due(10, ROW_OPENINGS, 1));
     Ok(())
 }
 
@@ -198,8 +198,8 @@ fn adds_of_two_stand_wherever_their_run_stops(rt: HostRuntime) -> Result<(), Fai
         bases: &[b" 5", b" 8"],
         calls: 8,
     };
-    let told = each_stop(rt.alloc(), &run)?;
-    assert!(rt; told == due(19, TWO_FORCES_OPENINGS, 1));
+    let outcome = each_stop(rt.alloc(), &run)?;
+    assert!(rt; outcome == due(19, TWO_FORCES_OPENINGS, 1));
     Ok(())
 }
 
@@ -210,8 +210,8 @@ fn an_insert_under_way_leaves_nothing_wherever_it_stops(rt: HostRuntime) -> Resu
         bases: &[b" 5"],
         calls: 4,
     };
-    let told = each_stop(rt.alloc(), &run)?;
-    assert!(rt; told == due(10, ROW_OPENINGS, 0));
+    let outcome = each_stop(rt.alloc(), &run)?;
+    assert!(rt; outcome == due(10, ROW_OPENINGS, 0));
     Ok(())
 }
 
@@ -222,8 +222,8 @@ fn an_abort_under_way_leaves_the_number_wherever_it_stops(rt: HostRuntime) -> Re
         bases: &[b" 5"],
         calls: 4,
     };
-    let told = each_stop(rt.alloc(), &run)?;
-    assert!(rt; told == due(10, ROW_OPENINGS, 0));
+    let outcome = each_stop(rt.alloc(), &run)?;
+    assert!(rt; outcome == due(10, ROW_OPENINGS, 0));
     Ok(())
 }
 
@@ -250,8 +250,8 @@ fn rows_stand_wherever_a_rotation_stops(rt: HostRuntime) -> Result<(), Fail> {
         bases: &ROTATION_BASES,
         calls: 27,
     };
-    let told = each_stop(rt.alloc(), &run)?;
-    assert!(rt; told == due(62, ROTATION_OPENINGS, 2));
+    let outcome = each_stop(rt.alloc(), &run)?;
+    assert!(rt; outcome == due(62, ROTATION_OPENINGS, 2));
     Ok(())
 }
 
@@ -281,8 +281,8 @@ fn rows_stand_wherever_a_split_and_an_abort_stop(rt: HostRuntime) -> Result<(), 
         bases: &SPLIT_BASES,
         calls: 15,
     };
-    let told = each_stop(rt.alloc(), &run)?;
-    assert!(rt; told == due(43, SPLIT_OPENINGS, 2));
+    let outcome = each_stop(rt.alloc(), &run)?;
+    assert!(rt; outcome == due(43, SPLIT_OPENINGS, 2));
     Ok(())
 }
 

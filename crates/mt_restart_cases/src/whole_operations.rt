@@ -11,7 +11,7 @@ use std::alloc::Global;
 
 /// What a call answered, values by their lengths.
 #[derive(Clone, Copy, PartialEq, Eq)]
-pub enum Told {
+pub enum Outcome {
     Started,
     Went,
     Again,
@@ -50,140 +50,140 @@ pub fn kernel_of(
     }
 }
 
-fn told_of(reply: &Reply) -> Told {
+fn reported_of(reply: &Reply) -> Outcome {
     match reply {
-        Reply::Found(value) => Told::Found(value.len()),
-        Reply::Missing => Told::Missing,
-        Reply::Exists => Told::Exists,
-        Reply::Done => Told::Done,
-        Reply::Was(value) => Told::Was(value.len()),
-        Reply::Value(number) => Told::Value(*number),
-        Reply::OutOfBounds => Told::OutOfBounds,
+        Reply::Found(value) => Outcome::Found(value.len()),
+        Reply::Missing => Outcome::Missing,
+        Reply::Exists => Outcome::Exists,
+        Reply::Done => Outcome::Done,
+        Reply::Was(value) => Outcome::Was(value.len()),
+        Reply::Value(number) => Outcome::Value(*number),
+        Reply::OutOfBounds => Outcome::OutOfBounds,
     }
 }
 
-fn told_of_call(called: Called) -> Told {
+fn reported_of_call(called: Called) -> Outcome {
     match called {
-        Called::Started => Told::Started,
-        Called::Wait(holder) => Told::Wait(holder.get()),
+        Called::Started => Outcome::Started,
+        Called::Wait(holder) => Outcome::Wait(holder.get()),
     }
 }
 
 /// Calls an operation.
-pub fn called<D: Device>(kernel: &mut Kernel<D>, txn: TxnNo, op: Op) -> Told {
+pub fn called<D: Device>(kernel: &mut Kernel<D>, txn: TxnNo, op: Op) -> Outcome {
     match kernel.call(txn, op) {
-        Ok(called) => told_of_call(called),
-        Err(why) => Told::Refused(why),
+        Ok(called) => reported_of_call(called),
+        Err(why) => Outcome::Refused(why),
     }
 }
 
-fn told_of_step(stepped: &Stepped) -> Told {
+fn reported_of_step(stepped: &Stepped) -> Outcome {
     match stepped {
-        Stepped::Went => Told::Went,
-        Stepped::Wait(other) => Told::Wait(other.get()),
-        Stepped::Again => Told::Again,
-        Stepped::Flush => Told::Flush,
-        Stepped::Replied(reply) => told_of(reply),
+        Stepped::Went => Outcome::Went,
+        Stepped::Wait(other) => Outcome::Wait(other.get()),
+        Stepped::Again => Outcome::Again,
+        Stepped::Flush => Outcome::Flush,
+        Stepped::Replied(reply) => reported_of(reply),
     }
 }
 
 /// Makes a step of an operation.
-pub fn stepped<D: Device>(kernel: &mut Kernel<D>, txn: TxnNo) -> Told {
+pub fn stepped<D: Device>(kernel: &mut Kernel<D>, txn: TxnNo) -> Outcome {
     match kernel.step(txn) {
-        Ok(stepped) => told_of_step(&stepped),
-        Err(why) => Told::Refused(why),
+        Ok(stepped) => reported_of_step(&stepped),
+        Err(why) => Outcome::Refused(why),
     }
 }
 
 // Writes a page into its slot, after the log's force if it waits for one. Answers `Went` if one was written.
-fn flushed<D: Device>(kernel: &mut Kernel<D>) -> Told {
+fn flushed<D: Device>(kernel: &mut Kernel<D>) -> Outcome {
     for _step in 0..16u8 {
         match kernel.flush_step() {
-            Ok(Flushed::Page(_)) => return Told::Went,
+            Ok(Flushed::Page(_)) => return Outcome::Went,
             Ok(Flushed::Force) => {}
-            Ok(Flushed::Clean) => return Told::Stuck,
-            Err(why) => return Told::Refused(why),
+            Ok(Flushed::Clean) => return Outcome::Stuck,
+            Err(why) => return Outcome::Refused(why),
         }
         if let Err(why) = kernel.force_step() {
-            return Told::Refused(why);
+            return Outcome::Refused(why);
         }
     }
-    Told::Stuck
+    Outcome::Stuck
 }
 
 // Makes a step of an operation, or makes room for it.
-fn stepped_or_flushed<D: Device>(kernel: &mut Kernel<D>, txn: TxnNo) -> Told {
+fn stepped_or_flushed<D: Device>(kernel: &mut Kernel<D>, txn: TxnNo) -> Outcome {
     match stepped(kernel, txn) {
-        Told::Flush => flushed(kernel),
+        Outcome::Flush => flushed(kernel),
         other => other,
     }
 }
 
 /// Makes an operation from its call to its reply, or to what is in its way.
-pub fn run<D: Device>(kernel: &mut Kernel<D>, txn: TxnNo, op: Op) -> Told {
-    let mut told = called(kernel, txn, op);
+pub fn run<D: Device>(kernel: &mut Kernel<D>, txn: TxnNo, op: Op) -> Outcome {
+    let mut outcome = called(kernel, txn, op);
     for _step in 0..1000u16 {
-        match told {
-            Told::Started | Told::Went | Told::Again => {}
+        match outcome {
+            Outcome::Started | Outcome::Went | Outcome::Again => {}
             other => return other,
         }
-        told = stepped_or_flushed(kernel, txn);
+        outcome = stepped_or_flushed(kernel, txn);
     }
-    Told::Stuck
+    Outcome::Stuck
 }
 
 /// Commits a transaction, and makes the commit durable.
-pub fn committed<D: Device>(kernel: &mut Kernel<D>, txn: TxnNo) -> Told {
+pub fn committed<D: Device>(kernel: &mut Kernel<D>, txn: TxnNo) -> Outcome {
     let place = match kernel.commit_begin(txn) {
         Ok(place) => place,
-        Err(why) => return Told::Refused(why),
+        Err(why) => return Outcome::Refused(why),
     };
     for _step in 0..8u8 {
         match kernel.force_step() {
             Ok(KernelForced::Durable(names)) => {
                 if names.as_slice() == [txn].as_slice() {
-                    return Told::Committed(place);
+                    return Outcome::Committed(place);
                 }
             }
             Ok(_) => {}
-            Err(why) => return Told::Refused(why),
+            Err(why) => return Outcome::Refused(why),
         }
     }
-    Told::Stuck
+    Outcome::Stuck
 }
 
-fn told_of_abort(stepped: AbortStepped) -> Told {
+fn reported_of_abort(stepped: AbortStepped) -> Outcome {
     match stepped {
-        AbortStepped::More => Told::Went,
-        AbortStepped::Wait(other) => Told::Wait(other.get()),
-        AbortStepped::Again => Told::Again,
-        AbortStepped::Flush => Told::Flush,
-        AbortStepped::Ended => Told::Aborted,
+        AbortStepped::More => Outcome::Went,
+        AbortStepped::Wait(other) => Outcome::Wait(other.get()),
+        AbortStepped::Again => Outcome::Again,
+        AbortStepped::Flush => Outcome::Flush,
+        AbortStepped::Ended => Outcome::Aborted,
     }
 }
 
 // Makes a step of an abort, or makes room for it.
-fn abort_stepped<D: Device>(kernel: &mut Kernel<D>, txn: TxnNo) -> Told {
-    let told = match kernel.abort_step(txn) {
-        Ok(stepped) => told_of_abort(stepped),
-        Err(why) => Told::Refused(why),
+fn abort_stepped<D: Device>(kernel: &mut Kernel<D>, txn: TxnNo) -> Outcome {
+    let outcome = match kernel.abort_step(txn) {
+        Ok(stepped) => reported_of_abort(stepped),
+        Err(why) => Outcome::Refused(why),
     };
-    match told {
-        Told::Flush => flushed(kernel),
+    match outcome {
+        Outcome::Flush => flushed(kernel),
         other => other,
     }
 }
 
 /// Aborts a transaction.
-pub fn aborted<D: Device>(kernel: &mut Kernel<D>, txn: TxnNo) -> Told {
+pub fn aborted<D: Device>(kernel: &mut Kernel<D>, txn: TxnNo) -> Outcome {
     if let Err(why) = kernel.abort_begin(txn) {
-        return Told::Refused(why);
+        return Outcome::Refused(why);
     }
     for _step in 0..10_000u16 {
         match abort_stepped(kernel, txn) {
-            Told::Went | Told::Again => {}
+            Outcome::Went | Outcome::Again => {}
             other => return other,
         }
     }
-    Told::Stuck
+    Outcome::Stuck
 }

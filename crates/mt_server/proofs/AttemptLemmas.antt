@@ -20,12 +20,12 @@ use Rattle.mt_server.specs.declared.attempts.Ran.{Ran}
 use Rattle.mt_server.specs.declared.attempts.Ran.TheVariants as ran
 use Rattle.mt_server.specs.declared.line_answers.Stop.{Stop}
 use Rattle.mt_server.specs.declared.line_answers.Stop.TheVariants as stop
-use Rattle.mt_alone.proofs.TranscriptLemmas.{all_told, none_told, runs_then}
+use Rattle.mt_alone.proofs.TranscriptLemmas.{all_reported, none_reported, runs_then}
 use Rattle.mt_locked.specs.Seen.{PassSeen, fresh}
 
 module _ (b : Base) (session : ℕ) where
   pub none_served : (start : Place) (was : List ℕ) → HasServed b session start [] was was start
-  none_served start was = record { answers = []; served = starts; text = none_told was }
+  none_served start was = record { answers = []; served = starts; text = none_reported was }
 
   one_served : (start end : Place) (l : Line) (a : Answer) (was now : List ℕ) → Turns b session start l a end → now ≡ was ++ transcript_text (a ∷ []) → HasServed b session start (l ∷ []) was now end
   one_served start end l a was now turns text = record { answers = a ∷ []; served = goes_on [] [] start end l a starts turns; text = text }
@@ -34,7 +34,7 @@ module _ (b : Base) (session : ℕ) where
   served_then start mid end ls ms was at now first next = record {
     answers = first.answers ++ next.answers;
     served = runs_then start mid end ls ms first.answers next.answers first.served next.served;
-    text = all_told first.answers next.answers was at now first.text next.text;
+    text = all_reported first.answers next.answers was at now first.text next.text;
   }
 
   served_prefix : (start end : Place) (ls : List Line) (was now : List ℕ) → HasServed b session start ls was now end → IsPrefix was now
@@ -127,8 +127,8 @@ module _ (b : Base) (session : ℕ) where
       → Running b session (within booked [] pass) lines mid now new result → Running b session (between booked pass) (line.Begin ∷ lines) was now new (and_begin result)
   run_behind booked pass lines was mid now new (Ok (ran.Ended count)) text (end, pass_is, ended, le, served) =
       (end, pass_is, ended, omega (arith, le), served_then (between booked pass) (within booked [] pass) end (line.Begin ∷ []) (take count lines) was mid now (begun booked pass was mid text) served)
-  run_behind booked pass lines was mid now new (Ok ran.AtEnd) text (end, at, pass_is, live, served, told) =
-      (end, at, pass_is, live, served_then (between booked pass) (within booked [] pass) end (line.Begin ∷ []) lines was mid at (begun booked pass was mid text) served, told)
+  run_behind booked pass lines was mid now new (Ok ran.AtEnd) text (end, at, pass_is, live, served, outcome) =
+      (end, at, pass_is, live, served_then (between booked pass) (within booked [] pass) end (line.Begin ∷ []) lines was mid at (begun booked pass was mid text) served, outcome)
   run_behind booked pass lines was mid now new (Err stop.Died) text (stays, front) =
       (stays, prefix_trans was mid now (transcript_text (Begun ∷ []), sym text) front)
   run_behind booked pass lines was mid now new (Err stop.Failed) text f = record {

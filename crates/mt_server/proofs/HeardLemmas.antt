@@ -13,7 +13,7 @@ use Rattle.mt_script.specs.declared.answers.Answer.{Answer}
 use Rattle.mt_script.specs.declared.answers.Answer.TheVariants.{Committed as CommittedAt}
 use Rattle.mt_script.specs.declared.lines.Line.{Line}
 use Rattle.mt_alone.specs.Plays.{Runs, starts, goes_on}
-use Rattle.mt_server.specs.Heard.{Heard, silence, Hears, begins, replies, commits, aborts, dies, refuses, StandsAt, Rise, nowhere, higher, IsEnd, ends, fails, IsTold}
+use Rattle.mt_server.specs.Heard.{Heard, silence, Hears, begins, replies, commits, aborts, dies, refuses, StandsAt, Rise, nowhere, higher, IsEnd, ends, fails, IsReported}
 use Rattle.mt_server.specs.Hearing.{Place, entry_of, Grows, IsSession, Turns, Served}
 use Rattle.mt_locked.specs.Seen.{PassSeen, Extends}
 
@@ -32,9 +32,9 @@ stands_on session book more place calls (rest, grown) s =
 all_stand_on : (session : ℕ) (book more : List Committed) (booked : List (ℕ × List Call)) → IsPrefix book more → All (λ (c : ℕ × List Call). StandsAt session book c.0 c.1) booked → All (λ (c : ℕ × List Call). StandsAt session more c.0 c.1) booked
 all_stand_on session book more booked grown all = All-weaker (λ (c : ℕ × List Call). StandsAt session book c.0 c.1) (λ (c : ℕ × List Call). StandsAt session more c.0 c.1) (λ c s. stands_on session book more c.0 c.1 grown s) booked all
 
--- what is told of a book is told of a longer one
-pub told_on : (failed : Bool) (session : ℕ) (lines : List Line) (text : List ℕ) (booked : List (ℕ × List Call)) (book more : List Committed) → IsPrefix book more → IsTold failed session lines text booked book → IsTold failed session lines text booked more
-told_on failed session lines text booked book more grown t = record {
+-- what is reported of a book is reported of a longer one
+pub reported_on : (failed : Bool) (session : ℕ) (lines : List Line) (text : List ℕ) (booked : List (ℕ × List Call)) (book more : List Committed) → IsPrefix book more → IsReported failed session lines text booked book → IsReported failed session lines text booked more
+reported_on failed session lines text booked book more grown t = record {
   before = t.before;
   rest = t.rest;
   lines_are = t.lines_are;
@@ -54,8 +54,8 @@ may_fail : (a b : Bool) (u : Option (List Call)) (rest : List Line) (last : List
 may_fail a b u _ _ may ends = ends
 may_fail a b u _ _ may (fails rest failed) = fails rest (may failed)
 
-pub told_failing : (a b : Bool) (session : ℕ) (lines : List Line) (text : List ℕ) (booked : List (ℕ × List Call)) (book : List Committed) → (a ≡ true → b ≡ true) → IsTold a session lines text booked book → IsTold b session lines text booked book
-told_failing a b session lines text booked book may t = record {
+pub reported_failing : (a b : Bool) (session : ℕ) (lines : List Line) (text : List ℕ) (booked : List (ℕ × List Call)) (book : List Committed) → (a ≡ true → b ≡ true) → IsReported a session lines text booked book → IsReported b session lines text booked book
+reported_failing a b session lines text booked book may t = record {
   before = t.before;
   rest = t.rest;
   lines_are = t.lines_are;
@@ -180,9 +180,9 @@ heard_of : (b : Base) (session : ℕ) (s e : Place) (ls : List Line) (as' : List
 heard_of b session s _ _ _ starts = starts
 heard_of b session s _ _ _ (goes_on lines answers mid end line answer before turn) = goes_on lines answers mid.heard end.heard line answer (heard_of b session s mid lines answers before) turn.hears
 
--- what a session was told holds in each book that begins with what its pass has seen
-pub session_told : (failed : Bool) (b : Base) (session : ℕ) (lines : List Line) (text : List ℕ) (old new : PassSeen) (book : List Committed) → (s : IsSession failed b session lines text old new) → IsPrefix (dones new.seen) book → IsTold failed session lines text s.end.heard.booked book
-session_told failed b session lines text old new book s front =
+-- what a session was reported holds in each book that begins with what its pass has seen
+pub session_reported : (failed : Bool) (b : Base) (session : ℕ) (lines : List Line) (text : List ℕ) (old new : PassSeen) (book : List Committed) → (s : IsSession failed b session lines text old new) → IsPrefix (dones new.seen) book → IsReported failed session lines text s.end.heard.booked book
+session_reported failed b session lines text old new book s front =
     let start : Place = record { heard = silence; pass = old } in
     let stood = stood_on b session old start s.end s.before s.answers (nothing_yet session old) s.served in
     let seen : IsPrefix (dones s.end.pass.seen) book = subst (λ (x : PassSeen). IsPrefix (dones x.seen) book) (sym s.pass_is) front in

@@ -40,8 +40,8 @@ module _ (b : Base) (txn : Entry) (pass : PassSeen) (own : txn.pass ≡ pass.num
   token_is : (t : Entry) (new : PassSeen) → t.pass ≡ pass.number → new ≡ pass → t ≡ entry_of new.number t.done.session t.done.calls
   token_is t new mine same = ap (λ (n : ℕ). entry_of n t.done.session t.done.calls) (mine ∙ ap (λ (x : PassSeen). x.number) (sym same))
 
-  pub told_refused : (l : Line) (why : Refusal) (was now : List ℕ) (new : PassSeen) (r : Result (Option Entry) Stop) → IsRefusable (Some txn.done.calls) l why → Telling txn pass was now new (Refused why) r → Turning b txn pass l was now new r
-  told_refused l why was now new (Ok token) may (same, stays, text) = λ booked.
+  pub reported_refused : (l : Line) (why : Refusal) (was now : List ℕ) (new : PassSeen) (r : Result (Option Entry) Stop) → IsRefusable (Some txn.done.calls) l why → Telling txn pass was now new (Refused why) r → Turning b txn pass l was now new r
+  reported_refused l why was now new (Ok token) may (same, stays, text) = λ booked.
       let end : Place = within booked txn.done.calls new in
       record {
         end = end;
@@ -52,10 +52,10 @@ module _ (b : Base) (txn : Entry) (pass : PassSeen) (own : txn.pass ≡ pass.num
         turns = record { hears = refuses l why may; grows = stays };
         text = text;
       }
-  told_refused l why was now new (Err s) may stopped = stopped
+  reported_refused l why was now new (Err s) may stopped = stopped
 
-  pub told_reply : (op : Op) (reply : Reply) (was now : List ℕ) (new : PassSeen) (r : Result (Option Entry) Stop) → Telling (with_call txn op reply) pass was now new (Replied reply) r → Turning b txn pass (line.Call op) was now new r
-  told_reply op reply was now new (Ok token) (same, stays, text) = λ booked.
+  pub reported_reply : (op : Op) (reply : Reply) (was now : List ℕ) (new : PassSeen) (r : Result (Option Entry) Stop) → Telling (with_call txn op reply) pass was now new (Replied reply) r → Turning b txn pass (line.Call op) was now new r
+  reported_reply op reply was now new (Ok token) (same, stays, text) = λ booked.
       let calls : List Call = txn.done.calls ++ (op, reply) ∷ [] in
       let end : Place = within booked calls new in
       record {
@@ -67,10 +67,10 @@ module _ (b : Base) (txn : Entry) (pass : PassSeen) (own : txn.pass ≡ pass.num
         turns = record { hears = replies txn.done.calls op reply refl; grows = stays };
         text = text;
       }
-  told_reply op reply was now new (Err s) stopped = stopped
+  reported_reply op reply was now new (Err s) stopped = stopped
 
-  pub told_aborted : (was now : List ℕ) (new : PassSeen) → new ≡ pass → now ≡ was ++ transcript_text (Aborted ∷ []) → Turning b txn pass line.Abort was now new (Ok None)
-  told_aborted was now new same text = λ booked. record {
+  pub reported_aborted : (was now : List ℕ) (new : PassSeen) → new ≡ pass → now ≡ was ++ transcript_text (Aborted ∷ []) → Turning b txn pass line.Abort was now new (Ok None)
+  reported_aborted was now new same text = λ booked. record {
     end = between booked new;
     pass_is = refl;
     at = refl;
@@ -80,8 +80,8 @@ module _ (b : Base) (txn : Entry) (pass : PassSeen) (own : txn.pass ≡ pass.num
     text = text;
   }
 
-  pub told_dead : (op : Op) (holder : ℕ) (was now : List ℕ) (new : PassSeen) → new ≡ pass → now ≡ was ++ transcript_text (Refused (refusal.Die holder) ∷ []) → Turning b txn pass (line.Call op) was now new (Ok None)
-  told_dead op holder was now new same text = λ booked. record {
+  pub reported_dead : (op : Op) (holder : ℕ) (was now : List ℕ) (new : PassSeen) → new ≡ pass → now ≡ was ++ transcript_text (Refused (refusal.Die holder) ∷ []) → Turning b txn pass (line.Call op) was now new (Ok None)
+  reported_dead op holder was now new same text = λ booked. record {
     end = between booked new;
     pass_is = refl;
     at = refl;
@@ -91,8 +91,8 @@ module _ (b : Base) (txn : Entry) (pass : PassSeen) (own : txn.pass ≡ pass.num
     text = text;
   }
 
-  pub told_commit : (place : ℕ) (was now : List ℕ) (new : PassSeen) → Extends b pass txn place new → now ≡ was ++ transcript_text (CommittedAt place ∷ []) → Turning b txn pass line.Commit was now new (Ok None)
-  told_commit place was now new extends text = λ booked.
+  pub reported_commit : (place : ℕ) (was now : List ℕ) (new : PassSeen) → Extends b pass txn place new → now ≡ was ++ transcript_text (CommittedAt place ∷ []) → Turning b txn pass line.Commit was now new (Ok None)
+  reported_commit place was now new extends text = λ booked.
       let same : txn ≡ entry_of pass.number txn.done.session txn.done.calls = token_is txn pass own refl in
       record {
         end = between (booked ++ (place, txn.done.calls) ∷ []) new;

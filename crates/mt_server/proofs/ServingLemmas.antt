@@ -9,8 +9,8 @@ use Rattle.mt_model.specs.declared.history.Committed.{Committed}
 use Rattle.mt_model.specs.declared.tables.Base.{Base}
 use Rattle.mt_script.specs.declared.lines.Line.{Line}
 use Rattle.mt_server.specs.Crews.{IsBlank, IsBoard, IsFull}
-use Rattle.mt_server.specs.Heard.{AreTold, all_booked}
-use Rattle.mt_server.proofs.HeardLemmas.{told_failing}
+use Rattle.mt_server.specs.Heard.{AreReported, all_booked}
+use Rattle.mt_server.proofs.HeardLemmas.{reported_failing}
 use Rattle.mt_server.specs.declared.board.Board.{Board}
 use Rattle.mt_server.specs.Serves.{IsLate, IsServedOn, IsUnopened}
 use Rattle.mt_locked.proofs.Keeping.{legal_book}
@@ -40,11 +40,11 @@ blank_board scripts board book blank = record {
   counted = none_booked (length scripts);
 }
 
-pub board_told : (failed : Bool) (scripts : List (List Line)) (board : Board) (book : List Committed) (count : ℕ) → IsBoard scripts board book count → IsFull board → (board.has_failed ≡ true → failed ≡ true) → length book ≡ count → AreTold failed scripts board.texts.items book
-board_told failed scripts board book count b full may many = record {
+pub board_reported : (failed : Bool) (scripts : List (List Line)) (board : Board) (book : List Committed) (count : ℕ) → IsBoard scripts board book count → IsFull board → (board.has_failed ≡ true → failed ≡ true) → length book ≡ count → AreReported failed scripts board.texts.items book
+board_reported failed scripts board book count b full may many = record {
   count = b.texts;
   booked = b.booked;
-  each = λ i lines lt is. told_failing board.has_failed failed (i + 1) lines (get_or board.texts.items i []) (get_or b.booked i []) book may (b.each i lines lt is (full i (omega (arith, lt, b.filled))));
+  each = λ i lines lt is. reported_failing board.has_failed failed (i + 1) lines (get_or board.texts.items i []) (get_or b.booked i []) book may (b.each i lines lt is (full i (omega (arith, lt, b.filled))));
   many = b.many;
   whole = many ∙ sym b.counted;
 }

@@ -12,7 +12,7 @@ use Rattle.mt_server.specs.Hearing.{HasFailed, HasRan, HasServed, IsSession, Pla
 use Rattle.mt_alone.specs.Runs.{last_line}
 use Rattle.mt_server.specs.declared.attempts.Ran.TheVariants as ran
 use Rattle.mt_server.proofs.AttemptLemmas.{none_served, served_then}
-use Rattle.mt_alone.proofs.TranscriptLemmas.{all_told}
+use Rattle.mt_alone.proofs.TranscriptLemmas.{all_reported}
 use Rattle.mt_locked.specs.Seen.{PassSeen}
 
 module _ (b : Base) (session : ℕ) (old : PassSeen) (lines : List Line) where
@@ -46,7 +46,7 @@ module _ (b : Base) (session : ℕ) (old : PassSeen) (lines : List Line) where
       )
 
   whole_text : (answers last : List Answer) (mid now : List ℕ) → mid ≡ transcript_text answers → now ≡ mid ++ transcript_text last → now ≡ transcript_text (answers ++ last)
-  whole_text answers last mid now before told = all_told answers last [] mid now before told
+  whole_text answers last mid now before outcome = all_reported answers last [] mid now before outcome
 
   pub all_answered : (at : ℕ) (text : List ℕ) (pass : PassSeen) → length lines ≤ at → Stands at text pass → IsSession false b session lines text old pass
   all_answered at text pass past s =

@@ -6,31 +6,31 @@ use Rattle.mt_mark.specs.Rule.{dones, own}
 use Rattle.mt_model.specs.History.{Call}
 use Rattle.mt_model.specs.declared.history.Committed.{Committed}
 use Rattle.mt_script.specs.declared.lines.Line.{Line}
-use Rattle.mt_server.specs.Heard.{IsTold, all_booked}
+use Rattle.mt_server.specs.Heard.{IsReported, all_booked}
 use Rattle.mt_server.specs.declared.board.Board.{Board}
-use Rattle.mt_server.specs.declared.board.Told.{Told}
+use Rattle.mt_server.specs.declared.board.Reported.{Reported}
 use Rattle.mt_locked.specs.Seen.{PassSeen}
 
 -- the transcript of the script at its place, from 0, which reports these commits
-pub record IsToldOf (scripts : List (List Line)) (book : List Committed) (t : Told) (booked : List (ℕ × List Call)) : Type 0 where
+pub record IsReportedOf (scripts : List (List Line)) (book : List Committed) (t : Reported) (booked : List (ℕ × List Call)) : Type 0 where
   pub lines : List Line
   pub within : t.at < length scripts
   pub lines_are : lines ≡ get_or scripts t.at lines
-  pub told : IsTold t.has_failed (t.at + 1) lines t.text booked book
+  pub outcome : IsReported t.has_failed (t.at + 1) lines t.text booked book
 
 -- each of these is one, and so many commits they tell together
-pub data AreToldOf (scripts : List (List Line)) (book : List Committed) : List Told → ℕ → Type 0 where
-  nothing_told : AreToldOf scripts book [] 0
-  one_more : (told : List Told) (count : ℕ) (t : Told) (booked : List (ℕ × List Call)) → AreToldOf scripts book told count → IsToldOf scripts book t booked
-      → AreToldOf scripts book (told ++ t ∷ []) (count + length booked)
+pub data AreReportedOf (scripts : List (List Line)) (book : List Committed) : List Reported → ℕ → Type 0 where
+  nothing_reported : AreReportedOf scripts book [] 0
+  one_more : (outcome : List Reported) (count : ℕ) (t : Reported) (booked : List (ℕ × List Call)) → AreReportedOf scripts book outcome count → IsReportedOf scripts book t booked
+      → AreReportedOf scripts book (outcome ++ t ∷ []) (count + length booked)
 
 -- as far as the pass has seen, and they tell of each commit of its own
-abbrev pub AreHeard : List (List Line) → PassSeen → List Told → Type 0
-AreHeard scripts pass told = AreToldOf scripts (dones pass.seen) told (own pass.number pass.seen)
+abbrev pub AreHeard : List (List Line) → PassSeen → List Reported → Type 0
+AreHeard scripts pass outcome = AreReportedOf scripts (dones pass.seen) outcome (own pass.number pass.seen)
 
 -- nothing is reported if one of them found no memory
-abbrev pub HasDone : List (List Line) → PassSeen → Result (Vec Told Global) AllocError → Type 0
-HasDone scripts pass done = IfOk done (λ told. AreHeard scripts pass told.items)
+abbrev pub HasDone : List (List Line) → PassSeen → Result (Vec Reported Global) AllocError → Type 0
+HasDone scripts pass done = IfOk done (λ outcome. AreHeard scripts pass outcome.items)
 
 -- What is in its place is the transcript of that script, and so many commits they tell together.
 pub record IsBoard (scripts : List (List Line)) (board : Board) (book : List Committed) (count : ℕ) : Type 0 where
@@ -39,7 +39,7 @@ pub record IsBoard (scripts : List (List Line)) (board : Board) (book : List Com
   pub booked : List (List (ℕ × List Call))
   pub many : length booked ≡ length scripts
   pub each : (i : ℕ) (lines : List Line) → i < length scripts → lines ≡ get_or scripts i lines → get_or board.filled.items i false ≡ true
-      → IsTold board.has_failed (i + 1) lines (get_or board.texts.items i []) (get_or booked i []) book
+      → IsReported board.has_failed (i + 1) lines (get_or board.texts.items i []) (get_or booked i []) book
   pub empty : (i : ℕ) → get_or board.filled.items i false ≡ false → get_or booked i [] ≡ []
   pub counted : all_booked booked ≡ count
 

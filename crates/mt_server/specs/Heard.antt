@@ -82,7 +82,7 @@ pub data Rise : List (ℕ × List Call) → ℕ → Type 0 where
 -- The transcript of a session: the text of what its lines were answered. These are the commits that it reports, each
 -- with its place and the calls that were replied to; each has that place in this book, and the places rise. It ends
 -- with 2 only if the device has failed.
-pub record IsTold (failed : Bool) (session : ℕ) (lines : List Line) (text : List ℕ) (booked : List (ℕ × List Call)) (book : List Committed) : Type 0 where
+pub record IsReported (failed : Bool) (session : ℕ) (lines : List Line) (text : List ℕ) (booked : List (ℕ × List Call)) (book : List Committed) : Type 0 where
   pub before : List Line
   pub rest : List Line
   pub lines_are : lines ≡ before ++ rest
@@ -103,9 +103,9 @@ all_booked (booked ∷ more) = length booked + all_booked more
 
 -- There is one for each script, in their order, of which the first is session 1. The book has no commit but those
 -- that they tell.
-pub record AreTold (failed : Bool) (scripts : List (List Line)) (texts : List (List ℕ)) (book : List Committed) : Type 0 where
+pub record AreReported (failed : Bool) (scripts : List (List Line)) (texts : List (List ℕ)) (book : List Committed) : Type 0 where
   pub count : length texts ≡ length scripts
   pub booked : List (List (ℕ × List Call))
-  pub each : (i : ℕ) (lines : List Line) → i < length scripts → lines ≡ get_or scripts i lines → IsTold failed (i + 1) lines (get_or texts i []) (get_or booked i []) book
+  pub each : (i : ℕ) (lines : List Line) → i < length scripts → lines ≡ get_or scripts i lines → IsReported failed (i + 1) lines (get_or texts i []) (get_or booked i []) book
   pub many : length booked ≡ length scripts
   pub whole : length book ≡ all_booked booked

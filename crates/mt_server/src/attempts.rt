@@ -59,7 +59,7 @@ fn go_on<D: Device, G: Gate + Drop, J: Naming, R: Wait>(
     requires own { txn.pass ≡ pass.old.number }
     ensures runs { (booked : List (ℕ × List Call)) → Running J.base txn.done.session
         (within booked txn.done.calls pass.old) lines.now out.old.items out.new.items pass.new result }
-    ensures lives { may_die ≡ false → IfErr result (λ told. told ≢ stop.Died) }
+    ensures lives { may_die ≡ false → IfErr result (λ outcome. outcome ≢ stop.Died) }
 {
     let mut kept = txn;
     let mut count = 0;
@@ -74,11 +74,11 @@ fn go_on<D: Device, G: Gate + Drop, J: Naming, R: Wait>(
 }
 
 /// Counts the begin among the lines that were answered.
-fn and_begin(told: Result<Ran, Stop>) -> Result<Ran, Stop>
-    requires few { AreFew told }
-    ensures { result ≡ and_begin told }
+fn and_begin(outcome: Result<Ran, Stop>) -> Result<Ran, Stop>
+    requires few { AreFew outcome }
+    ensures { result ≡ and_begin outcome }
 {
-    match told {
+    match outcome {
         Ok(Ran::Ended(count)) => Ok(Ran::Ended(count + 1)),
         Ok(Ran::AtEnd) => Ok(Ran::AtEnd),
         Err(why) => Err(why),
@@ -89,7 +89,7 @@ fn and_begin(told: Result<Ran, Stop>) -> Result<Ran, Stop>
 fn unbegun(out: &mut Vec<u8>, why: Refusal) -> Result<Ran, Stop>
     ensures runs { (b : Base) (session : ℕ) (booked : List (ℕ × List Call)) (pass : PassSeen) (lines : List Line)
         → Running b session (between booked pass) (line.Begin ∷ lines) out.old.items out.new.items pass result }
-    ensures lives { IfErr result (λ told. told ≢ stop.Died) }
+    ensures lives { IfErr result (λ outcome. outcome ≢ stop.Died) }
 {
     match why {
         Refusal::DeviceFailed => Err(fail(out)),
@@ -114,7 +114,7 @@ fn run_once<D: Device, G: Gate + Drop, J: Naming, R: Wait>(
     requires room { length lines.now + 1 < 2 ^ 64 }
     ensures runs { (booked : List (ℕ × List Call)) → Running J.base session (between booked pass.old)
         (line.Begin ∷ lines.now) out.old.items out.new.items pass.new result }
-    ensures lives { may_die ≡ false → IfErr result (λ told. told ≢ stop.Died) }
+    ensures lives { may_die ≡ false → IfErr result (λ outcome. outcome ≢ stop.Died) }
 {
     match hold.begin(rt, alloc, pass, session) {
         Ok(txn) => match tell_begun(out) {
@@ -148,7 +148,7 @@ pub(crate) fn run_surely<D: Device, G: Gate + Drop, J: Naming, R: Wait>(
     requires room { length lines.now + 1 < 2 ^ 64 }
     ensures runs { (booked : List (ℕ × List Call)) → Running J.base session (between booked pass.old)
         (line.Begin ∷ lines.now) out.old.items out.new.items pass.new result }
-    ensures lives { IfErr result (λ told. told ≢ stop.Died) }
+    ensures lives { IfErr result (λ outcome. outcome ≢ stop.Died) }
 {
     let kept = out.len();
     for run in 1..RUNS {

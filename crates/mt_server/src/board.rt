@@ -3,14 +3,14 @@ ghost use Rattle.std.specs.Prelude.{◌≡◌, ◌+◌, true, ℕ, List, IfOk, I
 ghost use Rattle.mt_model.specs.History.{Call};
 ghost use Rattle.mt_model.specs.declared.history.Committed.{Committed};
 ghost use Rattle.mt_script.specs.declared.lines.Line.{Line};
-ghost use Rattle.mt_server.specs.Crews.{AreToldOf, IsBoard, IsBlank, IsFull, IsToldOf};
+ghost use Rattle.mt_server.specs.Crews.{AreReportedOf, IsBoard, IsBlank, IsFull, IsReportedOf};
 
 use crate::transcript::Transcript;
 use std::alloc::{AllocError, Global};
 
 /// The transcript of the script at this place, from 0, and whether it ends with the refusal 2.
 #[derive(Drop)]
-pub struct Told {
+pub struct Reported {
     pub at: usize,
     pub text: Transcript,
     pub has_failed: bool,
@@ -50,16 +50,16 @@ pub(crate) fn blank(alloc: Global, count: usize) -> Result<Board, AllocError>
 
 impl Board {
     /// Puts a transcript in its place, if that is empty; whether it was.
-    fn place(&mut self, told: Told) -> bool
+    fn place(&mut self, outcome: Reported) -> bool
         ensures { IsTrue result → (scripts : List (List Line)) (book : List Committed) (booked : List (ℕ × List Call))
-            (count : ℕ) → IsToldOf scripts book told booked → IsBoard scripts self.old book count
+            (count : ℕ) → IsReportedOf scripts book outcome booked → IsBoard scripts self.old book count
             → IsBoard scripts self.new book (count + length booked) }
     {
-        let Told {
+        let Reported {
             at,
             text,
             has_failed,
-        } = told;
+        } = outcome;
         if at >= self.texts.len() || at >= self.filled.len() || self.filled[at] {
             return false;
         }
@@ -70,14 +70,14 @@ impl Board {
     }
 
     /// Puts each of them in its place; whether all of these were empty.
-    pub(crate) fn place_all(&mut self, told: Vec<Told>) -> bool
+    pub(crate) fn place_all(&mut self, outcome: Vec<Reported>) -> bool
         ensures { IsTrue result → (scripts : List (List Line)) (book : List Committed) (more count : ℕ)
-            → AreToldOf scripts book told.items more → IsBoard scripts self.old book count
+            → AreReportedOf scripts book outcome.items more → IsBoard scripts self.old book count
             → IsBoard scripts self.new book (count + more) }
     {
-        let mut told = told;
-        'told: while told.len() > 0 {
-            if let Some(last) = told.pop() {
+        let mut outcome = outcome;
+        'reported: while outcome.len() > 0 {
+            if let Some(last) = outcome.pop() {
                 if !self.place(last) {
                     return false;
                 }

@@ -9,7 +9,7 @@ ghost use Rattle.mt_alone.specs.Sessions.{lines_in};
 ghost use Rattle.mt_locked.specs.Seen.{PassSeen};
 ghost use Rattle.mt_locked.specs.Whole.{IsNew, all_own};
 
-use crate::board::{Board, Told};
+use crate::board::{Board, Reported};
 use crate::session::run_session;
 use crossbeam_channel::{Receiver, bounded};
 use mt_base::Refusal;
@@ -23,7 +23,7 @@ use std::thread::{Threads, join};
 
 /// What a worker gives back: its pass, and the transcripts of the scripts that it took. There are none if one of them
 /// found no memory.
-pub(crate) type Done<J> = (Pass<J>, Result<Vec<Told>, AllocError>);
+pub(crate) type Done<J> = (Pass<J>, Result<Vec<Reported>, AllocError>);
 
 /// Serves the next script of the queue; whether there was one. The only error is that a transcript found no memory.
 fn serve_next<D: Device, G: Gate + Drop, J: Naming, R: Wait>(
@@ -33,13 +33,13 @@ fn serve_next<D: Device, G: Gate + Drop, J: Naming, R: Wait>(
     queue: &Receiver<u32, Global>,
     scripts: &[Script],
     pass: &mut Pass<J>,
-    told: &mut Vec<Told>,
+    outcome: &mut Vec<Reported>,
 ) -> Result<bool, AllocError>
     requires few { length scripts.now ≤ MAX_SESSIONS }
-    ensures { IfOk result (λ _. AreHeard (map lines_in scripts.now) pass.old told.old.items
-        → AreHeard (map lines_in scripts.now) pass.new told.new.items) }
+    ensures { IfOk result (λ _. AreHeard (map lines_in scripts.now) pass.old outcome.old.items
+        → AreHeard (map lines_in scripts.now) pass.new outcome.new.items) }
 {
-    told.reserve(1)?;
+    outcome.reserve(1)?;
     let Ok(number) = queue.try_recv(rt) else {
         return Ok(false);
     };
@@ -48,7 +48,7 @@ fn serve_next<D: Device, G: Gate + Drop, J: Naming, R: Wait>(
         return Ok(false);
     }
     let (text, has_failed) = run_session(rt, alloc, shared, pass, number + 1, &scripts[at])?;
-    told.push_reserved(Told {
+    outcome.push_reserved(Reported {
         at,
         text,
         has_failed,
@@ -70,11 +70,11 @@ fn work<D: Device, G: Gate + Drop, J: Naming, R: Wait>(
     ensures { HasDone (map lines_in scripts.now) result.0 result.1 }
 {
     let mut pass = pass;
-    let mut told = Vec::new(alloc);
+    let mut outcome = Vec::new(alloc);
     'turns: for _ in rt.forever() {
-        match serve_next(rt, alloc, shared, queue, scripts, &mut pass, &mut told) {
+        match serve_next(rt, alloc, shared, queue, scripts, &mut pass, &mut outcome) {
             Ok(true) => {}
-            Ok(false) => return (pass, Ok(told)),
+            Ok(false) => return (pass, Ok(outcome)),
             Err(short) => return (pass, Err(short)),
         }
     }
@@ -200,9 +200,9 @@ pub(crate) fn gather<J: Naming>(
     let mut done = done;
     let mut passes = Vec::with_capacity(alloc, done.len())?;
     'crew: while done.len() > 0 {
-        if let Some((pass, told)) = done.pop() {
+        if let Some((pass, outcome)) = done.pop() {
             passes.push(pass)?;
-            if !board.place_all(told?) {
+            if !board.place_all(outcome?) {
                 return Err(AllocError);
             }
         }

@@ -31,7 +31,7 @@ pub enum Stop {
 /// Writes an answer. There may be no memory for it.
 fn tell(out: &mut Vec<u8>, answer: &Answer) -> Result<(), Stop>
     ensures ok { OnOk result (out.new.items ≡ out.old.items ++ transcript_text (answer.now ∷ [])) }
-    ensures err { IfErr result (λ told. told ≡ stop.Unheard) }
+    ensures err { IfErr result (λ outcome. outcome ≡ stop.Unheard) }
 {
     match write_answer(out, answer) {
         Ok(()) => Ok(()),
@@ -42,7 +42,7 @@ fn tell(out: &mut Vec<u8>, answer: &Answer) -> Result<(), Stop>
 /// Writes that a transaction has begun, as [`tell`].
 pub(crate) fn tell_begun(out: &mut Vec<u8>) -> Result<(), Stop>
     ensures ok { OnOk result (out.new.items ≡ out.old.items ++ transcript_text (answer.Begun ∷ [])) }
-    ensures err { IfErr result (λ told. told ≡ stop.Unheard) }
+    ensures err { IfErr result (λ outcome. outcome ≡ stop.Unheard) }
 {
     tell(out, &Answer::Begun)
 }
@@ -50,7 +50,7 @@ pub(crate) fn tell_begun(out: &mut Vec<u8>) -> Result<(), Stop>
 /// Writes a refusal, as [`tell`].
 pub(crate) fn refuse(out: &mut Vec<u8>, why: Refusal) -> Result<(), Stop>
     ensures ok { OnOk result (out.new.items ≡ out.old.items ++ transcript_text (answer.Refused why ∷ [])) }
-    ensures err { IfErr result (λ told. told ≡ stop.Unheard) }
+    ensures err { IfErr result (λ outcome. outcome ≡ stop.Unheard) }
 {
     tell(out, &Answer::Refused(why))
 }
@@ -58,7 +58,7 @@ pub(crate) fn refuse(out: &mut Vec<u8>, why: Refusal) -> Result<(), Stop>
 /// Writes that a transaction was taken back, as [`tell`].
 pub(crate) fn tell_aborted(out: &mut Vec<u8>) -> Result<(), Stop>
     ensures ok { OnOk result (out.new.items ≡ out.old.items ++ transcript_text (answer.Aborted ∷ [])) }
-    ensures err { IfErr result (λ told. told ≡ stop.Unheard) }
+    ensures err { IfErr result (λ outcome. outcome ≡ stop.Unheard) }
 {
     tell(out, &Answer::Aborted)
 }
@@ -66,7 +66,7 @@ pub(crate) fn tell_aborted(out: &mut Vec<u8>) -> Result<(), Stop>
 /// Writes the place of a commit, as [`tell`].
 fn tell_committed(out: &mut Vec<u8>, place: u64) -> Result<(), Stop>
     ensures ok { OnOk result (out.new.items ≡ out.old.items ++ transcript_text (answer.Committed place ∷ [])) }
-    ensures err { IfErr result (λ told. told ≡ stop.Unheard) }
+    ensures err { IfErr result (λ outcome. outcome ≡ stop.Unheard) }
 {
     tell(out, &Answer::Committed(place))
 }
@@ -117,7 +117,7 @@ fn refused<D: Device, G: Gate + Drop, J: Naming, R: Wait>(
     out: &mut Vec<u8>,
 ) -> Result<Option<Txn<J>>, Stop>
     ensures tells { Telling txn pass.old out.old.items out.new.items pass.new (answer.Refused why) result }
-    ensures lives { IfErr result (λ told. told ≢ stop.Died) }
+    ensures lives { IfErr result (λ outcome. outcome ≢ stop.Died) }
 {
     // a line that is no operation is not counted in the hold
     hold.give_back();
@@ -142,7 +142,7 @@ fn replied<D: Device, G: Gate + Drop, J: Naming, R: Wait>(
         × (txn.done.calls ≡ calls ++ (op, reply) ∷ []) }
     ensures tells { (calls : List Call) (op : Op) (reply : Reply) → txn.done.calls ≡ calls ++ (op, reply) ∷ []
         → Telling txn pass.old out.old.items out.new.items pass.new (answer.Replied reply) result }
-    ensures lives { IfErr result (λ told. told ≢ stop.Died) }
+    ensures lives { IfErr result (λ outcome. outcome ≢ stop.Died) }
 {
     let calls = txn.calls();
     match write_reply(out, &calls[calls.len() - 1].1) {
@@ -167,7 +167,7 @@ fn died<D: Device, G: Gate + Drop, J: Naming, R: Wait>(
     requires own { txn.pass ≡ pass.old.number }
     requires dies { (holder : ℕ) × (why ≡ Refusal.Die holder) }
     ensures turns { (op : Op) → Turning J.base txn pass.old (line.Call op) out.old.items out.new.items pass.new result }
-    ensures lives { may_die ≡ false → IfErr result (λ told. told ≢ stop.Died) }
+    ensures lives { may_die ≡ false → IfErr result (λ outcome. outcome ≢ stop.Died) }
 {
     if !take_back(rt, hold, pass, txn) {
         return Err(fail(out));
@@ -191,7 +191,7 @@ fn stopped<D: Device, G: Gate + Drop, J: Naming, R: Wait>(
 ) -> Result<Option<Txn<J>>, Stop>
     requires own { txn.pass ≡ pass.old.number }
     ensures turns { (op : Op) → Turning J.base txn pass.old (line.Call op) out.old.items out.new.items pass.new result }
-    ensures lives { may_die ≡ false → IfErr result (λ told. told ≢ stop.Died) }
+    ensures lives { may_die ≡ false → IfErr result (λ outcome. outcome ≢ stop.Died) }
 {
     match why {
         Refusal::Die(_) => died(rt, hold, pass, txn, why, may_die, out),
@@ -215,7 +215,7 @@ fn call<D: Device, G: Gate + Drop, J: Naming, R: Wait>(
 ) -> Result<Option<Txn<J>>, Stop>
     requires own { txn.pass ≡ pass.old.number }
     ensures turns { Turning J.base txn pass.old (line.Call op.now) out.old.items out.new.items pass.new result }
-    ensures lives { may_die ≡ false → IfErr result (λ told. told ≢ stop.Died) }
+    ensures lives { may_die ≡ false → IfErr result (λ outcome. outcome ≢ stop.Died) }
 {
     let Ok(copy) = op.try_clone() else {
         return refused(rt, hold, pass, txn, Refusal::NoMemory, out);
@@ -237,7 +237,7 @@ fn commit<D: Device, G: Gate + Drop, J: Naming, R: Wait>(
 ) -> Result<Option<Txn<J>>, Stop>
     requires own { txn.pass ≡ pass.old.number }
     ensures turns { Turning J.base txn pass.old line.Commit out.old.items out.new.items pass.new result }
-    ensures lives { IfErr result (λ told. told ≢ stop.Died) }
+    ensures lives { IfErr result (λ outcome. outcome ≢ stop.Died) }
 {
     match hold.commit(rt, pass, txn) {
         Ok(place) => {
@@ -261,7 +261,7 @@ fn abort<D: Device, G: Gate + Drop, J: Naming, R: Wait>(
 ) -> Result<Option<Txn<J>>, Stop>
     requires own { txn.pass ≡ pass.old.number }
     ensures turns { Turning J.base txn pass.old line.Abort out.old.items out.new.items pass.new result }
-    ensures lives { IfErr result (λ told. told ≢ stop.Died) }
+    ensures lives { IfErr result (λ outcome. outcome ≢ stop.Died) }
 {
     if !take_back(rt, hold, pass, txn) {
         return Err(fail(out));
@@ -284,7 +284,7 @@ pub(crate) fn turn<D: Device, G: Gate + Drop, J: Naming, R: Wait>(
 ) -> Result<Option<Txn<J>>, Stop>
     requires own { txn.pass ≡ pass.old.number }
     ensures turns { Turning J.base txn pass.old line.now out.old.items out.new.items pass.new result }
-    ensures lives { may_die ≡ false → IfErr result (λ told. told ≢ stop.Died) }
+    ensures lives { may_die ≡ false → IfErr result (λ outcome. outcome ≢ stop.Died) }
 {
     match line {
         Line::Begin => refused(rt, hold, pass, txn, Refusal::Busy, out),

@@ -5,7 +5,7 @@ ghost use mathlib.Core.List.{IsPrefix};
 ghost use Rattle.mt_mark.specs.Rule.{dones};
 ghost use Rattle.mt_model.specs.declared.history.Committed.{Committed};
 ghost use Rattle.mt_server.specs.Crews.{IsBlank, IsBoard};
-ghost use Rattle.mt_server.specs.Heard.{AreTold};
+ghost use Rattle.mt_server.specs.Heard.{AreReported};
 ghost use Rattle.mt_server.specs.Serves.{IsLate, IsServedOn, IsUnserved};
 ghost use Rattle.mt_alone.specs.Sessions.{lines_in};
 ghost use Rattle.mt_locked.specs.Began.{BeganOn};
@@ -51,8 +51,8 @@ fn close<D: Device + Drop, G: Gate + Drop, J: Naming>(
     requires first { J.book ≡ [] }
     requires placed { (book : List Committed) → All (λ (p : PassSeen). IsPrefix (dones p.seen) book) passes.items
         → IsBoard (map lines_in scripts.now) board book (all_own passes.items) }
-    ensures told { IfOk result (λ s.
-        AreTold (is_failed s.kernel) (map lines_in scripts.now) s.transcripts.items s.kernel.core.book.items) }
+    ensures outcome { IfOk result (λ s.
+        AreReported (is_failed s.kernel) (map lines_in scripts.now) s.transcripts.items s.kernel.core.book.items) }
     ensures began { IfOk result (λ s. BeganOn D.seen D.may_leave J.base s.kernel) }
     ensures late { IfErr result IsLate }
 {
@@ -108,8 +108,8 @@ fn serve_named<
     requires first { opened.book ≡ [] }
     requires few { length scripts.now ≤ MAX_SESSIONS }
     requires blank { IsBlank (length scripts.now) board }
-    ensures told { IfOk result (λ s.
-        AreTold (is_failed s.kernel) (map lines_in scripts.now) s.transcripts.items s.kernel.core.book.items) }
+    ensures outcome { IfOk result (λ s.
+        AreReported (is_failed s.kernel) (map lines_in scripts.now) s.transcripts.items s.kernel.core.book.items) }
     ensures began { IfOk result (λ s. BeganOn D.seen D.may_leave opened.base s.kernel) }
     ensures late { IfErr result IsLate }
 {
@@ -164,8 +164,8 @@ pub fn serve<D: Device + Drop + Send, G: Gate + Drop + Send + Sync, R: Threads +
     workers: usize,
     gate: G,
 ) -> Result<Served<D>, Refusal>
-    ensures told { IfOk result (λ s.
-        AreTold (is_failed s.kernel) (map lines_in scripts.items) s.transcripts.items s.kernel.core.book.items) }
+    ensures outcome { IfOk result (λ s.
+        AreReported (is_failed s.kernel) (map lines_in scripts.items) s.transcripts.items s.kernel.core.book.items) }
     ensures began { IfOk result (λ s. IsServedOn D.seen D.may_leave (D.seen device) s.kernel) }
     ensures few { IfOk result (λ _. length scripts.items ≤ MAX_SESSIONS) }
     ensures refused { IfErr result (IsUnserved (D.seen device) (length scripts.items)) }

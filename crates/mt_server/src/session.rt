@@ -37,7 +37,7 @@ fn go_from<D: Device, G: Gate + Drop, J: Naming, R: Wait>(
     requires at { at < length lines.now }
     ensures runs { (booked : List (ℕ × List Call)) → Running J.base session (between booked pass.old)
         (drop at lines.now) out.old.items out.new.items pass.new result }
-    ensures lives { IfErr result (λ told. told ≢ stop.Died) }
+    ensures lives { IfErr result (λ outcome. outcome ≢ stop.Died) }
 {
     if is_begin(&lines[at]) {
         return run_surely(rt, alloc, hold, pass, session, &lines[at + 1..], out);
@@ -58,8 +58,8 @@ pub(crate) fn run_session<D: Device, G: Gate + Drop, J: Naming, R: Wait>(
     session: u32,
     script: &Script,
 ) -> Result<(Transcript, bool), AllocError>
-    ensures { IfOk result (λ told.
-        IsSession told.1 J.base session (lines_in script.now) told.0 pass.old pass.new) }
+    ensures { IfOk result (λ outcome.
+        IsSession outcome.1 J.base session (lines_in script.now) outcome.0 pass.old pass.new) }
 {
     let lines = script.lines();
     let mut out = Vec::new(alloc);

@@ -30,8 +30,8 @@ module _ {D : Type 0} {g : Ghosts D} (seen : D → List ℕ) (may_leave : D → 
       → ((first : model.Base) (s : State) → Shows seen may_leave first s k → TellsBase k.relations k.counters s.base survey)
       → model.IsBase (base_of base) → Stays seen may_leave k n → StaysRestarting seen may_leave k n → BeganOn seen may_leave base n
   began_on_survey b base survey k n begins is tells bounds stays again =
-      let told = tells b (start b) begins.opened.shows in
-      let same : IsSame k.counters (base_of base) b = subst (λ (x : Base). IsSame k.counters (base_of x) b) is told.same in
+      let outcome = tells b (start b) begins.opened.shows in
+      let same : IsSame k.counters (base_of base) b = subst (λ (x : Base). IsSame k.counters (base_of x) b) is outcome.same in
       let opened = begins.same (base_of base) same bounds in
       began_so seen may_leave base n (base_of base) (start (base_of base)) refl (stays (base_of base) (start (base_of base)) opened.shows) (again (base_of base) opened.restarts)
 
@@ -43,11 +43,11 @@ module _ {D : Type 0} {g : Ghosts D} (seen : D → List ℕ) (may_leave : D → 
   book_at_first b k n begins stays = first_book b n (stays b (start b) begins.opened.shows)
 
   -- which is the one that the bytes stood for
-  pub same_as_told : (relations counters : ℕ) (b : model.Base) (base : Base) (survey : Survey) (k : Kernel D g) → IsOpened seen may_leave relations counters b k → survey.base ≡ base
+  pub same_as_reported : (relations counters : ℕ) (b : model.Base) (base : Base) (survey : Survey) (k : Kernel D g) → IsOpened seen may_leave relations counters b k → survey.base ≡ base
       → ((first : model.Base) (s : State) → Shows seen may_leave first s k → TellsBase k.relations k.counters s.base survey) → IsSame counters (base_of base) b
-  same_as_told relations counters b base survey k opened is tells =
-      let told = tells b (start b) opened.shows in
-      subst (λ (x : ℕ × Base). IsSame x.0 (base_of x.1) b) (λ i. (opened.counters_are i, is i)) told.same
+  same_as_reported relations counters b base survey k opened is tells =
+      let outcome = tells b (start b) opened.shows in
+      subst (λ (x : ℕ × Base). IsSame x.0 (base_of x.1) b) (λ i. (opened.counters_are i, is i)) outcome.same
 
 -- ---- refusals
 

@@ -436,9 +436,9 @@ impl<D: Device + Drop, G: Gate + Drop, J: Naming> Shared<D, G, J> {
         ensures turned { OnOk result (HasTurned ⟦<D as Device>⟧ J.base) }
         ensures why { IfErr result IsTurnRefusal }
     {
-        let told = self.locked.lock(rt).rotate(alloc, frames);
+        let outcome = self.locked.lock(rt).rotate(alloc, frames);
         self.wake_all();
-        match told {
+        match outcome {
             Ok(true) => Ok(()),
             Ok(false) => Err(Refusal::Busy),
             Err(why) => Err(why),
@@ -449,13 +449,13 @@ impl<D: Device + Drop, G: Gate + Drop, J: Naming> Shared<D, G, J> {
     fn let_on(
         &self,
         mut locked: MutexGuard<'_, Locked<D, J>>,
-        told: Result<(), Refusal>,
+        outcome: Result<(), Refusal>,
     ) -> Result<(), Refusal>
-        ensures { result ≡ told }
+        ensures { result ≡ outcome }
     {
         locked.let_on();
         self.wake_all();
-        told
+        outcome
     }
 
     /// Holds new transactions back until no transaction is active, turns the log over as [`Shared::rotate`], and lets

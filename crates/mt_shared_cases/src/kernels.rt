@@ -90,21 +90,21 @@ pub fn shared_of<J: Naming>(
 
 /// What a kernel has in its book and on its pages: its commits, its rows, and its counters that are not at 0.
 #[derive(Drop)]
-pub struct Told {
+pub struct Outcome {
     pub commits: usize,
     pub rows: usize,
     pub moved: usize,
 }
 
 // What a survey of a kernel answers in which no transaction is active. The kernel is dropped.
-fn told_of(kernel: Kernel<MemDevice>) -> Result<Told, Refusal> {
+fn reported_of(kernel: Kernel<MemDevice>) -> Result<Outcome, Refusal> {
     let mut kernel = kernel;
     let commits = kernel.book().len();
     let survey = kernel.survey();
     let _device = kernel.into_device();
     let base = survey?.base;
     let moved = base.counters().iter().filter(|c| c.number != 0).count();
-    Ok(Told {
+    Ok(Outcome {
         commits,
         rows: base.rows().len(),
         moved,
@@ -112,9 +112,12 @@ fn told_of(kernel: Kernel<MemDevice>) -> Result<Told, Refusal> {
 }
 
 /// What a survey of the kernel answers after a close.
-pub fn told_behind<J: Naming>(shared: Memory<J>, passes: Vec<Pass<J>>) -> Result<Told, Refusal> {
+pub fn reported_behind<J: Naming>(
+    shared: Memory<J>,
+    passes: Vec<Pass<J>>,
+) -> Result<Outcome, Refusal> {
     match shared.close(passes) {
-        Ok(kernel) => told_of(kernel),
+        Ok(kernel) => reported_of(kernel),
         Err(closed) => {
             let Closed {
                 why,

@@ -1,7 +1,7 @@
 // One thread sees another's commit while its own transaction is open.
 ghost use Rattle.std.specs.Prelude.{◌≡◌};
 
-use crate::kernels::{Memory, Told, opened_of, shared_of, told_behind};
+use crate::kernels::{Memory, Outcome, opened_of, reported_behind, shared_of};
 use crate::sessions::{end, has_replied, run_insert, take_back};
 use mt_base::Refusal;
 use mt_disk::MemDevice;
@@ -116,20 +116,20 @@ fn named_looks<J: Naming + Send + Sync, R: Threads + Wait + Clock + Sync>(
     rt: &R,
     alloc: Global,
     opened: Opened<MemDevice>,
-) -> Result<((u64, u64), Told), Refusal>
+) -> Result<((u64, u64), Outcome), Refusal>
     requires { (opened.mark ≡ J.mark) × (opened.base ≡ J.base) × (opened.book ≡ J.book) }
 {
     let (shared, passes) = shared_of::<J>(alloc, opened)?;
     let mut passes = passes;
     let places = both(rt, alloc, &shared, passes.as_mut_slice());
-    Ok((places, told_behind(shared, passes)?))
+    Ok((places, reported_behind(shared, passes)?))
 }
 
 // Of a kernel in memory.
 fn look_on<R: Threads + Wait + Clock + Sync>(
     rt: &R,
     alloc: Global,
-) -> Result<((u64, u64), Told), Refusal> {
+) -> Result<((u64, u64), Outcome), Refusal> {
     let opened = opened_of(alloc, 64, &[(0, 10, 5)], 2)?;
     named_looks::<Brand, R>(rt, alloc, opened)
 }
@@ -137,7 +137,7 @@ fn look_on<R: Threads + Wait + Clock + Sync>(
 /// A thread that has inserted a row sees the other's commit, at place 1, before it commits, at place 2.
 #[test]
 fn a_look_shows_the_other_commit(rt: HostRuntime) -> Result<(), Fail> {
-    let ((first, second), told) = look_on(&rt, rt.alloc())?;
-    assert!(rt; first == 2 && second == 1 && told.commits == 2 && told.rows == 2);
+    let ((first, second), outcome) = look_on(&rt, rt.alloc())?;
+    assert!(rt; first == 2 && second == 1 && outcome.commits == 2 && outcome.rows == 2);
     Ok(())
 }

@@ -1,7 +1,7 @@
 // What a pass finds of its own transactions.
 ghost use Rattle.std.specs.Prelude.{◌≡◌};
 
-use crate::kernels::{Memory, Told, opened_of, shared_of, told_behind};
+use crate::kernels::{Memory, Outcome, opened_of, reported_behind, shared_of};
 use crate::sessions::{end, insert, run_insert, take_back};
 use mt_base::{Bytes, Refusal, RelNo};
 use mt_disk::MemDevice;
@@ -145,7 +145,7 @@ fn named_rows<J: Naming, R: Wait>(
     rt: &R,
     alloc: Global,
     opened: Opened<MemDevice>,
-) -> Result<(bool, Told), Refusal>
+) -> Result<(bool, Outcome), Refusal>
     requires { (opened.mark ≡ J.mark) × (opened.base ≡ J.base) × (opened.book ≡ J.book) }
 {
     let (shared, passes) = shared_of::<J>(alloc, opened)?;
@@ -154,12 +154,12 @@ fn named_rows<J: Naming, R: Wait>(
         Some(pass) => find(rt, alloc, &shared, pass),
         None => Ok(false),
     };
-    let told = told_behind(shared, passes)?;
-    Ok((matches!(found, Ok(true)), told))
+    let outcome = reported_behind(shared, passes)?;
+    Ok((matches!(found, Ok(true)), outcome))
 }
 
 // Of a kernel in memory.
-fn find_rows<R: Wait>(rt: &R, alloc: Global) -> Result<(bool, Told), Refusal> {
+fn find_rows<R: Wait>(rt: &R, alloc: Global) -> Result<(bool, Outcome), Refusal> {
     let opened = opened_of(alloc, 64, &[(0, 10, 0)], 1)?;
     named_rows::<Brand, R>(rt, alloc, opened)
 }
@@ -167,7 +167,7 @@ fn find_rows<R: Wait>(rt: &R, alloc: Global) -> Result<(bool, Told), Refusal> {
 /// A transaction finds what the pass's last one committed, and not what another took back.
 #[test]
 fn a_pass_finds_what_it_committed(rt: HostRuntime) -> Result<(), Fail> {
-    let (is_found, told) = find_rows(&rt, rt.alloc())?;
-    assert!(rt; is_found && told.commits == 5 && told.rows == 2);
+    let (is_found, outcome) = find_rows(&rt, rt.alloc())?;
+    assert!(rt; is_found && outcome.commits == 5 && outcome.rows == 2);
     Ok(())
 }

@@ -104,8 +104,8 @@ fn another_commits_while_one_is_held(rt: HostRuntime) -> Result<(), Fail> {
     let gate = HoldsFirst {
         committed: AtomicBool::new(false),
     };
-    let (told, commits) = served(&rt, rt.alloc(), scripts, 2, gate)?;
+    let (outcome, commits) = served(&rt, rt.alloc(), scripts, 2, gate)?;
     let due: [&[u8]; 2] = [b"begun\ndone\ncommitted 2\n", b"begun\ndone\ncommitted 1\n"];
-    assert!(rt; commits == 2 && alike(told.as_slice(), &due) == 2);
+    assert!(rt; commits == 2 && alike(outcome.as_slice(), &due) == 2);
     Ok(())
 }

@@ -1,7 +1,7 @@
 // When who tends is to turn the log over.
 ghost use Rattle.std.specs.Prelude.{◌≡◌};
 
-use crate::kernels::{Memory, Told, opened_of, shared_of, told_behind};
+use crate::kernels::{Memory, Outcome, opened_of, reported_behind, shared_of};
 use crate::sessions::{end, insert};
 use mt_base::{Bytes, Refusal, RelNo};
 use mt_disk::MemDevice;
@@ -89,7 +89,7 @@ fn named_tends<J: Naming, R: Wait>(
     rt: &R,
     alloc: Global,
     opened: Opened<MemDevice>,
-) -> Result<(u64, Told), Refusal>
+) -> Result<(u64, Outcome), Refusal>
     requires { (opened.mark ≡ J.mark) × (opened.base ≡ J.base) × (opened.book ≡ J.book) }
 {
     let (shared, passes) = shared_of::<J>(alloc, opened)?;
@@ -98,12 +98,12 @@ fn named_tends<J: Naming, R: Wait>(
         Some(pass) => tends(rt, alloc, &shared, pass),
         None => Ok(0),
     };
-    let told = told_behind(shared, passes)?;
-    Ok((made?, told))
+    let outcome = reported_behind(shared, passes)?;
+    Ok((made?, outcome))
 }
 
 // Of a kernel in memory.
-fn tend<R: Wait>(rt: &R, alloc: Global) -> Result<(u64, Told), Refusal> {
+fn tend<R: Wait>(rt: &R, alloc: Global) -> Result<(u64, Outcome), Refusal> {
     let opened = opened_of(alloc, 64, &[(0, 10, 0)], 1)?;
     named_tends::<Brand, R>(rt, alloc, opened)
 }
@@ -112,7 +112,7 @@ fn tend<R: Wait>(rt: &R, alloc: Global) -> Result<(u64, Told), Refusal> {
 /// stands.
 #[test]
 fn a_half_used_log_wakes_who_tends(rt: HostRuntime) -> Result<(), Fail> {
-    let (made, told) = tend(&rt, rt.alloc())?;
-    assert!(rt; 500 < made && told.commits as u64 == made && told.rows == 1);
+    let (made, outcome) = tend(&rt, rt.alloc())?;
+    assert!(rt; 500 < made && outcome.commits as u64 == made && outcome.rows == 1);
     Ok(())
 }

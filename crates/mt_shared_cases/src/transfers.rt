@@ -1,7 +1,7 @@
 // Many threads transfer between counters, and insert rows.
 ghost use Rattle.std.specs.Prelude.{◌≡◌};
 
-use crate::kernels::{Memory, Told, opened_of, shared_of, told_behind};
+use crate::kernels::{Memory, Outcome, opened_of, reported_behind, shared_of};
 use crate::sessions::{end, run_insert, take_back};
 use mt_base::{CtrNo, Refusal};
 use mt_disk::MemDevice;
@@ -184,17 +184,17 @@ fn named_work<J: Naming + Send + Sync, R: Threads + Wait + Sync>(
     rt: &R,
     alloc: Global,
     opened: Opened<MemDevice>,
-) -> Result<(u64, Told), Refusal>
+) -> Result<(u64, Outcome), Refusal>
     requires { (opened.mark ≡ J.mark) × (opened.base ≡ J.base) × (opened.book ≡ J.book) }
 {
     let (shared, passes) = shared_of::<J>(alloc, opened)?;
     let mut passes = passes;
     let made = work_tended(rt, alloc, &shared, passes.as_mut_slice());
-    Ok((made, told_behind(shared, passes)?))
+    Ok((made, reported_behind(shared, passes)?))
 }
 
 // Of a kernel in memory.
-fn transfer<R: Threads + Wait + Sync>(rt: &R, alloc: Global) -> Result<(u64, Told), Refusal> {
+fn transfer<R: Threads + Wait + Sync>(rt: &R, alloc: Global) -> Result<(u64, Outcome), Refusal> {
     let counters = [(-10_000i64, 10_000i64, 0i64); 8];
     let opened = opened_of(alloc, 256, &counters, WORKERS)?;
     named_work::<Brand, R>(rt, alloc, opened)
@@ -204,7 +204,9 @@ fn transfer<R: Threads + Wait + Sync>(rt: &R, alloc: Global) -> Result<(u64, Tol
 /// turns the log over, and another forces and flushes. All of it stands, and each counter gave as often as it took.
 #[test]
 fn sixteen_threads_commit_all(rt: HostRuntime) -> Result<(), Fail> {
-    let (made, told) = transfer(&rt, rt.alloc())?;
-    assert!(rt; made == 4000 && told.commits == 4000 && told.rows == 800 && told.moved == 0);
+    let (made, outcome) = transfer(&rt, rt.alloc())?;
+    assert!(rt;
+        made == 4000 && outcome.commits == 4000 && outcome.rows == 800 && outcome.moved == 0
+    );
     Ok(())
 }

@@ -55,7 +55,7 @@ impl Model for LockTable {
 
 // What is answered if this transaction is the oldest that is in the way.
 fn barred(txn: TxnNo, holder: TxnNo) -> Result<Asked, Refusal>
-    ensures asked { IfOk result (λ told. (txn ≤ holder) × (told ≡ asked.Wait holder)) }
+    ensures asked { IfOk result (λ outcome. (txn ≤ holder) × (outcome ≡ asked.Wait holder)) }
     ensures cause { IfErr result (λ why. (holder < txn) × (why ≡ Refusal.Die holder)) }
 {
     if holder < txn {

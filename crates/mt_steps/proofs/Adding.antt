@@ -72,7 +72,7 @@ adds_done relations total pages m c counters d new rows there a fits here torn k
   replies = λ b held. ap (λ (t : Bool). cond t Done OutOfBounds) (stays_is pages b c d true held inside fits);
   base = λ b held. record {
     rows = rows_same pages (replaced 2 new pages) (alter_count b c (added d)) (records_stay pages (replaced 2 new pages) (file_kept relations total pages m new rows)) (record { found = held.rows.found; there = held.rows.there });
-    counts = λ k lt. counted b held k (as_told k lt) (cases k);
+    counts = λ k lt. counted b held k (as_reported k lt) (cases k);
   };
   meaning = m;
   good = adds_good relations total pages m new rows;
@@ -80,16 +80,16 @@ adds_done relations total pages m c counters d new rows there a fits here torn k
 }
   where
     inside : c < get_or (pages 2) 1 0
-    inside = let told = a.counters_told in omega (arith, there, told)
+    inside = let outcome = a.counters_reported in omega (arith, there, outcome)
 
     at_two : replaced 2 new pages 2 ≡ new
     at_two = replaced_here 2 2 new pages refl
 
-    as_told : (k : ℕ) → k < get_or (replaced 2 new pages 2) 1 0 → k < get_or (pages 2) 1 0
-    as_told k lt =
-        let now : get_or (replaced 2 new pages 2) 1 0 ≡ counters = ap (λ (page : List ℕ). get_or page 1 0) at_two ∙ (kept relations counters a).counters_told in
-        let told = a.counters_told in
-        omega (arith, lt, now, told)
+    as_reported : (k : ℕ) → k < get_or (replaced 2 new pages 2) 1 0 → k < get_or (pages 2) 1 0
+    as_reported k lt =
+        let now : get_or (replaced 2 new pages 2) 1 0 ≡ counters = ap (λ (page : List ℕ). get_or page 1 0) at_two ∙ (kept relations counters a).counters_reported in
+        let outcome = a.counters_reported in
+        omega (arith, lt, now, outcome)
 
     cases : (k : ℕ) → (k ≡ c) ⊎ (k ≢ c)
     cases k = cases_eq k c
@@ -120,7 +120,7 @@ adds_nothing relations total pages m c counters d rows there a leaves = record {
 }
   where
     inside : c < get_or (pages 2) 1 0
-    inside = let told = a.counters_told in omega (arith, there, told)
+    inside = let outcome = a.counters_reported in omega (arith, there, outcome)
 
     counted : (b : Base) → Holds pages b → (k : ℕ) → k < get_or (pages 2) 1 0 → (k ≡ c) ⊎ (k ≢ c) → cond (c == k) (added d (b.counts k)) (b.counts k) ≡ count_in (pages 2) k
     counted b held k lt (inl same) =
@@ -133,7 +133,7 @@ adds_nothing relations total pages m c counters d rows there a leaves = record {
 -- a read
 pub reads : (relations total : ℕ) (pages : PageBytes) (m : Map) (c counters : ℕ) (number : ℤ) → AreRows relations total pages m → c < counters → AreCounters relations counters (pages 2) → number ≡ (count_in (pages 2) c).number → IsAct relations total pages pages (Read c) (Value number)
 reads relations total pages m c counters number rows there a is = record {
-  replies = λ b held. ap (λ (n : Count). Value n.number) (held.counts c (let told = a.counters_told in omega (arith, there, told))) ∙ ap Value (sym is);
+  replies = λ b held. ap (λ (n : Count). Value n.number) (held.counts c (let outcome = a.counters_reported in omega (arith, there, outcome))) ∙ ap Value (sym is);
   base = λ b held. record { rows = held.rows; counts = held.counts };
   meaning = m;
   good = rows;

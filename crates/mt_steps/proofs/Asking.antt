@@ -74,8 +74,8 @@ looked_inside None total pages m p a named is = ⊎_elim
 
 pub put_needs : (at_hand : ℕ → Option (List ℕ)) (room : Option ℕ) (total : ℕ) (pages : PageBytes) (m : Map) (row : Row) (q : ℕ) (mode : Mode) (answer : Step) → answer ≡ step.Need q mode → AreMap total pages m → IsNamed room pages
     → IsPut at_hand room total [] pages row answer → (at_hand q ≡ None) × (q < total) × ((mode ≡ Write) × IsLooked room total pages q)
-put_needs at_hand room total pages m row q mode answer is a named told =
-    let t = subst (λ (x : Step). IsPut at_hand room total [] pages row x) is told in
+put_needs at_hand room total pages m row q mode answer is a named outcome =
+    let t = subst (λ (x : Step). IsPut at_hand room total [] pages row x) is outcome in
     (t.0, looked_inside room total pages m q a named t.2, (t.1, t.2))
 
 -- the page of the key's record
@@ -88,8 +88,8 @@ stands_in relations total pages m n r k q rows is here =
 
 pub removal_needs : (at_hand : ℕ → Option (List ℕ)) (relations total : ℕ) (pages : PageBytes) (m : Map) (n : RecordName) (r : ℕ) (k v : List ℕ) (q : ℕ) (mode : Mode) (answer : Step) → answer ≡ step.Need q mode → AreRows relations total pages m → m r k ≡ Some n
     → record_in pages n.page n.slot ≡ Some (record { relation = r; key = k; value = v }) → IsRemoval at_hand pages n.page n.slot answer → (at_hand q ≡ None) × (q < total) × IsForDelete r k pages q mode
-removal_needs at_hand relations total pages m n r k v q mode answer is rows named stood told =
-    let t = subst (λ (x : Step). IsRemoval at_hand pages n.page n.slot x) is told in
+removal_needs at_hand relations total pages m n r k v q mode answer is rows named stood outcome =
+    let t = subst (λ (x : Step). IsRemoval at_hand pages n.page n.slot x) is outcome in
     ⊎_elim {C = (at_hand q ≡ None) × (q < total) × IsForDelete r k pages q mode}
     (λ (here : q ≡ n.page). let own = stands_in relations total pages m n r k q rows named here in (t.0, own.0, inr (t.1, inl own.1)))
     (λ space. (
@@ -102,8 +102,8 @@ removal_needs at_hand relations total pages m n r k v q mode answer is rows name
 pub replacement_needs : (at_hand : ℕ → Option (List ℕ)) (room : Option ℕ) (relations total : ℕ) (pages : PageBytes) (m : Map) (n : RecordName) (r : ℕ) (k v w : List ℕ) (q : ℕ) (mode : Mode) (answer : Step) → answer ≡ step.Need q mode → AreRows relations total pages m
     → IsNamed room pages → m r k ≡ Some n → record_in pages n.page n.slot ≡ Some (record { relation = r; key = k; value = v })
     → IsReplacement at_hand room total pages n.page n.slot (record { relation = r; key = k; value = v }) (record { relation = r; key = k; value = w }) answer → (at_hand q ≡ None) × (q < total) × IsForUpdate room total r k w pages q mode
-replacement_needs at_hand room relations total pages m n r k v w q mode answer is rows room_named named stood told =
-    let t = subst (λ (x : Step). IsReplacement at_hand room total pages n.page n.slot (record { relation = r; key = k; value = v }) (record { relation = r; key = k; value = w }) x) is told in
+replacement_needs at_hand room relations total pages m n r k v w q mode answer is rows room_named named stood outcome =
+    let t = subst (λ (x : Step). IsReplacement at_hand room total pages n.page n.slot (record { relation = r; key = k; value = v }) (record { relation = r; key = k; value = w }) x) is outcome in
     ⊎_elim {C = (at_hand q ≡ None) × (q < total) × IsForUpdate room total r k w pages q mode}
     (λ (here : q ≡ n.page). let own = stands_in relations total pages m n r k q rows named here in (t.0, own.0, inl (t.1, own.1)))
     (λ away. (
@@ -116,10 +116,10 @@ replacement_needs at_hand room relations total pages m n r k v w q mode answer i
 -- ---- what the plans of the index ask for
 
 pub add_needs : (P : ℕ → Mode → Type 0) (a : Add) (p : ℕ) (mode : Mode) → a ≡ add.Need p mode → AddNeeds a P → P p mode
-add_needs P a p mode is told = subst (λ (x : Add). AddNeeds x P) is told
+add_needs P a p mode is outcome = subst (λ (x : Add). AddNeeds x P) is outcome
 
 pub amend_needs : (P : ℕ → Mode → Type 0) (a : Amend) (p : ℕ) (mode : Mode) → a ≡ amend.Need p mode → AmendNeeds a P → P p mode
-amend_needs P a p mode is told = subst (λ (x : Amend). AmendNeeds x P) is told
+amend_needs P a p mode is outcome = subst (λ (x : Amend). AmendNeeds x P) is outcome
 
 -- ---- all changes at hand
 
@@ -138,7 +138,7 @@ shown_at_hand copies at_hand cs sound seen = all_at_hand at_hand cs (λ p none. 
 
 -- those of a plan of a record
 pub step_at_hand : (at_hand : ℕ → Option (List ℕ)) (answer : Step) (plan : Plan) → answer ≡ step.Done plan → IsSeen at_hand [] answer → AreAtHand at_hand plan.changes.list.items
-step_at_hand at_hand answer plan is seen = let told = subst (λ (x : Step). IsSeen at_hand [] x) is seen in all_at_hand at_hand plan.changes.list.items (λ p none. told p none tt)
+step_at_hand at_hand answer plan is seen = let outcome = subst (λ (x : Step). IsSeen at_hand [] x) is seen in all_at_hand at_hand plan.changes.list.items (λ p none. outcome p none tt)
 
 -- ---- few of them
 

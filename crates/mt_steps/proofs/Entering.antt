@@ -44,22 +44,22 @@ placed_map relations total pages m changes name row rows placed = index_stays to
 pub placed_form : (relations total : ℕ) (pages : PageBytes) (m : Map) (changes : List PageChange) (name : RecordName) (row : Row) → AreRows relations total pages m → IsPlaced total pages changes name row → AreFormed relations total (after changes pages)
 placed_form relations total pages m changes name row rows placed = form_stays relations total pages (after changes pages) m rows.index rows.formed (placed_leaves relations total pages m changes name row rows placed)
 
--- what is told of an answer that is known
+-- what is reported of an answer that is known
 pub added_is : (P : List PageChange → Type 0) (a : Add) (changes : Changes) → a ≡ add.Changes changes → IfAdded a P → P changes.list.items
-added_is P a changes is told = subst (λ (x : Add). IfAdded x P) is told
+added_is P a changes is outcome = subst (λ (x : Add). IfAdded x P) is outcome
 
 pub full_is : (P : Type 0) (a : Add) → a ≡ add.Full → AddFull a P → P
-full_is P a is told = subst (λ (x : Add). AddFull x P) is told
+full_is P a is outcome = subst (λ (x : Add). AddFull x P) is outcome
 
 pub endless_is : (P : Type 0) (a : Add) → a ≡ add.Endless → AddEndless a P → P
-endless_is P a is told = subst (λ (x : Add). AddEndless x P) is told
+endless_is P a is outcome = subst (λ (x : Add). AddEndless x P) is outcome
 
 -- what a plan made, if it made anything
 pub made_weaker : (act : Act) (P Q : List PageChange → Reply → Type 0) → ((changes : List PageChange) (reply : Reply) → P changes reply → Q changes reply) → IfMade act P → IfMade act Q
-made_weaker (Lock p mode) P Q f told = told
-made_weaker (Made changes reply) P Q f told = f changes.list.items reply told
-made_weaker Full P Q f told = told
-made_weaker Broken P Q f told = told
+made_weaker (Lock p mode) P Q f outcome = outcome
+made_weaker (Made changes reply) P Q f outcome = f changes.list.items reply outcome
+made_weaker Full P Q f outcome = outcome
+made_weaker Broken P Q f outcome = outcome
 
 -- both plans together are one act
 pub entered : (relations total : ℕ) (split : Bool) (pages last : PageBytes) (m : Map) (first : List PageChange) (name : RecordName) (r : ℕ) (k v : List ℕ) (reply : Reply) → AreRows relations total pages m → m r k ≡ None
@@ -123,9 +123,9 @@ chosen None relations total pages m p rows named is = (inr (free_chosen total pa
 pub placed_is : (at_hand : ℕ → Option (List ℕ)) (room : Option ℕ) (relations total : ℕ) (pages : PageBytes) (m : Map) (row : Row) (answer : Step) (plan : Plan) → answer ≡ step.Done plan → AreRows relations total pages m → IsNamed room pages
     → IsPut at_hand room total [] pages row answer → IsShortPlan pages answer → IsPlaced total pages plan.changes.list.items plan.name row
 placed_is at_hand room relations total pages m row answer plan is rows named put short =
-    let told = subst (λ (s : Step). IsPut at_hand room total [] pages row s) is put in
-    let where_to = chosen room relations total pages m plan.name.page rows named told.1 in
-    record { adds = told.0; was = where_to.0; inside = where_to.1; short = subst (λ (s : Step). IsShortPlan pages s) is short }
+    let outcome = subst (λ (s : Step). IsPut at_hand room total [] pages row s) is put in
+    let where_to = chosen room relations total pages m plan.name.page rows named outcome.1 in
+    record { adds = outcome.0; was = where_to.0; inside = where_to.1; short = subst (λ (s : Step). IsShortPlan pages s) is short }
 
 -- a key that has a value keeps it
 pub found_already : (relations total : ℕ) (pages : PageBytes) (m : Map) (n : RecordName) (r : ℕ) (k v : List ℕ) → AreRows relations total pages m → m r k ≡ Some n → IsAct relations total pages pages (Insert r k v) Exists

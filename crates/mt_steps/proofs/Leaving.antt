@@ -30,15 +30,15 @@ use Rattle.mt_steps.proofs.Rows.{none_held, deleted_again}
 use Rattle.mt_steps.proofs.Apart.{StaysFile}
 use Rattle.mt_steps.proofs.Acting.{touches_index, amends_file, deletes_good, deletes_base, base_same, value_held}
 
--- what is told of an answer that is known
+-- what is reported of an answer that is known
 pub amended_is : (P : List PageChange → Type 0) (a : Amend) (changes : Changes) → a ≡ amend.Changes changes → IfAmended a P → P changes.list.items
-amended_is P a changes is told = subst (λ (x : Amend). IfAmended x P) is told
+amended_is P a changes is outcome = subst (λ (x : Amend). IfAmended x P) is outcome
 
 pub amend_missing_is : (P : Type 0) (a : Amend) → a ≡ amend.Missing → AmendMissing a P → P
-amend_missing_is P a is told = subst (λ (x : Amend). AmendMissing x P) is told
+amend_missing_is P a is outcome = subst (λ (x : Amend). AmendMissing x P) is outcome
 
 pub amend_endless_is : (P : Type 0) (a : Amend) → a ≡ amend.Endless → AmendEndless a P → P
-amend_endless_is P a is told = subst (λ (x : Amend). AmendEndless x P) is told
+amend_endless_is P a is outcome = subst (λ (x : Amend). AmendEndless x P) is outcome
 
 -- a page from which a record is taken is one of records still, or a free one
 pub zero_or_three : (pages mid : PageBytes) (p s : ℕ) → Drops pages mid p s → (kind mid p ≡ 3) ⊎ (kind mid p ≡ 0)
@@ -73,9 +73,9 @@ taken_form relations total pages m changes n row rows taken = form_stays relatio
 pub left : (relations total : ℕ) (pages last : PageBytes) (m : Map) (first : List PageChange) (n : RecordName) (r : ℕ) (k v : List ℕ) (reply : Reply) → AreRows relations total pages m → m r k ≡ Some n
     → IsTaken pages first n (record { relation = r; key = k; value = v }) → AreMap total last (alter m r k None) → ((p : ℕ) → kind (after first pages) p ≢ 2 → last p ≡ after first pages p) → AreFormed relations total last
     → reply ≡ Was v → IsAct relations total pages last (Delete r k) reply
-left relations total pages last m first n r k v reply rows is taken map others formed told =
+left relations total pages last m first n r k v reply rows is taken map others formed outcome =
     row_act relations total pages last (alter m r k None) (Delete r k) reply counters (λ b. refl)
-    (λ b held. ap was (value_held pages m b n r k v held taken.stood) ∙ sym told)
+    (λ b held. ap was (value_held pages m b n r k v held taken.stood) ∙ sym outcome)
     (λ b held. deletes_base relations total pages (after first pages) last m b n r k v rows held is taken.stood taken.drops kept)
     (deletes_good relations total pages (after first pages) last m n r k v rows is taken.stood taken.drops kept map formed counters.map)
   where
@@ -104,12 +104,12 @@ missing_already relations total pages m r k rows none =
 -- ---- a removal
 
 pub removal_fits : (at_hand : ℕ → Option (List ℕ)) (pages : PageBytes) (p s : ℕ) (answer : Step) → answer ≡ step.Full → IsRemoval at_hand pages p s answer → ⊥
-removal_fits at_hand pages p s answer is told = subst (λ (x : Step). IsRemoval at_hand pages p s x) is told
+removal_fits at_hand pages p s answer is outcome = subst (λ (x : Step). IsRemoval at_hand pages p s x) is outcome
 
 pub removal_takes : (at_hand : ℕ → Option (List ℕ)) (pages : PageBytes) (n : RecordName) (row : Row) (answer : Step) (plan : Plan) → answer ≡ step.Done plan → IsRemoval at_hand pages n.page n.slot answer → IsShortPlan pages answer
     → record_in pages n.page n.slot ≡ Some row → IsTaken pages plan.changes.list.items n row
-removal_takes at_hand pages n row answer plan is told short stood = record {
+removal_takes at_hand pages n row answer plan is outcome short stood = record {
   stood = stood;
-  drops = (subst (λ (x : Step). IsRemoval at_hand pages n.page n.slot x) is told).0;
+  drops = (subst (λ (x : Step). IsRemoval at_hand pages n.page n.slot x) is outcome).0;
   short = subst (λ (x : Step). IsShortPlan pages x) is short;
 }

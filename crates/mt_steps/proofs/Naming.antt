@@ -221,7 +221,7 @@ into_chosen None total pages p is = free_chosen total pages p is
 -- of a put
 pub put_place : (at_hand : ℕ → Option (List ℕ)) (room : Option ℕ) (total : ℕ) (pages : PageBytes) (row : Row) (answer : Step) (plan : Plan) → answer ≡ step.Done plan → IsPut at_hand room total [] pages row answer
     → IsInto room pages plan.name.page
-put_place at_hand room total pages row answer plan is told = into_chosen room total pages plan.name.page (subst (λ (s : Step). IsPut at_hand room total [] pages row s) is told).1
+put_place at_hand room total pages row answer plan is outcome = into_chosen room total pages plan.name.page (subst (λ (s : Step). IsPut at_hand room total [] pages row s) is outcome).1
 
 -- of a replacement
 pub needs_place : (pages : PageBytes) (m : Map) (n : RecordName) (r : ℕ) (k v w : List ℕ) → AreNamed pages m → m r k ≡ Some n → record_in pages n.page n.slot ≡ Some (record { relation = r; key = k; value = v })
@@ -236,7 +236,7 @@ needs_place pages m n r k v w named is stood outgrown p s old there =
 pub moved_place : (at_hand : ℕ → Option (List ℕ)) (room : Option ℕ) (relations total : ℕ) (pages : PageBytes) (m : Map) (n : RecordName) (r : ℕ) (k v w : List ℕ) (answer : Step) (plan : Plan) → answer ≡ step.Done plan → AreRows relations total pages m → m r k ≡ Some n
     → record_in pages n.page n.slot ≡ Some (record { relation = r; key = k; value = v }) → IsReplacement at_hand room total pages n.page n.slot (record { relation = r; key = k; value = v }) (record { relation = r; key = k; value = w }) answer
     → (IsInto room pages plan.name.page × NeedsPlace (Update r k w) pages) ⊎ HasStood pages plan.name.page r k
-moved_place at_hand room relations total pages m n r k v w answer plan is rows names stood told =
+moved_place at_hand room relations total pages m n r k v w answer plan is rows names stood outcome =
     let own : plan.name.page ≡ n.page → HasStood pages plan.name.page r k = λ same. (n.slot, v, ap (λ (x : ℕ). record_in pages x n.slot) same ∙ stood) in
     ⊎_elim {C = (IsInto room pages plan.name.page × NeedsPlace (Update r k w) pages) ⊎ HasStood pages plan.name.page r k}
     (λ same. inr (own same.0))
@@ -244,19 +244,19 @@ moved_place at_hand room relations total pages m n r k v w answer plan is rows n
     (λ here. inr (own here))
     (λ to. inl (into_chosen room total pages plan.name.page to.0, needs_place pages m n r k v w rows.named names stood moved.0))
     moved.1)
-    (subst (λ (s : Step). IsReplacement at_hand room total pages n.page n.slot (record { relation = r; key = k; value = v }) (record { relation = r; key = k; value = w }) s) is told).0
+    (subst (λ (s : Step). IsReplacement at_hand room total pages n.page n.slot (record { relation = r; key = k; value = v }) (record { relation = r; key = k; value = w }) s) is outcome).0
 
 -- ---- of an answer
 
 abbrev Takes : ℕ → ℕ → ℕ → (ℕ → Option (List ℕ)) → Option ℕ → Op → Act → Type 0
 Takes relations counters total at_hand room op act = IfMade act (λ changes reply. InPages at_hand room relations counters total (λ pages. TakesPages room op pages (after changes pages)))
 
-pub roomy_told : (relations counters total : ℕ) (at_hand : ℕ → Option (List ℕ)) (room : Option ℕ) (op known : Op) (act : Act) → known ≡ op → IfMade act (λ changes reply. InRoomy at_hand room relations total (λ pages m. TakesPages room known pages (after changes pages)))
+pub roomy_reported : (relations counters total : ℕ) (at_hand : ℕ → Option (List ℕ)) (room : Option ℕ) (op known : Op) (act : Act) → known ≡ op → IfMade act (λ changes reply. InRoomy at_hand room relations total (λ pages m. TakesPages room known pages (after changes pages)))
     → Takes relations counters total at_hand room op act
-roomy_told relations counters total at_hand room op known act same told = made_weaker act _ _ (λ changes reply told pages agrees good named. subst (λ (o : Op). TakesPages room o pages (after changes pages)) same (told pages agrees good.meaning good.rows named)) told
+roomy_reported relations counters total at_hand room op known act same outcome = made_weaker act _ _ (λ changes reply outcome pages agrees good named. subst (λ (o : Op). TakesPages room o pages (after changes pages)) same (outcome pages agrees good.meaning good.rows named)) outcome
 
-pub none_told : (relations counters total : ℕ) (at_hand : ℕ → Option (List ℕ)) (room : Option ℕ) (op : Op) (act : Act) → IfMade act (λ changes reply. InGood at_hand relations total (λ pages m. TakesNone pages (after changes pages))) → Takes relations counters total at_hand room op act
-none_told relations counters total at_hand room op act told = made_weaker act _ _ (λ changes reply told pages agrees good named. none_takes room op pages (after changes pages) (told pages agrees good.meaning good.rows)) told
+pub none_reported : (relations counters total : ℕ) (at_hand : ℕ → Option (List ℕ)) (room : Option ℕ) (op : Op) (act : Act) → IfMade act (λ changes reply. InGood at_hand relations total (λ pages m. TakesNone pages (after changes pages))) → Takes relations counters total at_hand room op act
+none_reported relations counters total at_hand room op act outcome = made_weaker act _ _ (λ changes reply outcome pages agrees good named. none_takes room op pages (after changes pages) (outcome pages agrees good.meaning good.rows)) outcome
 
-pub quiet_told : (relations counters total : ℕ) (at_hand : ℕ → Option (List ℕ)) (room : Option ℕ) (op : Op) (act : Act) → IfMade act (λ changes reply. changes ≡ []) → Takes relations counters total at_hand room op act
-quiet_told relations counters total at_hand room op act told = made_weaker act _ _ (λ changes reply none pages agrees good named. none_takes room op pages (after changes pages) (quiet_none pages changes none)) told
+pub quiet_reported : (relations counters total : ℕ) (at_hand : ℕ → Option (List ℕ)) (room : Option ℕ) (op : Op) (act : Act) → IfMade act (λ changes reply. changes ≡ []) → Takes relations counters total at_hand room op act
+quiet_reported relations counters total at_hand room op act outcome = made_weaker act _ _ (λ changes reply none pages agrees good named. none_takes room op pages (after changes pages) (quiet_none pages changes none)) outcome

@@ -42,8 +42,8 @@ count_apart old new n c torn other = λ i. record { low = one (place_of c) (ends
 pub counters_kept : (relations counters n : ℕ) (old new : List ℕ) (d : ℤ) → AreCounters relations counters old → Torn (place_of n + 16) 8 old new → count_in new n ≡ moved (count_in old n) d → stays (count_in old n) d ≡ true → AreCounters relations counters new
 counters_kept relations counters n old new d a torn here fits = record {
   size = torn.size ∙ a.size;
-  relations_told = torn.below 0 (omega arith) ∙ a.relations_told;
-  counters_told = torn.below 1 (omega arith) ∙ a.counters_told;
+  relations_reported = torn.below 0 (omega arith) ∙ a.relations_reported;
+  counters_reported = torn.below 1 (omega arith) ∙ a.counters_reported;
   zeros = λ i two eight. torn.below i (omega (arith, eight)) ∙ a.zeros i two eight;
   few = a.few;
   each = λ c lt. ⊎_elim

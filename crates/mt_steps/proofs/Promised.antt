@@ -88,15 +88,15 @@ abbrev Promises : Bool → ℕ → ℕ → ℕ → (ℕ → Option (List ℕ)) �
 Promises split relations counters total at_hand room op act = IfMade act (λ changes reply. InPages at_hand room relations counters total (λ pages. IsPlanned relations counters total at_hand pages changes op split reply))
 
 made_both : (act : Act) (P Q R : List PageChange → Reply → Type 0) → ((changes : List PageChange) (reply : Reply) → P changes reply → Q changes reply → R changes reply) → IfMade act P → IfMade act Q → IfMade act R
-made_both (act.Lock p mode) P Q R f p_told q_told = tt
-made_both (act.Made changes reply) P Q R f p_told q_told = f changes.list.items reply p_told q_told
-made_both act.Full P Q R f p_told q_told = tt
-made_both act.Broken P Q R f p_told q_told = tt
+made_both (act.Lock p mode) P Q R f p_reported q_reported = tt
+made_both (act.Made changes reply) P Q R f p_reported q_reported = f changes.list.items reply p_reported q_reported
+made_both act.Full P Q R f p_reported q_reported = tt
+made_both act.Broken P Q R f p_reported q_reported = tt
 
 -- both of what is known of a result
 pub ok_both : {E : Type 0} (r : Result Act E) (P Q R : Act → Type 0) → ((act : Act) → P act → Q act → R act) → IfOk r P → IfOk r Q → IfOk r R
-ok_both (Ok act) P Q R f p_told q_told = f act p_told q_told
-ok_both (Err e) P Q R f p_told q_told = tt
+ok_both (Ok act) P Q R f p_reported q_reported = f act p_reported q_reported
+ok_both (Err e) P Q R f p_reported q_reported = tt
 
 pub rows_planned : (split : Bool) (relations counters total : ℕ) (at_hand : ℕ → Option (List ℕ)) (room : Option ℕ) (op op2 : Op) (act : Act) → op ≡ op2
     → IfMade act (λ changes reply. InRoomy at_hand room relations total (λ pages m. IsAct relations total pages (after changes pages) op reply × AreShort changes pages))
@@ -110,7 +110,7 @@ pub good_planned : (split : Bool) (relations counters total : ℕ) (at_hand : �
     → IfMade act (λ changes reply. InGood at_hand relations total (λ pages m. IsAct relations total pages (after changes pages) op reply × AreShort changes pages))
     → IfMade act (λ changes reply. InGood at_hand relations total (λ pages m. IsModest at_hand total (own_needs op split) false pages (after changes pages))) → Promises split relations counters total at_hand room op2 act
 good_planned split relations counters total at_hand room op op2 act same acts modest =
-    rows_planned split relations counters total at_hand room op op2 act same (made_weaker act _ _ (λ changes reply told pages agrees m rows named. told pages agrees m rows) acts) (made_weaker act _ _ (λ changes reply told pages agrees m rows named. modest_any at_hand total (own_needs op split) split pages (after changes pages) (told pages agrees m rows)) modest)
+    rows_planned split relations counters total at_hand room op op2 act same (made_weaker act _ _ (λ changes reply outcome pages agrees m rows named. outcome pages agrees m rows) acts) (made_weaker act _ _ (λ changes reply outcome pages agrees m rows named. modest_any at_hand total (own_needs op split) split pages (after changes pages) (outcome pages agrees m rows)) modest)
 
 -- of an operation that splits nothing
 pub whole_planned : (split : Bool) (relations counters total : ℕ) (at_hand : ℕ → Option (List ℕ)) (room : Option ℕ) (op op2 : Op) (act : Act) → op ≡ op2
@@ -118,7 +118,7 @@ pub whole_planned : (split : Bool) (relations counters total : ℕ) (at_hand : �
     → IfMade act (λ changes reply. InRoomy at_hand room relations total (λ pages m. IsModest at_hand total (own_needs op split) false pages (after changes pages))) → Promises split relations counters total at_hand room op2 act
 whole_planned split relations counters total at_hand room op op2 act same acts modest =
     rows_planned split relations counters total at_hand room op op2 act same acts
-    (made_weaker act _ _ (λ changes reply told pages agrees m rows named. modest_any at_hand total (own_needs op split) split pages (after changes pages) (told pages agrees m rows named)) modest)
+    (made_weaker act _ _ (λ changes reply outcome pages agrees m rows named. modest_any at_hand total (own_needs op split) split pages (after changes pages) (outcome pages agrees m rows named)) modest)
 
 pub quiet_planned : (split : Bool) (relations counters total : ℕ) (at_hand : ℕ → Option (List ℕ)) (room : Option ℕ) (op op2 : Op) (act : Act) → op ≡ op2
     → IfMade act (λ changes reply. InGood at_hand relations total (λ pages m. IsAct relations total pages (after changes pages) op reply × AreShort changes pages)) → IfMade act (λ changes reply. changes ≡ []) → Promises split relations counters total at_hand room op2 act
@@ -146,29 +146,29 @@ read_planned split relations counters total number at_hand room op op2 act same 
 
 pub asks_same : {E : Type 0} (at_hand : ℕ → Option (List ℕ)) (room : Option ℕ) (total : ℕ) (split : Bool) (op op2 : Op) (r : Result Act E) → op ≡ op2
     → IfOk r (λ act. IfLock act (AsksFor at_hand room total split op)) → IfOk r (λ act. IfLock act (AsksFor at_hand room total split op2))
-asks_same at_hand room total split op op2 r same told = subst (λ (o : Op). IfOk r (λ act. IfLock act (AsksFor at_hand room total split o))) same told
+asks_same at_hand room total split op op2 r same outcome = subst (λ (o : Op). IfOk r (λ act. IfLock act (AsksFor at_hand room total split o))) same outcome
 
 -- both of what is known of a page that is asked for
 pub lock_both : (act : Act) (P Q R : ℕ → Mode → Type 0) → ((p : ℕ) (mode : Mode) → P p mode → Q p mode → R p mode) → IfLock act P → IfLock act Q → IfLock act R
-lock_both (act.Lock p mode) P Q R f p_told q_told = f p mode p_told q_told
-lock_both (act.Made changes reply) P Q R f p_told q_told = tt
-lock_both act.Full P Q R f p_told q_told = tt
-lock_both act.Broken P Q R f p_told q_told = tt
+lock_both (act.Lock p mode) P Q R f p_reported q_reported = f p mode p_reported q_reported
+lock_both (act.Made changes reply) P Q R f p_reported q_reported = tt
+lock_both act.Full P Q R f p_reported q_reported = tt
+lock_both act.Broken P Q R f p_reported q_reported = tt
 
 -- ---- too little room
 
 pub full_weaker : (act : Act) (P Q : Type 0) → (P → Q) → IfFull act P → IfFull act Q
-full_weaker (act.Lock p mode) P Q f told = told
-full_weaker (act.Made changes reply) P Q f told = told
-full_weaker act.Full P Q f told = f told
-full_weaker act.Broken P Q f told = told
+full_weaker (act.Lock p mode) P Q f outcome = outcome
+full_weaker (act.Made changes reply) P Q f outcome = outcome
+full_weaker act.Full P Q f outcome = f outcome
+full_weaker act.Broken P Q f outcome = outcome
 
 pub rows_full : (split : Bool) (relations counters total : ℕ) (at_hand : ℕ → Option (List ℕ)) (room : Option ℕ) (op op2 : Op) (act : Act) → op ≡ op2
     → IfFull act (InRoomy at_hand room relations total (λ pages m. (free_pages total pages < own_needs op split) ⊎ IsTight room pages (record_bytes op)))
     → IfFull act (InPages at_hand room relations counters total (λ pages. (free_pages total pages < own_needs op2 split) ⊎ IsTight room pages (record_bytes op2)))
-rows_full split relations counters total at_hand room op op2 act same told =
+rows_full split relations counters total at_hand room op op2 act same outcome =
     subst (λ (o : Op). IfFull act (InPages at_hand room relations counters total (λ pages. (free_pages total pages < own_needs o split) ⊎ IsTight room pages (record_bytes o)))) same
-    (full_weaker act _ _ (λ full pages agrees good named. full pages agrees good.meaning good.rows named) told)
+    (full_weaker act _ _ (λ full pages agrees good named. full pages agrees good.meaning good.rows named) outcome)
 
 pub never_full : (act : Act) (P : Type 0) → IfFull act ⊥ → IfFull act P
-never_full act P told = full_weaker act ⊥ P (λ no_. absurd no_) told
+never_full act P outcome = full_weaker act ⊥ P (λ no_. absurd no_) outcome

@@ -82,24 +82,24 @@ moved_map relations total pages m changes n to old row rows moved =
 
 -- ---- the acts
 
-pub updates_told : (relations total : ℕ) (pages : PageBytes) (m : Map) (b : Base) (n : RecordName) (r : ℕ) (k v : List ℕ) (reply : Reply) → HoldsRows pages b → record_in pages n.page n.slot ≡ Some (record { relation = r; key = k; value = v }) → reply ≡ Was v → was (b.rows r k) ≡ reply
-updates_told relations total pages m b n r k v reply held stood told = ap was (value_held pages m b n r k v held stood) ∙ sym told
+pub updates_reported : (relations total : ℕ) (pages : PageBytes) (m : Map) (b : Base) (n : RecordName) (r : ℕ) (k v : List ℕ) (reply : Reply) → HoldsRows pages b → record_in pages n.page n.slot ≡ Some (record { relation = r; key = k; value = v }) → reply ≡ Was v → was (b.rows r k) ≡ reply
+updates_reported relations total pages m b n r k v reply held stood outcome = ap was (value_held pages m b n r k v held stood) ∙ sym outcome
 
 pub kept_act : (relations total : ℕ) (pages : PageBytes) (m : Map) (changes : List PageChange) (n : RecordName) (r : ℕ) (k v w : List ℕ) (reply : Reply) → AreRows relations total pages m → m r k ≡ Some n → Fits relations 1024 (record { relation = r; key = k; value = w })
     → IsKept pages changes n (record { relation = r; key = k; value = v }) (record { relation = r; key = k; value = w }) → reply ≡ Was v → IsAct relations total pages (after changes pages) (Update r k w) reply
-kept_act relations total pages m changes n r k v w reply rows is fits kept told =
+kept_act relations total pages m changes n r k v w reply rows is fits kept outcome =
     let counters = stays_counters total pages (after changes pages) n.page n.slot (record { relation = r; key = k; value = w }) rows.map (record_kind pages n.page n.slot (record { relation = r; key = k; value = v }) kept.stood) kept.stays in
     row_act relations total pages (after changes pages) m (Update r k w) reply counters (λ b. refl)
-    (λ b held. updates_told relations total pages m b n r k v reply held kept.stood told)
+    (λ b held. updates_reported relations total pages m b n r k v reply held kept.stood outcome)
     (λ b held. updates_base relations total pages (after changes pages) m b n r k v w rows held is kept.stood kept.stays)
     (updates_good relations total pages (after changes pages) m n r k v w rows is kept.stood fits kept.stays counters.map)
 
 pub moved_act : (relations total : ℕ) (pages last : PageBytes) (m : Map) (changes : List PageChange) (n to : RecordName) (r : ℕ) (k v w : List ℕ) (reply : Reply) → AreRows relations total pages m → m r k ≡ Some n → Fits relations 1024 (record { relation = r; key = k; value = w })
     → IsMoved total pages changes n to (record { relation = r; key = k; value = v }) (record { relation = r; key = k; value = w }) → AreMap total last (alter m r k (Some to)) → ((p : ℕ) → kind (after changes pages) p ≢ 2 → last p ≡ after changes pages p)
     → AreFormed relations total last → reply ≡ Was v → IsAct relations total pages last (Update r k w) reply
-moved_act relations total pages last m changes n to r k v w reply rows is fits moved map others formed told =
+moved_act relations total pages last m changes n to r k v w reply rows is fits moved map others formed outcome =
     row_act relations total pages last (alter m r k (Some to)) (Update r k w) reply counters (λ b. refl)
-    (λ b held. updates_told relations total pages m b n r k v reply held moved.stood told)
+    (λ b held. updates_reported relations total pages m b n r k v reply held moved.stood outcome)
     (λ b held. moves_base relations total pages mid last m b n to r k v w rows held is moved.stood moved.moves kept)
     (moves_good relations total pages mid last m n to r k v w rows is moved.stood fits moved.moves kept map formed counters.map)
   where
@@ -131,10 +131,10 @@ moved_act relations total pages last m changes n to r k v w reply rows is fits m
 -- it moved within its page, and has its name still
 pub moved_here : (relations total : ℕ) (pages : PageBytes) (m : Map) (changes : List PageChange) (n : RecordName) (r : ℕ) (k v w : List ℕ) (reply : Reply) → AreRows relations total pages m → m r k ≡ Some n → Fits relations 1024 (record { relation = r; key = k; value = w })
     → IsMoved total pages changes n n (record { relation = r; key = k; value = v }) (record { relation = r; key = k; value = w }) → reply ≡ Was v → IsAct relations total pages (after changes pages) (Update r k w) reply
-moved_here relations total pages m changes n r k v w reply rows is fits moved told =
+moved_here relations total pages m changes n r k v w reply rows is fits moved outcome =
     let both = moved_map relations total pages m changes n n (record { relation = r; key = k; value = v }) (record { relation = r; key = k; value = w }) rows moved in
     moved_act relations total pages (after changes pages) m changes n n r k v w reply rows is fits moved
-    (subst (AreMap total (after changes pages)) (λ i q l. sym (alter_same m r k n is q l) i) both.0) (λ p ne. refl) both.1 told
+    (subst (AreMap total (after changes pages)) (λ i q l. sym (alter_same m r k n is q l) i) both.0) (λ p ne. refl) both.1 outcome
 
 -- a key without a value stays so
 pub update_misses : (relations total : ℕ) (pages : PageBytes) (m : Map) (r : ℕ) (k w : List ℕ) → AreRows relations total pages m → m r k ≡ None → IsAct relations total pages pages (Update r k w) Missing
@@ -153,7 +153,7 @@ Replacement at_hand room total pages n r w answer = IsReplacement at_hand room t
 pub replacement_is : (at_hand : ℕ → Option (List ℕ)) (room : Option ℕ) (relations total : ℕ) (pages : PageBytes) (m : Map) (n : RecordName) (r : Row) (w : List ℕ) (answer : Step) (plan : Plan) → answer ≡ step.Done plan → AreRows relations total pages m → IsNamed room pages
     → Replacement at_hand room total pages n r w answer → IsShortPlan pages answer → record_in pages n.page n.slot ≡ Some r
     → (((plan.name.page ≡ n.page) × (plan.name.slot ≡ n.slot)) × IsKept pages plan.changes.list.items n r (record r { value = w })) ⊎ IsMoved total pages plan.changes.list.items n plan.name r (record r { value = w })
-replacement_is at_hand room relations total pages m n r w answer plan is rows named told short stood = go (subst (λ (x : Step). Replacement at_hand room total pages n r w x) is told).0
+replacement_is at_hand room relations total pages m n r w answer plan is rows named outcome short stood = go (subst (λ (x : Step). Replacement at_hand room total pages n r w x) is outcome).0
   where
     shorts : AreShort plan.changes.list.items pages
     shorts = subst (λ (x : Step). IsShortPlan pages x) is short

@@ -1,4 +1,4 @@
--- What follows from an answer that is told by cases.
+-- What follows from an answer that is reported by cases.
 use Rattle.std.proofs.Common.{arith, ◌≡◌, ◌<◌, ℕ, List, Option, None, Some, sym, ap, ◌∙◌}
 use Rattle.mt_space.specs.declared.changes.PageChange.{PageChange}
 use Rattle.mt_model.specs.declared.operations.Reply.{Reply}
@@ -10,41 +10,41 @@ use Rattle.mt_steps.specs.Tells.{Tells}
 
 pub tells_weaker : (at_hand : ℕ → Option (List ℕ)) (total : ℕ) (A B : ℕ → Mode → Type 0) (P Q : List PageChange → Reply → Type 0) (F G : Type 0) → ((p : ℕ) (mode : Mode) → A p mode → B p mode)
     → ((changes : List PageChange) (reply : Reply) → P changes reply → Q changes reply) → (F → G) → (act : Act) → Tells at_hand total A P F act → Tells at_hand total B Q G act
-tells_weaker at_hand total A B P Q F G asks f h (Lock p mode) told = (told.0, told.1, asks p mode told.2)
-tells_weaker at_hand total A B P Q F G asks f h (Made changes reply) told = f changes.list.items reply told
-tells_weaker at_hand total A B P Q F G asks f h Full told = h told
-tells_weaker at_hand total A B P Q F G asks f h Broken told = told
+tells_weaker at_hand total A B P Q F G asks f h (Lock p mode) outcome = (outcome.0, outcome.1, asks p mode outcome.2)
+tells_weaker at_hand total A B P Q F G asks f h (Made changes reply) outcome = f changes.list.items reply outcome
+tells_weaker at_hand total A B P Q F G asks f h Full outcome = h outcome
+tells_weaker at_hand total A B P Q F G asks f h Broken outcome = outcome
 
-pub lock_told : (at_hand : ℕ → Option (List ℕ)) (total : ℕ) (A : ℕ → Mode → Type 0) (P : List PageChange → Reply → Type 0) (F : Type 0) (act : Act) → Tells at_hand total A P F act → IfLock act (λ p mode. (at_hand p ≡ None) × (p < total))
-lock_told at_hand total A P F (Lock p mode) told = (told.0, told.1)
-lock_told at_hand total A P F (Made changes reply) told = tt
-lock_told at_hand total A P F Full told = tt
-lock_told at_hand total A P F Broken told = tt
+pub lock_reported : (at_hand : ℕ → Option (List ℕ)) (total : ℕ) (A : ℕ → Mode → Type 0) (P : List PageChange → Reply → Type 0) (F : Type 0) (act : Act) → Tells at_hand total A P F act → IfLock act (λ p mode. (at_hand p ≡ None) × (p < total))
+lock_reported at_hand total A P F (Lock p mode) outcome = (outcome.0, outcome.1)
+lock_reported at_hand total A P F (Made changes reply) outcome = tt
+lock_reported at_hand total A P F Full outcome = tt
+lock_reported at_hand total A P F Broken outcome = tt
 
-pub asks_told : (at_hand : ℕ → Option (List ℕ)) (total : ℕ) (A B : ℕ → Mode → Type 0) (P : List PageChange → Reply → Type 0) (F : Type 0) → ((p : ℕ) (mode : Mode) → A p mode → B p mode) → (act : Act) → Tells at_hand total A P F act → IfLock act B
-asks_told at_hand total A B P F asks (Lock p mode) told = asks p mode told.2
-asks_told at_hand total A B P F asks (Made changes reply) told = tt
-asks_told at_hand total A B P F asks Full told = tt
-asks_told at_hand total A B P F asks Broken told = tt
+pub asks_reported : (at_hand : ℕ → Option (List ℕ)) (total : ℕ) (A B : ℕ → Mode → Type 0) (P : List PageChange → Reply → Type 0) (F : Type 0) → ((p : ℕ) (mode : Mode) → A p mode → B p mode) → (act : Act) → Tells at_hand total A P F act → IfLock act B
+asks_reported at_hand total A B P F asks (Lock p mode) outcome = asks p mode outcome.2
+asks_reported at_hand total A B P F asks (Made changes reply) outcome = tt
+asks_reported at_hand total A B P F asks Full outcome = tt
+asks_reported at_hand total A B P F asks Broken outcome = tt
 
-pub made_told : (at_hand : ℕ → Option (List ℕ)) (total : ℕ) (A : ℕ → Mode → Type 0) (P Q : List PageChange → Reply → Type 0) (F : Type 0) → ((changes : List PageChange) (reply : Reply) → P changes reply → Q changes reply) → (act : Act)
+pub made_reported : (at_hand : ℕ → Option (List ℕ)) (total : ℕ) (A : ℕ → Mode → Type 0) (P Q : List PageChange → Reply → Type 0) (F : Type 0) → ((changes : List PageChange) (reply : Reply) → P changes reply → Q changes reply) → (act : Act)
     → Tells at_hand total A P F act → IfMade act Q
-made_told at_hand total A P Q F f (Lock p mode) told = tt
-made_told at_hand total A P Q F f (Made changes reply) told = f changes.list.items reply told
-made_told at_hand total A P Q F f Full told = tt
-made_told at_hand total A P Q F f Broken told = tt
+made_reported at_hand total A P Q F f (Lock p mode) outcome = tt
+made_reported at_hand total A P Q F f (Made changes reply) outcome = f changes.list.items reply outcome
+made_reported at_hand total A P Q F f Full outcome = tt
+made_reported at_hand total A P Q F f Broken outcome = tt
 
-pub full_told : (at_hand : ℕ → Option (List ℕ)) (total : ℕ) (A : ℕ → Mode → Type 0) (P : List PageChange → Reply → Type 0) (F G : Type 0) → (F → G) → (act : Act) → Tells at_hand total A P F act → IfFull act G
-full_told at_hand total A P F G h (Lock p mode) told = tt
-full_told at_hand total A P F G h (Made changes reply) told = tt
-full_told at_hand total A P F G h Full told = h told
-full_told at_hand total A P F G h Broken told = tt
+pub full_reported : (at_hand : ℕ → Option (List ℕ)) (total : ℕ) (A : ℕ → Mode → Type 0) (P : List PageChange → Reply → Type 0) (F G : Type 0) → (F → G) → (act : Act) → Tells at_hand total A P F act → IfFull act G
+full_reported at_hand total A P F G h (Lock p mode) outcome = tt
+full_reported at_hand total A P F G h (Made changes reply) outcome = tt
+full_reported at_hand total A P F G h Full outcome = h outcome
+full_reported at_hand total A P F G h Broken outcome = tt
 
-pub broken_told : (at_hand : ℕ → Option (List ℕ)) (total : ℕ) (A : ℕ → Mode → Type 0) (P : List PageChange → Reply → Type 0) (F : Type 0) (act : Act) → Tells at_hand total A P F act → IfBroken act ⊥
-broken_told at_hand total A P F (Lock p mode) told = tt
-broken_told at_hand total A P F (Made changes reply) told = tt
-broken_told at_hand total A P F Full told = tt
-broken_told at_hand total A P F Broken told = told
+pub broken_reported : (at_hand : ℕ → Option (List ℕ)) (total : ℕ) (A : ℕ → Mode → Type 0) (P : List PageChange → Reply → Type 0) (F : Type 0) (act : Act) → Tells at_hand total A P F act → IfBroken act ⊥
+broken_reported at_hand total A P F (Lock p mode) outcome = tt
+broken_reported at_hand total A P F (Made changes reply) outcome = tt
+broken_reported at_hand total A P F Full outcome = tt
+broken_reported at_hand total A P F Broken outcome = outcome
 
 -- the counters page is one of all
 pub two_inside : (at_hand : ℕ → Option (List ℕ)) (total : ℕ) (act : Act) → 2 < total → IfLock act (λ p mode. (at_hand p ≡ None) × (p ≡ 2)) → IfLock act (λ p mode. (at_hand p ≡ None) × (p < total))
@@ -54,8 +54,8 @@ two_inside at_hand total Full inside asks = tt
 two_inside at_hand total Broken inside asks = tt
 
 -- what is logged is something
-pub logs_something : {A B : Type 0} (log : Reply → Option A) (reply told : Reply) (x : A) → reply ≡ told → log told ≡ Some x → log reply ≡ None → B
-logs_something log reply told x same some none = absurd (none_some (sym none ∙ ap log same ∙ some))
+pub logs_something : {A B : Type 0} (log : Reply → Option A) (reply outcome : Reply) (x : A) → reply ≡ outcome → log outcome ≡ Some x → log reply ≡ None → B
+logs_something log reply outcome x same some none = absurd (none_some (sym none ∙ ap log same ∙ some))
   where
     none_some : None ≡ Some x → ⊥
     none_some e = cc

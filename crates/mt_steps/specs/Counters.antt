@@ -23,8 +23,8 @@ count_in page c = record { low = i64_at page (place_of c); high = i64_at page (p
 -- a counters page of a schema of so many relations and counters; what lies after the last counter is open
 pub record AreCounters (relations counters : ℕ) (page : List ℕ) : Type 0 where
   pub size : length page ≡ PAGE_BYTES
-  pub relations_told : get_or page 0 0 ≡ relations
-  pub counters_told : get_or page 1 0 ≡ counters
+  pub relations_reported : get_or page 0 0 ≡ relations
+  pub counters_reported : get_or page 1 0 ≡ counters
   pub zeros : (i : ℕ) → 2 ≤ i → i < 8 → get_or page i 0 ≡ 0
   pub few : counters ≤ MAX_COUNTERS
   pub each : (c : ℕ) → c < counters → IsLimited (count_in page c)

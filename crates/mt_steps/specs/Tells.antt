@@ -38,8 +38,8 @@ abbrev pub AsksForNone : ℕ → Mode → Type 0
 AsksForNone p mode = ⊥
 
 -- the changes of both plans, and the reply
-pub record IsJoined (at_hand : ℕ → Option (List ℕ)) (first second : List PageChange) (reply : Reply) (changes : List PageChange) (told : Reply) : Type 0 where
-  pub same : told ≡ reply
+pub record IsJoined (at_hand : ℕ → Option (List ℕ)) (first second : List PageChange) (reply : Reply) (changes : List PageChange) (outcome : Reply) : Type 0 where
+  pub same : outcome ≡ reply
   pub there : AreAtHand at_hand changes
   pub few : length changes ≤ length first + length second
   pub leads : (pages : PageBytes) → Agrees at_hand pages → (after changes pages ≡ after second (after first pages)) × AreShort changes pages

@@ -92,7 +92,7 @@ pub fn add(page: &mut [u8], number: CtrNo, step: i64) -> bool
     requires there { number < MAX_COUNTERS }
     requires limited { IsLimited (count_in page.old number) }
     requires step { IsStep step }
-    ensures told { result ≡ stays (count_in page.old number) step }
+    ensures outcome { result ≡ stays (count_in page.old number) step }
     ensures done { OnTrue result (count_in page.new number ≡ moved (count_in page.old number) step) }
     ensures unchanged { OnFalse result (page.new ≡ page.old) }
     ensures rest { Torn (place_of number + 16) 8 page.old page.new }
@@ -115,8 +115,8 @@ pub fn check(page: &[u8], relations: u16, counters: u16) -> bool
     requires whole { length page.now ≡ PAGE_BYTES }
     ensures { MatchBool result (AreCounters relations counters page.now) (AreCounters relations counters page.now → ⊥) }
 {
-    let told = sizes(page);
-    if counters > MAX_COUNTERS || told.relations != relations || told.counters != counters {
+    let outcome = sizes(page);
+    if counters > MAX_COUNTERS || outcome.relations != relations || outcome.counters != counters {
         return false;
     }
     has_zeros(page) && are_limited(page, counters)

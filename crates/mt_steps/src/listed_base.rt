@@ -41,9 +41,9 @@ pub fn base_without_rows(alloc: Global, page: &[u8]) -> Result<Base, AllocError>
         → (base_of base).counts c ≡ count_in page.now c) }
     ensures rows { IfOk result (λ base. (r : ℕ) (k : List ℕ) → (base_of base).rows r k ≡ None) }
 {
-    let told = sizes(page);
-    let bounds = bounds_in(alloc, page, told.counters)?;
-    Base::new(alloc, told.relations, bounds.as_slice())
+    let outcome = sizes(page);
+    let bounds = bounds_in(alloc, page, outcome.counters)?;
+    Base::new(alloc, outcome.relations, bounds.as_slice())
 }
 
 // Lists a record as a row.

@@ -17,11 +17,11 @@ pub fn logged(op: &Op, reply: &Reply) -> Result<Option<LoggedOp>, Refusal>
         IsWithin relations counters op.now → HasSmallReply reply.now → IfOk result (λ done. IfSome done IsOperation) }
     ensures only_memory { IfErr result (λ why. why ≡ Refusal.NoMemory) }
 {
-    told(op, reply)
+    outcome(op, reply)
 }
 
 // What is logged, by the operation and its reply.
-fn told(op: &Op, reply: &Reply) -> Result<Option<LoggedOp>, Refusal>
+fn outcome(op: &Op, reply: &Reply) -> Result<Option<LoggedOp>, Refusal>
     ensures logged { IfOk result (λ done. done ≡ logged_of op.now reply.now) }
     ensures only_memory { IfErr result (λ why. why ≡ Refusal.NoMemory) }
 {

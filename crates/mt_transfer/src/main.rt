@@ -99,7 +99,7 @@ fn transfer_all<J: Naming + Send + Sync, R: Threads + Wait + Sync>(
         2,
         &|_number, pass| {
             for _ in 0..TRANSFERS {
-                let _told = transfer(rt, alloc, shared, pass);
+                let _reported = transfer(rt, alloc, shared, pass);
             }
         },
     );

@@ -22,7 +22,7 @@ use Rattle.mt_txn.specs.Events.IsBack.{stands}
 use Rattle.mt_txn.specs.Shown.{Shows}
 use Rattle.mt_core.specs.Work.{LeavesSteps}
 use Rattle.mt_core.specs.declared.steps.Going.{Going}
-use Rattle.mt_txn.specs.Work.{IsToldAs, LowersSteps, IsAbortToldAs, LowersAbort}
+use Rattle.mt_txn.specs.Work.{IsReportedAs, LowersSteps, IsAbortReportedAs, LowersAbort}
 use Rattle.mt_txn.specs.Well.{IsOrigin, IsWell, ShowsIn}
 use Rattle.mt_txn.specs.declared.answers.AbortStepped.{AbortStepped}
 use Rattle.mt_txn.specs.declared.answers.AbortStepped.TheVariants as abort
@@ -35,12 +35,12 @@ module _ {D : Type 0} {g : Ghosts D} (seen : D → List ℕ) (may_leave : D → 
   pub err_stepped : (t : ℕ) (n : Kernel D g) (r : Result Stepped Refusal) (y : Refusal) → r ≡ Err y → Shows seen may_leave first s n → HasStepped seen may_leave first s t r n
   err_stepped t n r y is shows = subst (λ x. HasStepped seen may_leave first s t x n) (sym is) shows
 
-  pub going_stepped : (t : ℕ) (n : Kernel D g) (rs : List Running) (gone : Going) (x : Stepped) → IsToldAs rs gone x → Shows seen may_leave first s n → HasStepped seen may_leave first s t (Ok x) n
-  going_stepped t n rs gone (step.Replied reply) told shows = absurd told
-  going_stepped t n rs gone step.Went told shows = shows
-  going_stepped t n rs gone (step.Wait other) told shows = shows
-  going_stepped t n rs gone step.Again told shows = shows
-  going_stepped t n rs gone step.Flush told shows = shows
+  pub going_stepped : (t : ℕ) (n : Kernel D g) (rs : List Running) (gone : Going) (x : Stepped) → IsReportedAs rs gone x → Shows seen may_leave first s n → HasStepped seen may_leave first s t (Ok x) n
+  going_stepped t n rs gone (step.Replied reply) outcome shows = absurd outcome
+  going_stepped t n rs gone step.Went outcome shows = shows
+  going_stepped t n rs gone (step.Wait other) outcome shows = shows
+  going_stepped t n rs gone step.Again outcome shows = shows
+  going_stepped t n rs gone step.Flush outcome shows = shows
 
   pub err_forced : (n : Kernel D g) (r : Result KernelForced Refusal) (y : Refusal) → r ≡ Err y → Shows seen may_leave first s n → HasForced seen may_leave first s r n
   err_forced n r y is shows = subst (λ x. HasForced seen may_leave first s x n) (sym is) shows
@@ -92,21 +92,21 @@ call_answers seen may_leave first s t op (Err why) n shows = shows
 
 -- ---- the steps that are left
 
-pub going_lowers : (rs : List Running) (pages before now : ℕ) (gone : Going) (x : Stepped) → IsToldAs rs gone x → LeavesSteps pages gone before now → LowersSteps pages (Ok x) before now
-going_lowers rs pages before now gone (step.Replied reply) told less = absurd told
-going_lowers rs pages before now gone step.Went told less = subst (λ g. LeavesSteps pages g before now) told less
-going_lowers rs pages before now gone (step.Wait other) told less = subst (λ g. LeavesSteps pages g before now) told.1 less
-going_lowers rs pages before now gone step.Flush told less = subst (λ g. LeavesSteps pages g before now) told less
-going_lowers rs pages before now gone step.Again told less = ⊎_elim
+pub going_lowers : (rs : List Running) (pages before now : ℕ) (gone : Going) (x : Stepped) → IsReportedAs rs gone x → LeavesSteps pages gone before now → LowersSteps pages (Ok x) before now
+going_lowers rs pages before now gone (step.Replied reply) outcome less = absurd outcome
+going_lowers rs pages before now gone step.Went outcome less = subst (λ g. LeavesSteps pages g before now) outcome less
+going_lowers rs pages before now gone (step.Wait other) outcome less = subst (λ g. LeavesSteps pages g before now) outcome.1 less
+going_lowers rs pages before now gone step.Flush outcome less = subst (λ g. LeavesSteps pages g before now) outcome less
+going_lowers rs pages before now gone step.Again outcome less = ⊎_elim
     (λ waits. let few : now ≤ before = subst (λ g. LeavesSteps pages g before now) waits.0 less in omega arith)
-    (λ again. subst (λ g. LeavesSteps pages g before now) again less) told.1
+    (λ again. subst (λ g. LeavesSteps pages g before now) again less) outcome.1
 
 -- of an abort
-pub going_left : (rs : List Running) (pages before now : ℕ) (gone : Going) (x : AbortStepped) → IsAbortToldAs rs gone x → LeavesSteps pages gone before now → LowersAbort pages (Ok x) before now
-going_left rs pages before now gone abort.Ended told less = absurd told
-going_left rs pages before now gone abort.More told less = subst (λ g. LeavesSteps pages g before now) told less
-going_left rs pages before now gone (abort.Wait other) told less = subst (λ g. LeavesSteps pages g before now) told.1 less
-going_left rs pages before now gone abort.Flush told less = subst (λ g. LeavesSteps pages g before now) told less
-going_left rs pages before now gone abort.Again told less = ⊎_elim
+pub going_left : (rs : List Running) (pages before now : ℕ) (gone : Going) (x : AbortStepped) → IsAbortReportedAs rs gone x → LeavesSteps pages gone before now → LowersAbort pages (Ok x) before now
+going_left rs pages before now gone abort.Ended outcome less = absurd outcome
+going_left rs pages before now gone abort.More outcome less = subst (λ g. LeavesSteps pages g before now) outcome less
+going_left rs pages before now gone (abort.Wait other) outcome less = subst (λ g. LeavesSteps pages g before now) outcome.1 less
+going_left rs pages before now gone abort.Flush outcome less = subst (λ g. LeavesSteps pages g before now) outcome less
+going_left rs pages before now gone abort.Again outcome less = ⊎_elim
     (λ waits. let few : now ≤ before = subst (λ g. LeavesSteps pages g before now) waits.0 less in omega arith)
-    (λ again. subst (λ g. LeavesSteps pages g before now) again less) told.1
+    (λ again. subst (λ g. LeavesSteps pages g before now) again less) outcome.1

@@ -21,7 +21,7 @@ use Rattle.std.proofs.lemmas.List.Elements.{All-get_or}
 use Rattle.mt_core.specs.PageLocks.{KeepsPageLocks}
 use Rattle.mt_core.specs.declared.steps.Stepping.TheVariants.{Going as GoingOn}
 use Rattle.mt_txn.specs.PageLocks.{AbortsLocks, BeginsAnew, StepsLocks}
-use Rattle.mt_txn.specs.Work.{IsToldAs, IsAbortToldAs, IsAnother, IsForOther, IsAbortForOther}
+use Rattle.mt_txn.specs.Work.{IsReportedAs, IsAbortReportedAs, IsAnother, IsForOther, IsAbortForOther}
 use Rattle.mt_txn.specs.declared.answers.AbortStepped.{AbortStepped}
 use Rattle.mt_txn.specs.declared.answers.AbortStepped.TheVariants as abort
 use Rattle.mt_txn.specs.declared.answers.Stepped.{Stepped}
@@ -34,12 +34,12 @@ lived (Some m) None same is = absurd cc
 lived (Some m) (Some n) same is = refl
 
 -- one that goes on has not ended
-pub abort_goes : (rs : List Running) (g : Going) (x : AbortStepped) → IsAbortToldAs rs g x → x ≡ abort.Ended → ⊥
-abort_goes rs g abort.Ended told is = told
-abort_goes rs g abort.More told is = absurd cc
-abort_goes rs g (abort.Wait other) told is = absurd cc
-abort_goes rs g abort.Again told is = absurd cc
-abort_goes rs g abort.Flush told is = absurd cc
+pub abort_goes : (rs : List Running) (g : Going) (x : AbortStepped) → IsAbortReportedAs rs g x → x ≡ abort.Ended → ⊥
+abort_goes rs g abort.Ended outcome is = outcome
+abort_goes rs g abort.More outcome is = absurd cc
+abort_goes rs g (abort.Wait other) outcome is = absurd cc
+abort_goes rs g abort.Again outcome is = absurd cc
+abort_goes rs g abort.Flush outcome is = absurd cc
 
 module _ {D : Type 0} (seen : D → List ℕ) (may_leave : D → List ℕ → Type 0) (relations counters : ℕ) where
   -- what a step of the operation at a place says that goes on
@@ -66,24 +66,24 @@ module _ {D : Type 0} (seen : D → List ℕ) (may_leave : D → List ℕ → Ty
 
   again_other : (k n : Core D) (t place holder : ℕ) (g : Going) → AtPlace k.running.items place (λ r. r.scope.txn ≡ t) → GoesOn k n place g → IsWell seen may_leave relations counters k → ((g ≡ going.Wait holder) × IsOwnerOf n.running.items holder None) ⊎ (g ≡ going.Again holder)
       → ∥ ((u : ℕ) × IsAnother k.live.members t u) ∥₁
-  again_other k n t place holder g own goes well told = ∥∥₁_map well (λ (origin, base, is, safe).
+  again_other k n t place holder g own goes well outcome = ∥∥₁_map well (λ (origin, base, is, safe).
       let names = named_at k n t place g origin base own goes safe in
-      let o : IsOfOther n.running.items t holder = ⊎_elim (λ (waits : (g ≡ going.Wait holder) × IsOwnerOf n.running.items holder None). subst (AwaitsOther n.running.items t) waits.0 names) (λ (again : g ≡ going.Again holder). subst (AwaitsOther n.running.items t) again names) told in
+      let o : IsOfOther n.running.items t holder = ⊎_elim (λ (waits : (g ≡ going.Wait holder) × IsOwnerOf n.running.items holder None). subst (AwaitsOther n.running.items t) waits.0 names) (λ (again : g ≡ going.Again holder). subst (AwaitsOther n.running.items t) again names) outcome in
       (o.0, another k n t place holder g origin base goes safe o))
 
-  pub step_other : (k n : Core D) (t place : ℕ) (g : Going) (x : Stepped) → AtPlace k.running.items place (λ r. r.scope.txn ≡ t) → GoesOn k n place g → IsWell seen may_leave relations counters k → IsToldAs n.running.items g x → IsForOther k.live.members t x
-  step_other k n t place g (step.Replied reply) own goes well told = tt
-  step_other k n t place g step.Went own goes well told = tt
-  step_other k n t place g (step.Wait other) own goes well told = wait_other k n t place told.0 other g own goes well told.1 told.2
-  step_other k n t place g step.Again own goes well told = again_other k n t place told.0 g own goes well told.1
-  step_other k n t place g step.Flush own goes well told = tt
+  pub step_other : (k n : Core D) (t place : ℕ) (g : Going) (x : Stepped) → AtPlace k.running.items place (λ r. r.scope.txn ≡ t) → GoesOn k n place g → IsWell seen may_leave relations counters k → IsReportedAs n.running.items g x → IsForOther k.live.members t x
+  step_other k n t place g (step.Replied reply) own goes well outcome = tt
+  step_other k n t place g step.Went own goes well outcome = tt
+  step_other k n t place g (step.Wait other) own goes well outcome = wait_other k n t place outcome.0 other g own goes well outcome.1 outcome.2
+  step_other k n t place g step.Again own goes well outcome = again_other k n t place outcome.0 g own goes well outcome.1
+  step_other k n t place g step.Flush own goes well outcome = tt
 
-  pub abort_other : (k n : Core D) (t place : ℕ) (g : Going) (x : AbortStepped) → AtPlace k.running.items place (λ r. r.scope.txn ≡ t) → GoesOn k n place g → IsWell seen may_leave relations counters k → IsAbortToldAs n.running.items g x → IsAbortForOther k.live.members t x
-  abort_other k n t place g abort.More own goes well told = tt
-  abort_other k n t place g (abort.Wait other) own goes well told = wait_other k n t place told.0 other g own goes well told.1 told.2
-  abort_other k n t place g abort.Again own goes well told = again_other k n t place told.0 g own goes well told.1
-  abort_other k n t place g abort.Flush own goes well told = tt
-  abort_other k n t place g abort.Ended own goes well told = tt
+  pub abort_other : (k n : Core D) (t place : ℕ) (g : Going) (x : AbortStepped) → AtPlace k.running.items place (λ r. r.scope.txn ≡ t) → GoesOn k n place g → IsWell seen may_leave relations counters k → IsAbortReportedAs n.running.items g x → IsAbortForOther k.live.members t x
+  abort_other k n t place g abort.More own goes well outcome = tt
+  abort_other k n t place g (abort.Wait other) own goes well outcome = wait_other k n t place outcome.0 other g own goes well outcome.1 outcome.2
+  abort_other k n t place g abort.Again own goes well outcome = again_other k n t place outcome.0 g own goes well outcome.1
+  abort_other k n t place g abort.Flush own goes well outcome = tt
+  abort_other k n t place g abort.Ended own goes well outcome = tt
 
   -- no operation under way has that number, and one has
   unowned : (rs : List Running) (holder u : ℕ) → IsOwnerOf rs holder (Some u) → IsOwnerOf rs holder None → ⊥
@@ -99,22 +99,22 @@ module _ {D : Type 0} (seen : D → List ℕ) (may_leave : D → List ℕ → Ty
 
   again_locks : (k n : Core D) (t place holder : ℕ) (g : Going) (r : Running) → AtPlace k.running.items place (λ q. q.scope.txn ≡ t) → GoesOn k n place g → IsWell seen may_leave relations counters k → ((g ≡ going.Wait holder) × IsOwnerOf n.running.items holder None) ⊎ (g ≡ going.Again holder)
       → KeepsPageLocks k n r (Ok (GoingOn g)) → BeginsAnew k n r
-  again_locks k n t place holder g r own goes well told keeps = ⊎_elim
+  again_locks k n t place holder g r own goes well outcome keeps = ⊎_elim
       (λ (waits : (g ≡ going.Wait holder) × IsOwnerOf n.running.items holder None). absurd (awaits_some k n t place holder g own goes well waits.0 waits.1))
-      (λ (again : g ≡ going.Again holder). (holder, subst (λ (x : Going). KeepsPageLocks k n r (Ok (GoingOn x))) again keeps)) told
+      (λ (again : g ≡ going.Again holder). (holder, subst (λ (x : Going). KeepsPageLocks k n r (Ok (GoingOn x))) again keeps)) outcome
 
-  pub step_locks : (k n : Core D) (t place : ℕ) (g : Going) (x : Stepped) (r : Running) → AtPlace k.running.items place (λ q. q.scope.txn ≡ t) → GoesOn k n place g → IsWell seen may_leave relations counters k → IsToldAs n.running.items g x
+  pub step_locks : (k n : Core D) (t place : ℕ) (g : Going) (x : Stepped) (r : Running) → AtPlace k.running.items place (λ q. q.scope.txn ≡ t) → GoesOn k n place g → IsWell seen may_leave relations counters k → IsReportedAs n.running.items g x
       → KeepsPageLocks k n r (Ok (GoingOn g)) → StepsLocks k n r (Ok x)
-  step_locks k n t place g (step.Replied reply) r own goes well told keeps = absurd told
-  step_locks k n t place g step.Went r own goes well told keeps = subst (λ (x : Going). KeepsPageLocks k n r (Ok (GoingOn x))) told keeps
-  step_locks k n t place g (step.Wait other) r own goes well told keeps = (told.0, told.2, subst (λ (x : Going). KeepsPageLocks k n r (Ok (GoingOn x))) told.1 keeps)
-  step_locks k n t place g step.Again r own goes well told keeps = again_locks k n t place told.0 g r own goes well told.1 keeps
-  step_locks k n t place g step.Flush r own goes well told keeps = subst (λ (x : Going). KeepsPageLocks k n r (Ok (GoingOn x))) told keeps
+  step_locks k n t place g (step.Replied reply) r own goes well outcome keeps = absurd outcome
+  step_locks k n t place g step.Went r own goes well outcome keeps = subst (λ (x : Going). KeepsPageLocks k n r (Ok (GoingOn x))) outcome keeps
+  step_locks k n t place g (step.Wait other) r own goes well outcome keeps = (outcome.0, outcome.2, subst (λ (x : Going). KeepsPageLocks k n r (Ok (GoingOn x))) outcome.1 keeps)
+  step_locks k n t place g step.Again r own goes well outcome keeps = again_locks k n t place outcome.0 g r own goes well outcome.1 keeps
+  step_locks k n t place g step.Flush r own goes well outcome keeps = subst (λ (x : Going). KeepsPageLocks k n r (Ok (GoingOn x))) outcome keeps
 
-  pub abort_locks : (k n : Core D) (t place : ℕ) (g : Going) (x : AbortStepped) (r : Running) → AtPlace k.running.items place (λ q. q.scope.txn ≡ t) → GoesOn k n place g → IsWell seen may_leave relations counters k → IsAbortToldAs n.running.items g x
+  pub abort_locks : (k n : Core D) (t place : ℕ) (g : Going) (x : AbortStepped) (r : Running) → AtPlace k.running.items place (λ q. q.scope.txn ≡ t) → GoesOn k n place g → IsWell seen may_leave relations counters k → IsAbortReportedAs n.running.items g x
       → KeepsPageLocks k n r (Ok (GoingOn g)) → AbortsLocks k n r (Ok x)
-  abort_locks k n t place g abort.More r own goes well told keeps = inl (subst (λ (x : Going). KeepsPageLocks k n r (Ok (GoingOn x))) told keeps)
-  abort_locks k n t place g (abort.Wait other) r own goes well told keeps = (told.0, told.2, subst (λ (x : Going). KeepsPageLocks k n r (Ok (GoingOn x))) told.1 keeps)
-  abort_locks k n t place g abort.Again r own goes well told keeps = again_locks k n t place told.0 g r own goes well told.1 keeps
-  abort_locks k n t place g abort.Flush r own goes well told keeps = subst (λ (x : Going). KeepsPageLocks k n r (Ok (GoingOn x))) told keeps
-  abort_locks k n t place g abort.Ended r own goes well told keeps = absurd told
+  abort_locks k n t place g abort.More r own goes well outcome keeps = inl (subst (λ (x : Going). KeepsPageLocks k n r (Ok (GoingOn x))) outcome keeps)
+  abort_locks k n t place g (abort.Wait other) r own goes well outcome keeps = (outcome.0, outcome.2, subst (λ (x : Going). KeepsPageLocks k n r (Ok (GoingOn x))) outcome.1 keeps)
+  abort_locks k n t place g abort.Again r own goes well outcome keeps = again_locks k n t place outcome.0 g r own goes well outcome.1 keeps
+  abort_locks k n t place g abort.Flush r own goes well outcome keeps = subst (λ (x : Going). KeepsPageLocks k n r (Ok (GoingOn x))) outcome keeps
+  abort_locks k n t place g abort.Ended r own goes well outcome keeps = absurd outcome

@@ -27,7 +27,7 @@ use Rattle.mt_model.specs.Model.{Base, IsBase}
 use Rattle.mt_model.specs.declared.history.Committed.{Committed}
 use Rattle.mt_op.specs.Operations.{IsRight}
 use Rattle.mt_op.specs.declared.operations.Operations.{Operations}
-use Rattle.mt_replay.specs.Told.{calls_of, stands_for, tells}
+use Rattle.mt_replay.specs.Recorded.{calls_of, stands_for, tells}
 use Rattle.mt_steps.specs.Held.{Holds}
 use Rattle.mt_txn.specs.Restarted.{all_commits}
 use Rattle.mt_txn.specs.Shown.{Restarts, Stays}

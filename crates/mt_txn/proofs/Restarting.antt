@@ -29,7 +29,7 @@ use Rattle.mt_space.specs.Changes.{PageBytes}
 use Rattle.mt_log.specs.Masters.{IsRuling, Rules, area_size as size_of, area_start as start_of, area_end as end_of}
 use Rattle.mt_replay.specs.Recoverable.{IsRecoverable}
 use Rattle.mt_replay.specs.Stands.{CanRestart, StandsFor}
-use Rattle.mt_replay.specs.Told.{stands_for, tells}
+use Rattle.mt_replay.specs.Recorded.{stands_for, tells}
 use Rattle.mt_core.proofs.Prefixed.{stands_first, tells_more}
 use Rattle.mt_core.proofs.Recovering.{commits_since, since_legal, after_earlier}
 use Rattle.mt_core.specs.Consistent.{Origin, state_of, BacksIn, IsConsistent, IsCalled, IsIn, MayBeCalled, StaysIn}

@@ -27,28 +27,28 @@ module _ {D : Type 0} (seen : D → List ℕ) (may_leave : D → List ℕ → Ty
   abbrev pub Finds : Result Survey Refusal → Type 0
   Finds r = (origin : Origin) (base : Base) → IsConsistent seen may_leave origin base k → IfOk r (IsSurvey origin.relations origin.counters (pages k.operations.store.pool) (held_in (world seen origin.pages k.operations)) base)
 
-  pub base_told : (relations counters : ℕ) (first : Base) (s : State) (r : Result Survey Refusal) → Finds r → ShowsIn seen may_leave relations counters first s k → IfOk r (TellsBase relations counters s.base)
-  base_told relations counters first s (Err why) finds shows = tt
-  base_told relations counters first s (Ok survey) finds shows = ∥∥₁_elim shows (hlevel props) (λ (origin, base, is, x).
-      let told = finds origin base x.consistent in record {
-        relations_told = told.relations_told ∙ is.relations_are;
-        counters_told = told.counters_told ∙ is.counters_are;
-        same = subst (λ (X : Type 0). X) (λ i. IsSame (is.counters_are i) (base_of survey.base) (ap (λ (z : State). z.base) (sym x.state) i)) told.base;
+  pub base_reported : (relations counters : ℕ) (first : Base) (s : State) (r : Result Survey Refusal) → Finds r → ShowsIn seen may_leave relations counters first s k → IfOk r (TellsBase relations counters s.base)
+  base_reported relations counters first s (Err why) finds shows = tt
+  base_reported relations counters first s (Ok survey) finds shows = ∥∥₁_elim shows (hlevel props) (λ (origin, base, is, x).
+      let outcome = finds origin base x.consistent in record {
+        relations_reported = outcome.relations_reported ∙ is.relations_are;
+        counters_reported = outcome.counters_reported ∙ is.counters_are;
+        same = subst (λ (X : Type 0). X) (λ i. IsSame (is.counters_are i) (base_of survey.base) (ap (λ (z : State). z.base) (sym x.state) i)) outcome.base;
       })
 
   -- the pages show as they are held
   pub shown_held : (relations counters : ℕ) (survey : Survey) → k.live.members ≡ [] → Finds (Ok survey) → IsWell seen may_leave relations counters k
       → (survey.depth ≡ depth_in (view k.operations.store.pool (seen k.operations.store.device) 1)) × (survey.free ≡ free_in (mapped (view k.operations.store.pool (seen k.operations.store.device) 0) (pages k.operations.store.pool)))
   shown_held relations counters survey nobody finds well = ∥∥₁_elim well (hlevel props) (λ (origin, base, is, safe).
-      let told = finds origin base safe in
+      let outcome = finds origin base safe in
       let free = nobody_locks k.live.members k.live.standing k.running.items k.operations.locks nobody safe.fit.owned safe.fit.locked in
       let idle : IsIdle seen may_leave origin.relations k.operations = ∣ (origin.pages, origin.counters, safe.fit.right, free) ∣₁ in
       let shows = λ (p : ℕ) (inside : p < pages k.operations.store.pool). idle_page seen may_leave origin.pages origin.relations origin.counters k.operations p safe.fit.right free inside in (
-        told.depth ∙ ap depth_in (sym (shows 1 (fixed_inside seen may_leave origin.relations k.operations 1 (omega arith) idle))),
-        told.free ∙ ap (λ (bytes : List ℕ). free_in (mapped bytes (pages k.operations.store.pool))) (sym (shows 0 (fixed_inside seen may_leave origin.relations k.operations 0 (omega arith) idle))),
+        outcome.depth ∙ ap depth_in (sym (shows 1 (fixed_inside seen may_leave origin.relations k.operations 1 (omega arith) idle))),
+        outcome.free ∙ ap (λ (bytes : List ℕ). free_in (mapped bytes (pages k.operations.store.pool))) (sym (shows 0 (fixed_inside seen may_leave origin.relations k.operations 0 (omega arith) idle))),
       ))
 
-pub pages_told : {D : Type 0} {g : Ghosts D} (seen : D → List ℕ) (may_leave : D → List ℕ → Type 0) (k : Kernel D g) (r : Result Survey Refusal) → k.core.live.members ≡ [] → Finds seen may_leave k.core r → IsWell seen may_leave k.relations k.counters k.core
+pub pages_reported : {D : Type 0} {g : Ghosts D} (seen : D → List ℕ) (may_leave : D → List ℕ → Type 0) (k : Kernel D g) (r : Result Survey Refusal) → k.core.live.members ≡ [] → Finds seen may_leave k.core r → IsWell seen may_leave k.relations k.counters k.core
     → IfOk r (TellsPages seen k)
-pages_told seen may_leave k (Err why) nobody finds well = tt
-pages_told seen may_leave k (Ok survey) nobody finds well = let told = shown_held seen may_leave k.core k.relations k.counters survey nobody finds well in record { depth = told.0; free = told.1 }
+pages_reported seen may_leave k (Err why) nobody finds well = tt
+pages_reported seen may_leave k (Ok survey) nobody finds well = let outcome = shown_held seen may_leave k.core k.relations k.counters survey nobody finds well in record { depth = outcome.0; free = outcome.1 }

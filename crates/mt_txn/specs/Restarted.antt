@@ -9,7 +9,7 @@ use Rattle.mt_model.specs.History.{after}
 use Rattle.mt_model.specs.Model.{Base}
 use Rattle.mt_model.specs.declared.history.Committed.{Committed}
 use Rattle.mt_replay.specs.Stands.{CanRestart}
-use Rattle.mt_replay.specs.Told.{tells}
+use Rattle.mt_replay.specs.Recorded.{tells}
 
 -- the book, and after it the commits under way, in their order
 abbrev pub all_commits : {D : Type 0} → Core D → List Committed

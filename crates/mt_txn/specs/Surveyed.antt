@@ -12,8 +12,8 @@ use Rattle.mt_txn.specs.declared.kernel.Kernel.{Kernel}
 
 -- It has the rows and the counters of this base, of so many relations and counters.
 pub record TellsBase (relations counters : ℕ) (base : Base) (survey : Survey) : Type 0 where
-  pub relations_told : relations_of survey.base ≡ relations
-  pub counters_told : length (counters_of survey.base) ≡ counters
+  pub relations_reported : relations_of survey.base ≡ relations
+  pub counters_reported : length (counters_of survey.base) ≡ counters
   pub same : IsSame counters (base_of survey.base) base
 
 -- It has the depth of the directory on page 1, and counts the free pages by the map on page 0, as pages and frames

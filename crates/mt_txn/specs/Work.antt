@@ -14,20 +14,22 @@ use Rattle.mt_txn.specs.declared.answers.Stepped.TheVariants as step
 
 -- What a step answers of an operation that goes on. It names the transaction whose operation holds the page; if none
 -- has that operation, it is asked again.
-abbrev pub IsToldAs : List Running → Going → Stepped → Type 0
-IsToldAs rs g (step.Replied reply) = ⊥
-IsToldAs rs g step.Went = g ≡ going.Went
-IsToldAs rs g (step.Wait other) = (holder : ℕ) × (g ≡ going.Wait holder) × IsOwnerOf rs holder (Some other)
-IsToldAs rs g step.Again = (holder : ℕ) × (((g ≡ going.Wait holder) × IsOwnerOf rs holder None) ⊎ (g ≡ going.Again holder))
-IsToldAs rs g step.Flush = g ≡ going.Flush
+abbrev pub IsReportedAs : List Running → Going → Stepped → Type 0
+IsReportedAs rs g (step.Replied reply) = ⊥
+IsReportedAs rs g step.Went = g ≡ going.Went
+IsReportedAs rs g (step.Wait other) = (holder : ℕ) × (g ≡ going.Wait holder) × IsOwnerOf rs holder (Some other)
+IsReportedAs rs g step.Again =
+    (holder : ℕ) × (((g ≡ going.Wait holder) × IsOwnerOf rs holder None) ⊎ (g ≡ going.Again holder))
+IsReportedAs rs g step.Flush = g ≡ going.Flush
 
 -- what a step of an abort answers of an inverse that goes on
-abbrev pub IsAbortToldAs : List Running → Going → AbortStepped → Type 0
-IsAbortToldAs rs g abort.More = g ≡ going.Went
-IsAbortToldAs rs g (abort.Wait other) = (holder : ℕ) × (g ≡ going.Wait holder) × IsOwnerOf rs holder (Some other)
-IsAbortToldAs rs g abort.Again = (holder : ℕ) × (((g ≡ going.Wait holder) × IsOwnerOf rs holder None) ⊎ (g ≡ going.Again holder))
-IsAbortToldAs rs g abort.Flush = g ≡ going.Flush
-IsAbortToldAs rs g abort.Ended = ⊥
+abbrev pub IsAbortReportedAs : List Running → Going → AbortStepped → Type 0
+IsAbortReportedAs rs g abort.More = g ≡ going.Went
+IsAbortReportedAs rs g (abort.Wait other) = (holder : ℕ) × (g ≡ going.Wait holder) × IsOwnerOf rs holder (Some other)
+IsAbortReportedAs rs g abort.Again =
+    (holder : ℕ) × (((g ≡ going.Wait holder) × IsOwnerOf rs holder None) ⊎ (g ≡ going.Again holder))
+IsAbortReportedAs rs g abort.Flush = g ≡ going.Flush
+IsAbortReportedAs rs g abort.Ended = ⊥
 
 -- ---- who is waited for
 

@@ -16,7 +16,7 @@ ghost use Rattle.mt_txn.specs.Aborted.{StepsAbort};
 ghost use Rattle.mt_txn.specs.Causes.{IsFault, abort_cause, is_busy, open_cause};
 ghost use Rattle.mt_txn.specs.Events.{HasAborted};
 ghost use Rattle.mt_txn.specs.Shown.{FailsForGood, SameSchema, Shows, Stays, StaysRestarting, TellsEachFault, is_failed};
-ghost use Rattle.mt_txn.specs.Work.{IsAbortToldAs, IsAbortForOther, LowersAbort};
+ghost use Rattle.mt_txn.specs.Work.{IsAbortReportedAs, IsAbortForOther, LowersAbort};
 ghost use Rattle.mt_txn.specs.Shown.{LeavesFound};
 ghost use Rattle.mt_txn.specs.PageLocks.{AbortsLocks, OfRunning};
 
@@ -67,9 +67,9 @@ impl<D: Device> Kernel<D> {
         ensures locks { AtPlace self.old.core.running.items place
             (λ r. AbortsLocks self.old.core self.new.core r result) }
     {
-        let told = self.core.take_back_step(place);
-        self.failed = is_failure(&told);
-        match told? {
+        let outcome = self.core.take_back_step(place);
+        self.failed = is_failure(&outcome);
+        match outcome? {
             TakenBack::More => Ok(AbortStepped::More),
             TakenBack::Flush => Ok(AbortStepped::Flush),
             TakenBack::Clear => Ok(AbortStepped::More),
@@ -86,9 +86,9 @@ impl<D: Device> Kernel<D> {
         ensures locks { AtPlace self.old.core.running.items place
             (λ r. AbortsLocks self.old.core self.new.core r result) }
     {
-        let told = self.core.undo_step(self.alloc, place);
-        self.failed = is_failure(&told);
-        match told? {
+        let outcome = self.core.undo_step(self.alloc, place);
+        self.failed = is_failure(&outcome);
+        match outcome? {
             Stepping::Ended(reply) => {
                 drop(reply);
                 Ok(AbortStepped::More)
@@ -99,7 +99,7 @@ impl<D: Device> Kernel<D> {
 
     // What a step of an abort answers if its inverse goes on.
     fn going(&self, going: Going) -> AbortStepped
-        ensures { IsAbortToldAs self.now.core.running.items going result }
+        ensures { IsAbortReportedAs self.now.core.running.items going result }
     {
         match going {
             Going::Went => AbortStepped::More,

@@ -102,9 +102,9 @@ impl<D: Device> Kernel<D> {
             return Err(Refusal::DeviceFailed);
         }
         let mut names = Vec::with_capacity(self.alloc, self.core.count_commits())?;
-        let told = self.core.force_step();
-        self.failed = is_failure(&told);
-        match told? {
+        let outcome = self.core.force_step();
+        self.failed = is_failure(&outcome);
+        match outcome? {
             Forced::More => Ok(KernelForced::More),
             Forced::Idle => Ok(KernelForced::Idle),
             Forced::Durable(place) => {
@@ -148,9 +148,9 @@ impl<D: Device> Kernel<D> {
         if self.has_failed() {
             return Err(Refusal::DeviceFailed);
         }
-        let told = self.core.flush_step();
-        self.failed = told.is_err();
-        match told {
+        let outcome = self.core.flush_step();
+        self.failed = outcome.is_err();
+        match outcome {
             Ok(flushed) => Ok(flushed),
             Err(_) => Err(Refusal::DeviceFailed),
         }

@@ -25,10 +25,10 @@ use mt_op::Operations;
 use std::alloc::Global;
 
 // Whether a call was refused with 2.
-pub(crate) fn is_failure<T>(told: &Result<T, Refusal>) -> bool
-    ensures { IsTrue result ↔ (told.now ≡ Err Refusal.DeviceFailed) }
+pub(crate) fn is_failure<T>(outcome: &Result<T, Refusal>) -> bool
+    ensures { IsTrue result ↔ (outcome.now ≡ Err Refusal.DeviceFailed) }
 {
-    matches!(told, Err(Refusal::DeviceFailed))
+    matches!(outcome, Err(Refusal::DeviceFailed))
 }
 
 /// A kernel over its pages.

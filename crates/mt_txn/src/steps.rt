@@ -8,7 +8,7 @@ ghost use Rattle.mt_model.specs.Model.{Base};
 ghost use Rattle.mt_pool.specs.Views.{pages};
 ghost use Rattle.mt_core.specs.Steps.{WantsFrame};
 ghost use Rattle.mt_core.specs.Work.{steps_in};
-ghost use Rattle.mt_txn.specs.Work.{IsToldAs, IsForOther, LowersSteps};
+ghost use Rattle.mt_txn.specs.Work.{IsReportedAs, IsForOther, LowersSteps};
 ghost use Rattle.mt_core.specs.Consistent.{SameCommits, SameStates};
 ghost use Rattle.mt_txn.specs.Causes.{IsFault, step_cause};
 ghost use Rattle.mt_txn.specs.Events.{HasStepped};
@@ -68,9 +68,9 @@ impl<D: Device> Kernel<D> {
         let Some(place) = self.core.place_of(txn) else {
             return Err(Refusal::Stranger);
         };
-        let told = self.core.step(self.alloc, place);
-        self.failed = is_failure(&told);
-        match told? {
+        let outcome = self.core.step(self.alloc, place);
+        self.failed = is_failure(&outcome);
+        match outcome? {
             Stepping::Ended(reply) => Ok(Stepped::Replied(reply)),
             Stepping::Going(going) => Ok(self.stepped(going)),
         }
@@ -78,7 +78,7 @@ impl<D: Device> Kernel<D> {
 
     // What a step answers if its operation goes on.
     fn stepped(&self, going: Going) -> Stepped
-        ensures { IsToldAs self.now.core.running.items going result }
+        ensures { IsReportedAs self.now.core.running.items going result }
     {
         match going {
             Going::Went => Stepped::Went,

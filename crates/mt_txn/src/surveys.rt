@@ -48,8 +48,8 @@ impl<D: Device> Kernel<D> {
         if self.core.live().count() != 0 {
             return Err(Refusal::Busy);
         }
-        let told = self.core.survey(self.alloc);
-        self.failed = is_failure(&told);
-        told
+        let outcome = self.core.survey(self.alloc);
+        self.failed = is_failure(&outcome);
+        outcome
     }
 }

@@ -19,7 +19,7 @@ use Rattle.mt_model.specs.Model.{Base}
 use Rattle.mt_model.specs.declared.history.Committed.{Committed}
 use Rattle.mt_replay.specs.Refused.{BreaksFormat, IsCause}
 use Rattle.mt_replay.specs.Stands.{CanRestart}
-use Rattle.mt_replay.specs.Told.{tells}
+use Rattle.mt_replay.specs.Recorded.{tells}
 use Rattle.mt_restart.specs.Formats.{FormatBegins}
 use Rattle.mt_restart.specs.Recovered.{IsCauseToStop, StandsStill}
 use Rattle.mt_restart.specs.Resumed.{IsOpened, device_of}

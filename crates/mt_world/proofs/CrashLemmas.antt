@@ -19,7 +19,7 @@ use Rattle.mt_txn.specs.declared.kernel.Kernel.{Kernel}
 use Rattle.mt_world.proofs.RunLemmas.{Ran, has_run, makes_same, ran_none}
 use Rattle.mt_world.specs.Crashes.{FindsBetween, FindsSince, FoundUntil, device_under}
 use Rattle.mt_world.specs.Schedules.{HasMade, HasRun}
-use Rattle.mt_world.specs.Told.{acknowledged, commit_of, told_of}
+use Rattle.mt_world.specs.Reported.{acknowledged, commit_of, reported_of}
 use Rattle.mt_world.specs.declared.events.Answer.{Answer}
 use Rattle.mt_world.specs.declared.events.Event.{Event}
 
@@ -39,9 +39,9 @@ module _ {D : Type 0} {g : Ghosts D} (seen : D → List ℕ) (may_leave : D → 
     pub answered_of : (events : List Event) (answers : List Answer) (k : Kernel D g) → ∥ HasRun seen may_leave faults first events answers k ∥₁ → length k.core.book.items ≡ length (acknowledged answers)
     answered_of events answers k some = ∥∥₁_elim some (hlevel props) (λ r. ∥∥₁_elim r.shows (hlevel props) (λ (origin, base, is, x).
         let book : length r.state.book ≡ length k.core.book.items = ap (λ (s : State). length s.book) x.state in
-        let told : length r.state.book ≡ length (map (λ t. commit_of (told_of events answers t)) (acknowledged answers)) = ap (λ (cs : List Committed). length cs) r.told in
-        let size = length-map (acknowledged answers) (λ t. commit_of (told_of events answers t)) in
-        omega (arith, book, told, size)))
+        let outcome : length r.state.book ≡ length (map (λ t. commit_of (reported_of events answers t)) (acknowledged answers)) = ap (λ (cs : List Committed). length cs) r.outcome in
+        let size = length-map (acknowledged answers) (λ t. commit_of (reported_of events answers t)) in
+        omega (arith, book, outcome, size)))
 
     pub found_none : (k : Kernel D g) → Shows seen may_leave first (start first) k → Restarts seen may_leave first k → FindsSince moment left_since since first k → IsRelationCount k.relations → Found [] [] k
     found_none k shows starts found count = ∣ record {
@@ -75,8 +75,8 @@ module _ {D : Type 0} {g : Ghosts D} (seen : D → List ℕ) (may_leave : D → 
       longer : length (events ++ event ∷ []) ≡ length events + 1
       longer = length-append events (event ∷ [])
 
-      longer_told : length (answers ++ answer ∷ []) ≡ length events + 1
-      longer_told = length-append answers (answer ∷ []) ∙ ap (λ (l : ℕ). l + 1) (sym same)
+      longer_reported : length (answers ++ answer ∷ []) ≡ length events + 1
+      longer_reported = length-append answers (answer ∷ []) ∙ ap (λ (l : ℕ). l + 1) (sym same)
 
       whole : (i : ℕ) → length events + 1 ≤ i → i ≤ length (events ++ event ∷ []) → i ≡ length events + 1
       whole i ge le = omega (arith, ge, le, longer)
@@ -109,7 +109,7 @@ module _ {D : Type 0} {g : Ghosts D} (seen : D → List ℕ) (may_leave : D → 
           (λ (ge : length events + 1 ≤ i).
           let is = whole i ge le in
           let one : take i (events ++ event ∷ []) ≡ events ++ event ∷ [] = take_all i (events ++ event ∷ []) (omega (arith, is, longer)) in
-          let two : take i (answers ++ answer ∷ []) ≡ answers ++ answer ∷ [] = take_all i (answers ++ answer ∷ []) (omega (arith, is, longer_told)) in
+          let two : take i (answers ++ answer ∷ []) ≡ answers ++ answer ∷ [] = take_all i (answers ++ answer ∷ []) (omega (arith, is, longer_reported)) in
           let there : next i ≡ n = ap next is ∙ own in
           subst (λ (X : Type 0). X) (λ j. ∥ HasRun seen may_leave faults first (sym one j) (sym two j) (sym there j) ∥₁) ran)
           (cases_lt i (length events + 1))

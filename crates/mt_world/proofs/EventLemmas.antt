@@ -17,7 +17,7 @@ use Rattle.mt_live.specs.declared.transactions.TxnState.TheVariants.{Open, Commi
 use Rattle.mt_model.specs.Model.{Base}
 use Rattle.mt_model.specs.declared.operations.Op.{Op}
 use Rattle.mt_model.specs.declared.operations.Reply.{Reply}
-use Rattle.mt_pool.specs.declared.flushes.Flushed.{Flushed as FlushTold}
+use Rattle.mt_pool.specs.declared.flushes.Flushed.{Flushed as FlushOutcome}
 use Rattle.mt_pool.specs.declared.flushes.Flushed.TheVariants as flush
 use Rattle.mt_txn.proofs.Living.{idle_of}
 use Rattle.mt_txn.specs.Causes.{begin_cause, call_cause, first_of, is_busy, is_open, unless}
@@ -28,7 +28,7 @@ use Rattle.mt_txn.specs.declared.answers.AbortStepped.{AbortStepped}
 use Rattle.mt_txn.specs.declared.answers.AbortStepped.TheVariants as abort
 use Rattle.mt_txn.specs.declared.answers.KernelForced.{KernelForced}
 use Rattle.mt_txn.specs.declared.answers.KernelForced.TheVariants as forced
-use Rattle.mt_txn.specs.declared.answers.Stepped.{Stepped as StepTold}
+use Rattle.mt_txn.specs.declared.answers.Stepped.{Stepped as StepOutcome}
 use Rattle.mt_txn.specs.declared.answers.Stepped.TheVariants as step
 use Rattle.mt_txn.specs.declared.kernel.Kernel.{Kernel}
 use Rattle.mt_world.specs.Acts.{Act}
@@ -127,21 +127,21 @@ module _ {D : Type 0} {g : Ghosts D} (seen : D → List ℕ) (may_leave : D → 
   abbrev Cause : ℕ → Op → Option Refusal
   Cause t op = call_cause k.relations k.counters (is_failed k) k.core t op
 
-  uncaused : (t : ℕ) (op : Op) (told : Called) → ((why : Refusal) → Cause t op ≡ Some why → ◌≡◌ {A = Result Called Refusal} (Ok told) (Err why)) → Cause t op ≡ None
-  uncaused t op told early = go (Cause t op) refl
+  uncaused : (t : ℕ) (op : Op) (outcome : Called) → ((why : Refusal) → Cause t op ≡ Some why → ◌≡◌ {A = Result Called Refusal} (Ok outcome) (Err why)) → Cause t op ≡ None
+  uncaused t op outcome early = go (Cause t op) refl
     where
       go : (c : Option Refusal) → Cause t op ≡ c → c ≡ None
       go None e = refl
-      go (Some why) e = absurd (let wrong : ◌≡◌ {A = Result Called Refusal} (Ok told) (Err why) = early why e in cc)
+      go (Some why) e = absurd (let wrong : ◌≡◌ {A = Result Called Refusal} (Ok outcome) (Err why) = early why e in cc)
 
-  pub call_made : (t : ℕ) (op : Op) (told : Called) → ((why : Refusal) → Cause t op ≡ Some why → ◌≡◌ {A = Result Called Refusal} (Ok told) (Err why)) → (Cause t op ≡ None → IsAnsweredBy seen may_leave k t op (Ok told))
-      → ((first : Base) (s : State) → Shows seen may_leave first s k → HasCalled seen may_leave first s t op (Ok told) n) → KeepsDevice k (Call t op) n → SamePhases k n → SameSchema k n → FailsIn k (CalledAs told) n → StaysRestarting seen may_leave k n → Found
-      → HasMade seen may_leave moment left_since faults k (Call t op) (CalledAs told) n
-  call_made t op told early answer did device phases schema fails restarts found =
-      let none = uncaused t op told early in
-      record { leads = λ first s starts shows. leads told first s (did first s shows); due = (none, answer none); device = device; phases = phases; fails = fails; restarts = restarts; found = found; schema = schema }
+  pub call_made : (t : ℕ) (op : Op) (outcome : Called) → ((why : Refusal) → Cause t op ≡ Some why → ◌≡◌ {A = Result Called Refusal} (Ok outcome) (Err why)) → (Cause t op ≡ None → IsAnsweredBy seen may_leave k t op (Ok outcome))
+      → ((first : Base) (s : State) → Shows seen may_leave first s k → HasCalled seen may_leave first s t op (Ok outcome) n) → KeepsDevice k (Call t op) n → SamePhases k n → SameSchema k n → FailsIn k (CalledAs outcome) n → StaysRestarting seen may_leave k n → Found
+      → HasMade seen may_leave moment left_since faults k (Call t op) (CalledAs outcome) n
+  call_made t op outcome early answer did device phases schema fails restarts found =
+      let none = uncaused t op outcome early in
+      record { leads = λ first s starts shows. leads outcome first s (did first s shows); due = (none, answer none); device = device; phases = phases; fails = fails; restarts = restarts; found = found; schema = schema }
     where
-      leads : (told : Called) (first : Base) (s : State) → HasCalled seen may_leave first s t op (Ok told) n → Leads first s (Call t op) (CalledAs told)
+      leads : (outcome : Called) (first : Base) (s : State) → HasCalled seen may_leave first s t op (Ok outcome) n → Leads first s (Call t op) (CalledAs outcome)
       leads call.Started first s shows = ∣ ([], called s t op, calls t op, shows) ∣₁
       leads (call.Wait holder) first s shows = still (Call t op) (CalledAs (call.Wait holder)) first s (call_waits t op holder) shows
 
@@ -156,9 +156,9 @@ module _ {D : Type 0} {g : Ghosts D} (seen : D → List ℕ) (may_leave : D → 
 
   -- ---- a step
 
-  pub step_made : (t : ℕ) (told : StepTold) → IsStepped k t told n → ((first : Base) (s : State) → Shows seen may_leave first s k → HasStepped seen may_leave first s t (Ok told) n) → SamePhases k n → SameSchema k n → FailsIn k (Stepped told) n → StaysRestarting seen may_leave k n → Found
-      → HasMade seen may_leave moment left_since faults k (Step t) (Stepped told) n
-  step_made t told due did phases schema fails restarts found = record { leads = λ first s starts shows. leads told first s shows (did first s shows); due = due; device = tt; phases = phases; fails = fails; restarts = restarts; found = found; schema = schema }
+  pub step_made : (t : ℕ) (outcome : StepOutcome) → IsStepped k t outcome n → ((first : Base) (s : State) → Shows seen may_leave first s k → HasStepped seen may_leave first s t (Ok outcome) n) → SamePhases k n → SameSchema k n → FailsIn k (Stepped outcome) n → StaysRestarting seen may_leave k n → Found
+      → HasMade seen may_leave moment left_since faults k (Step t) (Stepped outcome) n
+  step_made t outcome due did phases schema fails restarts found = record { leads = λ first s starts shows. leads outcome first s shows (did first s shows); due = due; device = tt; phases = phases; fails = fails; restarts = restarts; found = found; schema = schema }
     where
       ends_with : (reply : Reply) (first : Base) (s : State) → Shows seen may_leave first s k → (o : Option Op) → s.running t ≡ o → HasStepped seen may_leave first s t (Ok (step.Replied reply)) n → Leads first s (Step t) (Stepped (step.Replied reply))
       ends_with reply first s shows None none did =
@@ -170,7 +170,7 @@ module _ {D : Type 0} {g : Ghosts D} (seen : D → List ℕ) (may_leave : D → 
           ∥∥₁_map ended_so.1 (λ is.
           subst (λ (r : Reply). (acts : List Act) × (z : State) × Moves s (Step t) (Stepped (step.Replied r)) acts z × Shows seen may_leave first z n) is (_, ended s t op, ends t op runs, ended_so.0))
 
-      leads : (told : StepTold) (first : Base) (s : State) → Shows seen may_leave first s k → HasStepped seen may_leave first s t (Ok told) n → Leads first s (Step t) (Stepped told)
+      leads : (outcome : StepOutcome) (first : Base) (s : State) → Shows seen may_leave first s k → HasStepped seen may_leave first s t (Ok outcome) n → Leads first s (Step t) (Stepped outcome)
       leads (step.Replied reply) first s shows did = ends_with reply first s shows (s.running t) refl did
       leads step.Went first s shows did = still (Step t) (Stepped step.Went) first s (step_went t) did
       leads (step.Wait other) first s shows did = still (Step t) (Stepped (step.Wait other)) first s (step_waits t other) did
@@ -179,19 +179,19 @@ module _ {D : Type 0} {g : Ghosts D} (seen : D → List ℕ) (may_leave : D → 
 
   -- ---- a step of an abort
 
-  pub back_made : (t : ℕ) (told : AbortStepped) → IsBacked k t told n → ((first : Base) (s : State) → Shows seen may_leave first s k → HasAborted seen may_leave first s t (Ok told) n) → SetsPhases k (AbortStep t) (Backed told) n → SameSchema k n → FailsIn k (Backed told) n → StaysRestarting seen may_leave k n → Found
-      → HasMade seen may_leave moment left_since faults k (AbortStep t) (Backed told) n
-  back_made t told due did phases schema fails restarts found = record { leads = λ first s starts shows. leads told first s (did first s shows); due = due; device = tt; phases = phases; fails = fails; restarts = restarts; found = found; schema = schema }
+  pub back_made : (t : ℕ) (outcome : AbortStepped) → IsBacked k t outcome n → ((first : Base) (s : State) → Shows seen may_leave first s k → HasAborted seen may_leave first s t (Ok outcome) n) → SetsPhases k (AbortStep t) (Backed outcome) n → SameSchema k n → FailsIn k (Backed outcome) n → StaysRestarting seen may_leave k n → Found
+      → HasMade seen may_leave moment left_since faults k (AbortStep t) (Backed outcome) n
+  back_made t outcome due did phases schema fails restarts found = record { leads = λ first s starts shows. leads outcome first s (did first s shows); due = due; device = tt; phases = phases; fails = fails; restarts = restarts; found = found; schema = schema }
     where
-      leads : (told : AbortStepped) (first : Base) (s : State) → HasAborted seen may_leave first s t (Ok told) n → Leads first s (AbortStep t) (Backed told)
+      leads : (outcome : AbortStepped) (first : Base) (s : State) → HasAborted seen may_leave first s t (Ok outcome) n → Leads first s (AbortStep t) (Backed outcome)
       leads abort.More first s did = ∥∥₁_map did (λ (z, back, shows). let moves = back_moves t s z back in (moves.0, z, moves.1, shows))
       leads (abort.Wait other) first s did = still (AbortStep t) (Backed (abort.Wait other)) first s (abort_waits t other) did
       leads abort.Again first s did = still (AbortStep t) (Backed abort.Again) first s (abort_again t) did
       leads abort.Flush first s did = still (AbortStep t) (Backed abort.Flush) first s (abort_full t) did
       leads abort.Ended first s did = ∥∥₁_map did.1 (λ nothing. ([], gone s t, aborts t nothing, did.0))
 
-  pub back_phases : (t : ℕ) (told : AbortStepped) → (told ≢ abort.Ended → SameStates k.core n.core) → SameCommits k.core n.core
-      → (told ≡ abort.Ended → (state_in n.core.live.members t ≡ None) × SameStatesBut k.core n.core t) → SetsPhases k (AbortStep t) (Backed told) n
+  pub back_phases : (t : ℕ) (outcome : AbortStepped) → (outcome ≢ abort.Ended → SameStates k.core n.core) → SameCommits k.core n.core
+      → (outcome ≡ abort.Ended → (state_in n.core.live.members t ≡ None) × SameStatesBut k.core n.core t) → SetsPhases k (AbortStep t) (Backed outcome) n
   back_phases t abort.More same commits out = (same (λ e. cc), commits)
   back_phases t (abort.Wait other) same commits out = (same (λ e. cc), commits)
   back_phases t abort.Again same commits out = (same (λ e. cc), commits)
@@ -209,16 +209,16 @@ module _ {D : Type 0} {g : Ghosts D} (seen : D → List ℕ) (may_leave : D → 
   pub kernel_phases : n ≡ k → SamePhases k n
   kernel_phases same = parts_phases (ap (λ (x : Kernel D g). x.core) same)
 
-  pub flush_told : (told : FlushTold) → ((p : ℕ) → told ≡ flush.Page p → IsFlushed k (flush.Page p) n) → (told ≡ flush.Force → IsFlushed k flush.Force n) → (told ≡ flush.Clean → IsFlushed k flush.Clean n) → IsFlushed k told n
-  flush_told (flush.Page p) written barred nothing = written p refl
-  flush_told flush.Force written barred nothing = barred refl
-  flush_told flush.Clean written barred nothing = nothing refl
+  pub flush_reported : (outcome : FlushOutcome) → ((p : ℕ) → outcome ≡ flush.Page p → IsFlushed k (flush.Page p) n) → (outcome ≡ flush.Force → IsFlushed k flush.Force n) → (outcome ≡ flush.Clean → IsFlushed k flush.Clean n) → IsFlushed k outcome n
+  flush_reported (flush.Page p) written barred nothing = written p refl
+  flush_reported flush.Force written barred nothing = barred refl
+  flush_reported flush.Clean written barred nothing = nothing refl
 
-  pub force_made : (told : KernelForced) → ((first : Base) (s : State) → Shows seen may_leave first s k → HasForced seen may_leave first s (Ok told) n) → IsDue seen may_leave faults k Force (Forced told) n → SetsPhases k Force (Forced told) n → SameSchema k n → FailsIn k (Forced told) n → StaysRestarting seen may_leave k n → Found
-      → HasMade seen may_leave moment left_since faults k Force (Forced told) n
-  force_made told did due phases schema fails restarts found = record { leads = λ first s starts shows. leads told first s (did first s shows); due = due; device = tt; phases = phases; fails = fails; restarts = restarts; found = found; schema = schema }
+  pub force_made : (outcome : KernelForced) → ((first : Base) (s : State) → Shows seen may_leave first s k → HasForced seen may_leave first s (Ok outcome) n) → IsDue seen may_leave faults k Force (Forced outcome) n → SetsPhases k Force (Forced outcome) n → SameSchema k n → FailsIn k (Forced outcome) n → StaysRestarting seen may_leave k n → Found
+      → HasMade seen may_leave moment left_since faults k Force (Forced outcome) n
+  force_made outcome did due phases schema fails restarts found = record { leads = λ first s starts shows. leads outcome first s (did first s shows); due = due; device = tt; phases = phases; fails = fails; restarts = restarts; found = found; schema = schema }
     where
-      leads : (told : KernelForced) (first : Base) (s : State) → HasForced seen may_leave first s (Ok told) n → Leads first s Force (Forced told)
+      leads : (outcome : KernelForced) (first : Base) (s : State) → HasForced seen may_leave first s (Ok outcome) n → Leads first s Force (Forced outcome)
       leads forced.More first s did = still Force (Forced forced.More) first s force_went did
       leads forced.Idle first s did = still Force (Forced forced.Idle) first s force_idle did
       leads (forced.Durable names) first s did = ∣ ([], _, books names, did) ∣₁

@@ -1,6 +1,6 @@
 mod EventLemmas
 mod OrderLemmas
-mod ToldLemmas
+mod ReportedLemmas
 mod RunLemmas
 mod CrashLemmas
 mod TurnLemmas

@@ -2,16 +2,16 @@
 use Rattle.std.proofs.Common.{◌≡◌, ◌<◌, ℕ, suc, List, [], ◌∷◌, ◌++◌, length, take, get_or, refl, ap, ap₂, sym, ◌∙◌, append_assoc, append-nil, arith}
 use Rattle.std.proofs.lemmas.List.{length-take-le}
 use Rattle.std.proofs.Math.Seq.{take-suc}
-use Rattle.mt_world.specs.Told.{Told, acknowledged, committing, named, nothing_told, started_by, tells, told_from, told_of}
+use Rattle.mt_world.specs.Reported.{Reported, acknowledged, committing, named, nothing_reported, started_by, tells, reported_from, reported_of}
 use Rattle.mt_world.specs.declared.events.Answer.{Answer}
 use Rattle.mt_world.specs.declared.events.Event.{Event}
 
-pub told_more : (t : ℕ) (told : Told) (events : List Event) (answers : List Answer) (event : Event) (answer : Answer) → length events ≡ length answers
-    → told_from t told (events ++ event ∷ []) (answers ++ answer ∷ []) ≡ tells t (told_from t told events answers) event answer
-told_more t told [] [] event answer same = refl
-told_more t told [] (a ∷ answers) event answer same = absurd (omega arith)
-told_more t told (e ∷ events) [] event answer same = absurd (omega arith)
-told_more t told (e ∷ events) (a ∷ answers) event answer same = told_more t (tells t told e a) events answers event answer (omega arith)
+pub reported_more : (t : ℕ) (outcome : Reported) (events : List Event) (answers : List Answer) (event : Event) (answer : Answer) → length events ≡ length answers
+    → reported_from t outcome (events ++ event ∷ []) (answers ++ answer ∷ []) ≡ tells t (reported_from t outcome events answers) event answer
+reported_more t outcome [] [] event answer same = refl
+reported_more t outcome [] (a ∷ answers) event answer same = absurd (omega arith)
+reported_more t outcome (e ∷ events) [] event answer same = absurd (omega arith)
+reported_more t outcome (e ∷ events) (a ∷ answers) event answer same = reported_more t (tells t outcome e a) events answers event answer (omega arith)
 
 pub acknowledged_more : (answers : List Answer) (answer : Answer) → acknowledged (answers ++ answer ∷ []) ≡ acknowledged answers ++ named answer
 acknowledged_more [] answer = append-nil (named answer)
@@ -27,18 +27,18 @@ committing_more (e ∷ events) (a ∷ answers) event answer same =
 
 -- ---- one event after the other
 
-module _ (events : List Event) (answers : List Answer) (same : length answers ≡ length events) (i : ℕ) (inside : i < length events) (event : Event) (answer : Answer) (is : event ≡ get_or events i event) (told_is : answer ≡ get_or answers i answer) where
+module _ (events : List Event) (answers : List Answer) (same : length answers ≡ length events) (i : ℕ) (inside : i < length events) (event : Event) (answer : Answer) (is : event ≡ get_or events i event) (reported_is : answer ≡ get_or answers i answer) where
   events_on : take (suc i) events ≡ take i events ++ event ∷ []
   events_on = take-suc events i event inside ∙ ap (λ (e : Event). take i events ++ e ∷ []) (sym is)
 
   answers_on : take (suc i) answers ≡ take i answers ++ answer ∷ []
-  answers_on = take-suc answers i answer (omega (arith, same, inside)) ∙ ap (λ (a : Answer). take i answers ++ a ∷ []) (sym told_is)
+  answers_on = take-suc answers i answer (omega (arith, same, inside)) ∙ ap (λ (a : Answer). take i answers ++ a ∷ []) (sym reported_is)
 
   short : length (take i events) ≡ length (take i answers)
   short = let one = length-take-le i events (omega (arith, inside)) in let two = length-take-le i answers (omega (arith, inside, same)) in omega (arith, one, two)
 
-  pub told_next : (t : ℕ) → told_of (take (suc i) events) (take (suc i) answers) t ≡ tells t (told_of (take i events) (take i answers) t) event answer
-  told_next t = ap₂ (λ (es : List Event) (as' : List Answer). told_of es as' t) events_on answers_on ∙ told_more t nothing_told (take i events) (take i answers) event answer short
+  pub reported_next : (t : ℕ) → reported_of (take (suc i) events) (take (suc i) answers) t ≡ tells t (reported_of (take i events) (take i answers) t) event answer
+  reported_next t = ap₂ (λ (es : List Event) (as' : List Answer). reported_of es as' t) events_on answers_on ∙ reported_more t nothing_reported (take i events) (take i answers) event answer short
 
   pub committing_next : committing (take (suc i) events) (take (suc i) answers) ≡ committing (take i events) (take i answers) ++ started_by event answer
   committing_next = ap₂ committing events_on answers_on ∙ committing_more (take i events) (take i answers) event answer short

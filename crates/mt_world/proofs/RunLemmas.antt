@@ -37,17 +37,17 @@ use Rattle.mt_txn.specs.Shown.{Restarts, Shows, is_failed}
 use Rattle.mt_txn.specs.declared.kernel.Kernel.{Kernel}
 use Rattle.mt_world.specs.Acts.{Act, calls_in}
 use Rattle.mt_world.proofs.EventLemmas.{open_state}
-use Rattle.mt_world.proofs.OrderLemmas.{acknowledged_more, committing_more, told_more}
+use Rattle.mt_world.proofs.OrderLemmas.{acknowledged_more, committing_more, reported_more}
 use Rattle.mt_live.proofs.Events.{each_append}
 use Rattle.mt_live.proofs.Shapes.{each_map}
-use Rattle.mt_world.proofs.ToldLemmas.{AreDistinct, AreTold, forward_before, is_forward, named_commit, named_distinct, told_begun, told_booked, told_called, told_dropped, told_ended, told_gone, told_in_turn, told_still, told_undone}
+use Rattle.mt_world.proofs.ReportedLemmas.{AreDistinct, AreReported, forward_before, is_forward, named_commit, named_distinct, reported_begun, reported_booked, reported_called, reported_dropped, reported_ended, reported_gone, reported_in_turn, reported_still, reported_undone}
 use Rattle.mt_world.specs.Due.{FailsIn, IsBroken, IsDue, SamePhases, SetsPhases, StayBroken}
 use Rattle.mt_world.specs.Moves.{IsStill, Moves}
 use Rattle.mt_world.specs.Moves.IsStill.{is_refused, call_waits, step_went, step_waits, step_again, step_full, commit_begun, abort_begun, abort_went, abort_waits, abort_again, abort_full, force_went, force_idle, flushed, rotated}
 use Rattle.mt_world.specs.Moves.Moves.{stays, begins, calls, ends, drops, undoes, aborts, books}
 use Rattle.mt_world.specs.Schedules.{HasMade, HasRun, Makes}
 use Rattle.mt_world.specs.Schedules.Makes.{starts, goes_on}
-use Rattle.mt_world.specs.Told.{Told, acknowledged, commit_of, commit_order, committing, named, nothing_told, started_by, tells, told_of}
+use Rattle.mt_world.specs.Reported.{Reported, acknowledged, commit_of, commit_order, committing, named, nothing_reported, started_by, tells, reported_of}
 use Rattle.mt_world.specs.declared.events.Answer.{Answer}
 use Rattle.mt_world.specs.declared.events.Answer.TheVariants.{Refused}
 use Rattle.mt_world.specs.declared.events.Event.{Event}
@@ -131,79 +131,79 @@ module _ {D : Type 0} {g : Ghosts D} (seen : D → List ℕ) (may_leave : D → 
         ap (run first) (calls_joined acts more) ∙ run-append first (calls_in acts) (calls_in more) ∙ ap (λ (b : Base). run b (calls_in more)) was.1 ∙ now.1,
       )
 
-  -- ---- what is told
+  -- ---- what is reported
 
   abbrev Phase : Kernel D g → ℕ → Option TxnState
   Phase k t = state_in k.core.live.members t
 
-  module _ (s : State) (k n : Kernel D g) (told : ℕ → Told) (names : List ℕ) where
+  module _ (s : State) (k n : Kernel D g) (outcome : ℕ → Reported) (names : List ℕ) where
     abbrev TellsOn : State → Event → Answer → Type 0
-    TellsOn z event answer = AreTold z (Phase n) (λ t. tells t (told t) event answer) (names ++ named answer)
+    TellsOn z event answer = AreReported z (Phase n) (λ t. tells t (outcome t) event answer) (names ++ named answer)
 
-    no_names : (z : State) (phase : ℕ → Option TxnState) (x : ℕ → Told) → AreTold z phase x names → AreTold z phase x (names ++ [])
-    no_names z phase x are = subst (AreTold z phase x) (sym (append-nil names)) are
+    no_names : (z : State) (phase : ℕ → Option TxnState) (x : ℕ → Reported) → AreReported z phase x names → AreReported z phase x (names ++ [])
+    no_names z phase x are = subst (AreReported z phase x) (sym (append-nil names)) are
 
-    same_told : SamePhases k n → AreTold s (Phase k) told names → AreTold s (Phase n) told (names ++ [])
-    same_told same are = no_names s (Phase n) told (told_still s (Phase k) (Phase n) told names (λ t forward. ap is_forward (sym (same.0 t)) ∙ forward) are)
+    same_reported : SamePhases k n → AreReported s (Phase k) outcome names → AreReported s (Phase n) outcome (names ++ [])
+    same_reported same are = no_names s (Phase n) outcome (reported_still s (Phase k) (Phase n) outcome names (λ t forward. ap is_forward (sym (same.0 t)) ∙ forward) are)
 
-    forced_told : SameUncommitted k.core n.core → AreTold s (Phase k) told names → AreTold s (Phase n) told (names ++ [])
-    forced_told same are = no_names s (Phase n) told (told_still s (Phase k) (Phase n) told names (λ t. forward_before (Phase k t) (Phase n t) (same t)) are)
+    forced_reported : SameUncommitted k.core n.core → AreReported s (Phase k) outcome names → AreReported s (Phase n) outcome (names ++ [])
+    forced_reported same are = no_names s (Phase n) outcome (reported_still s (Phase k) (Phase n) outcome names (λ t. forward_before (Phase k t) (Phase n t) (same t)) are)
 
-    set_told : (t : ℕ) (state : TxnState) → (is_forward (Some state) ≡ true → is_forward (Phase k t) ≡ true) → SetsState k.core n.core t (Some state) → AreTold s (Phase k) told names → AreTold s (Phase n) told (names ++ [])
-    set_told t state was sets are = no_names s (Phase n) told (told_still s (Phase k) (Phase n) told names less are)
+    set_reported : (t : ℕ) (state : TxnState) → (is_forward (Some state) ≡ true → is_forward (Phase k t) ≡ true) → SetsState k.core n.core t (Some state) → AreReported s (Phase k) outcome names → AreReported s (Phase n) outcome (names ++ [])
+    set_reported t state was sets are = no_names s (Phase n) outcome (reported_still s (Phase k) (Phase n) outcome names less are)
       where
         less : (u : ℕ) → is_forward (Phase n u) ≡ true → is_forward (Phase k u) ≡ true
         less u forward = ⊎_elim
             (λ (own : u ≡ t). ap (λ (v : ℕ). is_forward (Phase k v)) own ∙ was (ap is_forward (sym (sets u ∙ ap (put (Phase k) t (Some state)) own ∙ put_own (Phase k) t (Some state))) ∙ forward))
             (λ (other : u ≢ t). ap is_forward (sym (sets u ∙ put_other (Phase k) t (Some state) u other)) ∙ forward) (cases_eq u t)
 
-    refused_told : (event : Event) (why : Refusal) → SetsPhases k event (Refused why) n → AreTold s (Phase k) told names → TellsOn s event (Refused why)
-    refused_told (Begin session) why same are = same_told same are
-    refused_told (CallOf t op) why same are = same_told same are
-    refused_told (Step t) why same are = same_told same are
-    refused_told (Commit t) why same are = same_told same are
-    refused_told (AbortBegin t) why same are = same_told same are
-    refused_told (AbortStep t) why same are = same_told same are
-    refused_told Force why same are = same_told same are
-    refused_told Flush why same are = same_told same are
-    refused_told Rotate why same are = same_told same are
+    refused_reported : (event : Event) (why : Refusal) → SetsPhases k event (Refused why) n → AreReported s (Phase k) outcome names → TellsOn s event (Refused why)
+    refused_reported (Begin session) why same are = same_reported same are
+    refused_reported (CallOf t op) why same are = same_reported same are
+    refused_reported (Step t) why same are = same_reported same are
+    refused_reported (Commit t) why same are = same_reported same are
+    refused_reported (AbortBegin t) why same are = same_reported same are
+    refused_reported (AbortStep t) why same are = same_reported same are
+    refused_reported Force why same are = same_reported same are
+    refused_reported Flush why same are = same_reported same are
+    refused_reported Rotate why same are = same_reported same are
 
-    still_tells : (event : Event) (answer : Answer) → IsStill event answer → IsDue seen may_leave faults k event answer n → SetsPhases k event answer n → AreTold s (Phase k) told names → TellsOn s event answer
-    still_tells _ _ (is_refused event why) due same are = refused_told event why same are
-    still_tells _ _ (call_waits t op holder) due same are = same_told same are
-    still_tells _ _ (step_went t) due same are = same_told same are
-    still_tells _ _ (step_waits t other) due same are = same_told same are
-    still_tells _ _ (step_again t) due same are = same_told same are
-    still_tells _ _ (step_full t) due same are = same_told same are
+    still_tells : (event : Event) (answer : Answer) → IsStill event answer → IsDue seen may_leave faults k event answer n → SetsPhases k event answer n → AreReported s (Phase k) outcome names → TellsOn s event answer
+    still_tells _ _ (is_refused event why) due same are = refused_reported event why same are
+    still_tells _ _ (call_waits t op holder) due same are = same_reported same are
+    still_tells _ _ (step_went t) due same are = same_reported same are
+    still_tells _ _ (step_waits t other) due same are = same_reported same are
+    still_tells _ _ (step_again t) due same are = same_reported same are
+    still_tells _ _ (step_full t) due same are = same_reported same are
     still_tells _ _ (commit_begun t place) due sets are =
-        set_told t IsCommitting (λ forward. ap is_forward (open_state (Phase k t) (not_refused (is_failed k) (is_open (Phase k t)) (busy_cause k.core t) due.0))) sets.0 are
-    still_tells _ _ (abort_begun t) due sets are = set_told t IsAborting (λ forward. absurd cc) sets.0 are
-    still_tells _ _ (abort_went t) due same are = same_told same are
-    still_tells _ _ (abort_waits t other) due same are = same_told same are
-    still_tells _ _ (abort_again t) due same are = same_told same are
-    still_tells _ _ (abort_full t) due same are = same_told same are
-    still_tells _ _ force_went due same are = forced_told same are
-    still_tells _ _ force_idle due same are = forced_told same are
-    still_tells _ _ (flushed told_so) due same are = same_told same are
-    still_tells _ _ rotated due same are = same_told same are
+        set_reported t IsCommitting (λ forward. ap is_forward (open_state (Phase k t) (not_refused (is_failed k) (is_open (Phase k t)) (busy_cause k.core t) due.0))) sets.0 are
+    still_tells _ _ (abort_begun t) due sets are = set_reported t IsAborting (λ forward. absurd cc) sets.0 are
+    still_tells _ _ (abort_went t) due same are = same_reported same are
+    still_tells _ _ (abort_waits t other) due same are = same_reported same are
+    still_tells _ _ (abort_again t) due same are = same_reported same are
+    still_tells _ _ (abort_full t) due same are = same_reported same are
+    still_tells _ _ force_went due same are = forced_reported same are
+    still_tells _ _ force_idle due same are = forced_reported same are
+    still_tells _ _ (flushed reported_so) due same are = same_reported same are
+    still_tells _ _ rotated due same are = same_reported same are
 
     undone_back : (t : ℕ) → abort_cause (is_failed k) k.core t ≡ None → SamePhases k n → is_forward (Phase n t) ≡ false
     undone_back t may same = ap is_forward (same.0 t) ∙ aborting_back (is_failed k) (Phase k t) may
 
-    moves_told : (z : State) (event : Event) (answer : Answer) (more : List Act) → Moves s event answer more z → IsDue seen may_leave faults k event answer n → SetsPhases k event answer n
+    moves_reported : (z : State) (event : Event) (answer : Answer) (more : List Act) → Moves s event answer more z → IsDue seen may_leave faults k event answer n → SetsPhases k event answer n
         → Shows seen may_leave first z n → IsKept first s → All (λ (c : CommitUnderWay). Phase k c.txn ≡ Some IsCommitting) k.core.commits.items → AllPairs (λ (a b : CommitUnderWay). a.txn ≢ b.txn) k.core.commits.items
-        → AreTold s (Phase k) told names → TellsOn z event answer
-    moves_told _ _ _ _ (stays event answer is) due phases shows kept each apart are = still_tells event answer is due phases are
-    moves_told z _ _ _ (begins session) due phases shows kept each apart are = no_names (begun s session) (Phase n) _ (told_begun first s session (Phase k) (Phase n) told names kept phases.0 are)
-    moves_told z _ _ _ (calls t op) due phases shows kept each apart are = no_names (called s t op) (Phase n) _ (told_called s t op (Phase k) (Phase n) told names phases.0 are)
-    moves_told z _ _ _ (ends t op runs) due phases shows kept each apart are = no_names (ended s t op) (Phase n) _ (told_ended first s t op (Phase k) (Phase n) told names kept runs phases.0 are)
-    moves_told z _ _ _ (drops t op ps runs given) due phases shows kept each apart are =
-        no_names (dropped s t ps) (Phase n) told (told_dropped s t ps (Phase k) (Phase n) told names (undone_back t due.may phases) (λ u other. phases.0 u) are)
-    moves_told z _ _ _ (undoes t last inverse ps idle effect inverts given) due phases shows kept each apart are =
-        no_names (undone s t inverse ps) (Phase n) told (told_undone s t inverse ps (Phase k) (Phase n) told names (undone_back t due.may phases) (λ u other. phases.0 u) are)
-    moves_told z _ _ _ (aborts t nothing) due phases shows kept each apart are = no_names (gone s t) (Phase n) told (told_gone s t (Phase k) (Phase n) told names (ap is_forward phases.0) phases.1 are)
-    moves_told z _ _ _ (books ts) due phases shows kept each apart are =
-        told_booked first s ts.items (Phase k) (Phase n) told names kept
+        → AreReported s (Phase k) outcome names → TellsOn z event answer
+    moves_reported _ _ _ _ (stays event answer is) due phases shows kept each apart are = still_tells event answer is due phases are
+    moves_reported z _ _ _ (begins session) due phases shows kept each apart are = no_names (begun s session) (Phase n) _ (reported_begun first s session (Phase k) (Phase n) outcome names kept phases.0 are)
+    moves_reported z _ _ _ (calls t op) due phases shows kept each apart are = no_names (called s t op) (Phase n) _ (reported_called s t op (Phase k) (Phase n) outcome names phases.0 are)
+    moves_reported z _ _ _ (ends t op runs) due phases shows kept each apart are = no_names (ended s t op) (Phase n) _ (reported_ended first s t op (Phase k) (Phase n) outcome names kept runs phases.0 are)
+    moves_reported z _ _ _ (drops t op ps runs given) due phases shows kept each apart are =
+        no_names (dropped s t ps) (Phase n) outcome (reported_dropped s t ps (Phase k) (Phase n) outcome names (undone_back t due.may phases) (λ u other. phases.0 u) are)
+    moves_reported z _ _ _ (undoes t last inverse ps idle effect inverts given) due phases shows kept each apart are =
+        no_names (undone s t inverse ps) (Phase n) outcome (reported_undone s t inverse ps (Phase k) (Phase n) outcome names (undone_back t due.may phases) (λ u other. phases.0 u) are)
+    moves_reported z _ _ _ (aborts t nothing) due phases shows kept each apart are = no_names (gone s t) (Phase n) outcome (reported_gone s t (Phase k) (Phase n) outcome names (ap is_forward phases.0) phases.1 are)
+    moves_reported z _ _ _ (books ts) due phases shows kept each apart are =
+        reported_booked first s ts.items (Phase k) (Phase n) outcome names kept
         (subst AreDistinct (sym due.2) (named_distinct (durable_count k.core.commits.items due.0) k.core.commits.items apart))
         (subst (Each (λ t. Phase k t ≡ Some IsCommitting)) (sym due.2) (named_commit (Phase k) (durable_count k.core.commits.items due.0) k.core.commits.items each))
         phases (λ u dead. none_back (Phase n u) (sym (lives_of seen may_leave n.relations n.counters n.core first (booked_each s ts.items) shows u) ∙ dead)) are
@@ -243,7 +243,7 @@ module _ {D : Type 0} {g : Ghosts D} (seen : D → List ℕ) (may_leave : D → 
     still_queues _ _ (abort_full t) due same = same_queue same.1
     still_queues _ _ force_went due same = same_queue due.1
     still_queues _ _ force_idle due same = same_queue due.1
-    still_queues _ _ (flushed told_so) due same = same_queue same.1
+    still_queues _ _ (flushed reported_so) due same = same_queue same.1
     still_queues _ _ rotated due same = same_queue same.1
 
     moves_queue : (z : State) (event : Event) (answer : Answer) (more : List Act) → Moves s event answer more z → IsDue seen may_leave faults k event answer n → SetsPhases k event answer n → Queues event answer
@@ -267,22 +267,22 @@ module _ {D : Type 0} {g : Ghosts D} (seen : D → List ℕ) (may_leave : D → 
       let same = makes_same events answers acts s k before in
       length-append events (event ∷ []) ∙ ap (λ (l : ℕ). l + 1) same ∙ sym (length-append answers (answer ∷ []))
 
-  makes_told : (events : List Event) (answers : List Answer) (acts : List Act) (s : State) (n : Kernel D g) → Makes seen may_leave faults first events answers acts s n
-      → ∥ AreTold s (Phase n) (λ t. told_of events answers t) (acknowledged answers) ∥₁
-  makes_told _ _ _ _ n (starts k shows) = ∣ record {
+  makes_reported : (events : List Event) (answers : List Answer) (acts : List Act) (s : State) (n : Kernel D g) → Makes seen may_leave faults first events answers acts s n
+      → ∥ AreReported s (Phase n) (λ t. reported_of events answers t) (acknowledged answers) ∥₁
+  makes_reported _ _ _ _ n (starts k shows) = ∣ record {
     each = λ t forward. absurd (let back : is_forward (Phase k t) ≡ false = none_back (Phase k t) (sym (lives_of seen may_leave k.relations k.counters k.core first (start first) shows t)) in let wrong : true ≡ false = sym forward ∙ back in cc);
     book = refl;
     past = tt;
   } ∣₁
-  makes_told _ _ _ z n (goes_on events answers acts more s _ k _ event answer before made) =
+  makes_reported _ _ _ z n (goes_on events answers acts more s _ k _ event answer before made) =
       let shows = makes_shows events answers acts s k before in
-      ∥∥₁_elim (makes_told events answers acts s k before) (hlevel props) (λ are.
+      ∥∥₁_elim (makes_reported events answers acts s k before) (hlevel props) (λ are.
       ∥∥₁_elim (kept_of seen may_leave k.relations k.counters k.core first s shows) (hlevel props) (λ kept.
       ∥∥₁_map shows (λ (origin, base, is, x).
       let queued = x.consistent.fit.queued in
-      subst (AreTold z (Phase n) (λ t. told_of (events ++ event ∷ []) (answers ++ answer ∷ []) t)) (sym (acknowledged_more answers answer))
-      (subst (λ (told : ℕ → Told). AreTold z (Phase n) told (acknowledged answers ++ named answer)) (λ i t. sym (told_more t nothing_told events answers event answer (makes_same events answers acts s k before)) i)
-      (moves_told s k n (λ t. told_of events answers t) (acknowledged answers) z event answer more made.moves made.due made.phases made.shows kept queued.each queued.apart are)))))
+      subst (AreReported z (Phase n) (λ t. reported_of (events ++ event ∷ []) (answers ++ answer ∷ []) t)) (sym (acknowledged_more answers answer))
+      (subst (λ (outcome : ℕ → Reported). AreReported z (Phase n) outcome (acknowledged answers ++ named answer)) (λ i t. sym (reported_more t nothing_reported events answers event answer (makes_same events answers acts s k before)) i)
+      (moves_reported s k n (λ t. reported_of events answers t) (acknowledged answers) z event answer more made.moves made.due made.phases made.shows kept queued.each queued.apart are)))))
 
   -- the acknowledged ones, and those under way behind them, are all that have begun
   makes_queue : (events : List Event) (answers : List Answer) (acts : List Act) (s : State) (n : Kernel D g) → Makes seen may_leave faults first events answers acts s n
@@ -298,28 +298,28 @@ module _ {D : Type 0} {g : Ghosts D} (seen : D → List ℕ) (may_leave : D → 
       ∙ ap (λ (ts : List ℕ). ts ++ started_by event answer) was
       ∙ sym (committing_more events answers event answer (makes_same events answers acts s k before)))
 
-  -- each with what its session was told
-  order_of : (events : List Event) (answers : List Answer) (s : State) (n : Kernel D g) → AreTold s (Phase n) (λ t. told_of events answers t) (acknowledged answers) → Shows seen may_leave first s n
+  -- each with what its session was reported
+  order_of : (events : List Event) (answers : List Answer) (s : State) (n : Kernel D g) → AreReported s (Phase n) (λ t. reported_of events answers t) (acknowledged answers) → Shows seen may_leave first s n
       → acknowledged answers ++ txns_of n.core.commits.items ≡ committing events answers → ∥ all_commits n.core ≡ commit_order events answers ∥₁
   order_of events answers s n are shows queue = ∥∥₁_map shows (λ (origin, base, is, x).
-      let told : ℕ → Told = λ t. told_of events answers t in
+      let outcome : ℕ → Reported = λ t. reported_of events answers t in
       let ms = n.core.live.members in
       let cs = n.core.commits.items in
       let queued = x.consistent.fit.queued in
       let whole : take (length cs) cs ≡ cs = take_all (length cs) cs (omega arith) in
       let distinct : AreDistinct (txns_of cs) = subst (λ (l : List CommitUnderWay). AreDistinct (txns_of l)) whole (named_distinct (length cs) cs queued.apart) in
       let commit : Each (λ t. Phase n t ≡ Some IsCommitting) (txns_of cs) = subst (λ (l : List CommitUnderWay). Each (λ t. Phase n t ≡ Some IsCommitting) (txns_of l)) whole (named_commit (Phase n) (length cs) cs queued.each) in
-      let known : (t : ℕ) → Phase n t ≡ Some IsCommitting → (session_in ms t ≡ (told t).session) × (calls_of_entries (kept (only t) n.core.live.standing) ≡ (told t).calls) =
-      (λ t commits. let is_told = are.each t (ap is_forward commits) in (
-        session_known (member_of ms t) (told t).session (sym (ap (λ (y : State). y.sessions t) x.state) ∙ is_told.session),
-        sym (ap (λ (y : State). calls_of_entries (kept (only t) y.standing)) x.state) ∙ is_told.calls,
+      let known : (t : ℕ) → Phase n t ≡ Some IsCommitting → (session_in ms t ≡ (outcome t).session) × (calls_of_entries (kept (only t) n.core.live.standing) ≡ (outcome t).calls) =
+      (λ t commits. let is_reported = are.each t (ap is_forward commits) in (
+        session_known (member_of ms t) (outcome t).session (sym (ap (λ (y : State). y.sessions t) x.state) ∙ is_reported.session),
+        sym (ap (λ (y : State). calls_of_entries (kept (only t) y.standing)) x.state) ∙ is_reported.calls,
       )) in
-      let turn : in_turn (session_in ms) (txns_of cs) n.core.live.standing ≡ map (λ t. commit_of (told t)) (txns_of cs) =
-      told_in_turn (session_in ms) told (txns_of cs) n.core.live.standing distinct (each_map _ _ known (txns_of cs) commit) in
-      let book : n.core.book.items ≡ map (λ t. commit_of (told t)) (acknowledged answers) = sym (ap (λ (y : State). y.book) x.state) ∙ are.book in
+      let turn : in_turn (session_in ms) (txns_of cs) n.core.live.standing ≡ map (λ t. commit_of (outcome t)) (txns_of cs) =
+      reported_in_turn (session_in ms) outcome (txns_of cs) n.core.live.standing distinct (each_map _ _ known (txns_of cs) commit) in
+      let book : n.core.book.items ≡ map (λ t. commit_of (outcome t)) (acknowledged answers) = sym (ap (λ (y : State). y.book) x.state) ∙ are.book in
       ap₂ (λ (xs ys : List Committed). xs ++ ys) book turn
-      ∙ sym (map-append (λ t. commit_of (told t)) (acknowledged answers) (txns_of cs))
-      ∙ ap (λ (ts : List ℕ). map (λ t. commit_of (told t)) ts) queue)
+      ∙ sym (map-append (λ t. commit_of (outcome t)) (acknowledged answers) (txns_of cs))
+      ∙ ap (λ (ts : List ℕ). map (λ t. commit_of (outcome t)) ts) queue)
 
   -- ---- once the device has failed
 
@@ -352,9 +352,9 @@ module _ {D : Type 0} {g : Ghosts D} (seen : D → List ℕ) (may_leave : D → 
 
   pub has_run : (events : List Event) (answers : List Answer) (n : Kernel D g) → Ran events answers n → Restarts seen may_leave first n → ∥ HasRun seen may_leave faults first events answers n ∥₁
   has_run events answers n ran restarts = ∥∥₁_elim ran (hlevel props) (λ (acts, s, made, shows).
-      ∥∥₁_elim (makes_told events answers acts s n made) (hlevel props) (λ told.
+      ∥∥₁_elim (makes_reported events answers acts s n made) (hlevel props) (λ outcome.
       ∥∥₁_elim (makes_queue events answers acts s n made) (hlevel props) (λ queue.
-      ∥∥₁_elim (order_of events answers s n told shows queue) (hlevel props) (λ order.
+      ∥∥₁_elim (order_of events answers s n outcome shows queue) (hlevel props) (λ order.
       ∥∥₁_map (kept_of seen may_leave n.relations n.counters n.core first s shows) (λ kept.
       let acted = makes_acted events answers acts s n made in record {
         acts = acts;
@@ -363,7 +363,7 @@ module _ {D : Type 0} {g : Ghosts D} (seen : D → List ℕ) (may_leave : D → 
         shows = shows;
         acted = acted.0;
         held = acted.1;
-        told = told.book;
+        outcome = outcome.book;
         order = order;
         queue = queue;
         legal = kept.legal;

@@ -74,7 +74,7 @@ module _ {D : Type 0} (g : Ghosts D) (seen : D → List ℕ) (may_leave : D → 
           ended = record {
             done = events;
             later = [];
-            told = answers;
+            outcome = answers;
             kernel = k;
             why = by.why;
             events_are = ap (λ (e : Event). events ++ e ∷ []) by.rotation;
@@ -96,12 +96,12 @@ module _ {D : Type 0} (g : Ghosts D) (seen : D → List ℕ) (may_leave : D → 
           ended = record {
             done = e.done;
             later = e.later ++ event ∷ [];
-            told = e.told;
+            outcome = e.outcome;
             kernel = e.kernel;
             why = e.why;
             events_are = ap (λ (es : List Event). es ++ event ∷ []) e.events_are ∙ append_assoc e.done (Rotate ∷ e.later) (event ∷ []);
-            answers_are = ap (λ (as' : List Answer). as' ++ answer ∷ []) e.answers_are ∙ append_assoc e.told (Refused e.why ∷ map c e.later) (answer ∷ [])
-                ∙ ap (λ (a : Answer). e.told ++ Refused e.why ∷ (map c e.later ++ a ∷ [])) is ∙ ap (λ (as' : List Answer). e.told ++ Refused e.why ∷ as') (sym (map-append c e.later (event ∷ [])));
+            answers_are = ap (λ (as' : List Answer). as' ++ answer ∷ []) e.answers_are ∙ append_assoc e.outcome (Refused e.why ∷ map c e.later) (answer ∷ [])
+                ∙ ap (λ (a : Answer). e.outcome ++ Refused e.why ∷ (map c e.later ++ a ∷ [])) is ∙ ap (λ (as' : List Answer). e.outcome ++ Refused e.why ∷ as') (sym (map-append c e.later (event ∷ [])));
             ran = e.ran;
             schema = e.schema;
             left = e.left;

@@ -28,7 +28,7 @@ use Rattle.mt_world.specs.Schedules.{HasEnded, HasRun, HasRunTo, IsOfSchema}
 use Rattle.mt_world.specs.Standings.{device_at}
 use Rattle.mt_world.specs.Stopped.{BeginsWithin, FindsFirst, IsCrashRun, IsStoppedRun}
 use Rattle.mt_world.specs.Stopping.{StopsAt, below}
-use Rattle.mt_world.specs.Told.{Told, acknowledged, commit_of, commit_order, committing, named, nothing_told, started_by, tells, told_from, told_of}
+use Rattle.mt_world.specs.Reported.{Reported, acknowledged, commit_of, commit_order, committing, named, nothing_reported, started_by, tells, reported_from, reported_of}
 use Rattle.mt_world.specs.declared.crash.CrashRun.{CrashRun}
 use Rattle.mt_world.specs.declared.events.Answer.{Answer}
 use Rattle.mt_world.specs.declared.events.Answer.TheVariants.{Refused}
@@ -40,7 +40,7 @@ use Rattle.mt_world.specs.declared.stopping_device.StoppingDevice.{StoppingDevic
 
 -- ---- what a refused event tells
 
-refused_tells : (t : ℕ) (x : Told) (event : Event) (why : Refusal) → tells t x event (Refused why) ≡ x
+refused_tells : (t : ℕ) (x : Reported) (event : Event) (why : Refusal) → tells t x event (Refused why) ≡ x
 refused_tells t x (Begin session) why = refl
 refused_tells t x (Call u op) why = refl
 refused_tells t x (Step u) why = refl
@@ -65,9 +65,9 @@ refused_starts Rotate why = refl
 abbrev all_refused : List Event → List Answer
 all_refused events = map (λ (event : Event). Refused refusal.DeviceFailed) events
 
-told_behind : (t : ℕ) (x : Told) (later : List Event) → told_from t x later (all_refused later) ≡ x
-told_behind t x [] = refl
-told_behind t x (event ∷ later) = ap (λ (y : Told). told_from t y later (all_refused later)) (refused_tells t x event refusal.DeviceFailed) ∙ told_behind t x later
+reported_behind : (t : ℕ) (x : Reported) (later : List Event) → reported_from t x later (all_refused later) ≡ x
+reported_behind t x [] = refl
+reported_behind t x (event ∷ later) = ap (λ (y : Reported). reported_from t y later (all_refused later)) (refused_tells t x event refusal.DeviceFailed) ∙ reported_behind t x later
 
 committing_behind : (later : List Event) → committing later (all_refused later) ≡ []
 committing_behind [] = refl
@@ -79,58 +79,58 @@ acknowledged_behind (event ∷ later) = acknowledged_behind later
 
 -- ---- events, and more behind them
 
-told_both : (t : ℕ) (x : Told) (events more : List Event) (answers told : List Answer) → length events ≡ length answers → told_from t x (events ++ more) (answers ++ told) ≡ told_from t (told_from t x events answers) more told
-told_both t x [] more [] told same = refl
-told_both t x [] more (a ∷ answers) told same = absurd (omega arith)
-told_both t x (e ∷ events) more [] told same = absurd (omega arith)
-told_both t x (e ∷ events) more (a ∷ answers) told same = told_both t (tells t x e a) events more answers told (omega arith)
+reported_both : (t : ℕ) (x : Reported) (events more : List Event) (answers outcome : List Answer) → length events ≡ length answers → reported_from t x (events ++ more) (answers ++ outcome) ≡ reported_from t (reported_from t x events answers) more outcome
+reported_both t x [] more [] outcome same = refl
+reported_both t x [] more (a ∷ answers) outcome same = absurd (omega arith)
+reported_both t x (e ∷ events) more [] outcome same = absurd (omega arith)
+reported_both t x (e ∷ events) more (a ∷ answers) outcome same = reported_both t (tells t x e a) events more answers outcome (omega arith)
 
-committing_both : (events more : List Event) (answers told : List Answer) → length events ≡ length answers → committing (events ++ more) (answers ++ told) ≡ committing events answers ++ committing more told
-committing_both [] more [] told same = refl
-committing_both [] more (a ∷ answers) told same = absurd (omega arith)
-committing_both (e ∷ events) more [] told same = absurd (omega arith)
-committing_both (e ∷ events) more (a ∷ answers) told same =
-    ap (λ (ts : List ℕ). started_by e a ++ ts) (committing_both events more answers told (omega arith)) ∙ sym (append_assoc (started_by e a) (committing events answers) (committing more told))
+committing_both : (events more : List Event) (answers outcome : List Answer) → length events ≡ length answers → committing (events ++ more) (answers ++ outcome) ≡ committing events answers ++ committing more outcome
+committing_both [] more [] outcome same = refl
+committing_both [] more (a ∷ answers) outcome same = absurd (omega arith)
+committing_both (e ∷ events) more [] outcome same = absurd (omega arith)
+committing_both (e ∷ events) more (a ∷ answers) outcome same =
+    ap (λ (ts : List ℕ). started_by e a ++ ts) (committing_both events more answers outcome (omega arith)) ∙ sym (append_assoc (started_by e a) (committing events answers) (committing more outcome))
 
-acknowledged_both : (answers told : List Answer) → acknowledged (answers ++ told) ≡ acknowledged answers ++ acknowledged told
-acknowledged_both [] told = refl
-acknowledged_both (a ∷ answers) told = ap (λ (ts : List ℕ). named a ++ ts) (acknowledged_both answers told) ∙ sym (append_assoc (named a) (acknowledged answers) (acknowledged told))
+acknowledged_both : (answers outcome : List Answer) → acknowledged (answers ++ outcome) ≡ acknowledged answers ++ acknowledged outcome
+acknowledged_both [] outcome = refl
+acknowledged_both (a ∷ answers) outcome = ap (λ (ts : List ℕ). named a ++ ts) (acknowledged_both answers outcome) ∙ sym (append_assoc (named a) (acknowledged answers) (acknowledged outcome))
 
 module _ {D : Type 0} {g : Ghosts D} (seen : D → List ℕ) (may_leave : D → List ℕ → Type 0) (moment : D → ℕ) (left_since : D → ℕ → List ℕ → Type 0) (faults : D → ℕ) (relations counters : ℕ) (first : Base) (events : List Event) (answers : List Answer) where
   -- ---- where a rotation has ended the kernel
 
   module _ (device : D) (e : HasEnded g seen may_leave moment left_since faults relations counters first events answers device) where
-    done_same : length e.done ≡ length e.told
-    done_same = makes_same seen may_leave faults first e.done e.told e.ran.acts e.ran.state e.kernel e.ran.made
+    done_same : length e.done ≡ length e.outcome
+    done_same = makes_same seen may_leave faults first e.done e.outcome e.ran.acts e.ran.state e.kernel e.ran.made
 
     ended_same : length events ≡ length answers
     ended_same =
         let one = ap (λ (es : List Event). length es) e.events_are in let two = ap (λ (as' : List Answer). length as') e.answers_are in
-        let front = length-append e.done (Rotate ∷ e.later) in let back = length-append e.told (Refused e.why ∷ all_refused e.later) in
+        let front = length-append e.done (Rotate ∷ e.later) in let back = length-append e.outcome (Refused e.why ∷ all_refused e.later) in
         let size = length-map e.later (λ (event : Event). Refused refusal.DeviceFailed) in let same = done_same in
         omega (arith, one, two, front, back, size, same)
 
-    ended_told : (t : ℕ) → told_of events answers t ≡ told_of e.done e.told t
-    ended_told t =
-        ap₂ (λ (es : List Event) (as' : List Answer). told_of es as' t) e.events_are e.answers_are
-        ∙ told_both t nothing_told e.done (Rotate ∷ e.later) e.told (Refused e.why ∷ all_refused e.later) done_same
-        ∙ told_behind t (told_of e.done e.told t) e.later
+    ended_reported : (t : ℕ) → reported_of events answers t ≡ reported_of e.done e.outcome t
+    ended_reported t =
+        ap₂ (λ (es : List Event) (as' : List Answer). reported_of es as' t) e.events_are e.answers_are
+        ∙ reported_both t nothing_reported e.done (Rotate ∷ e.later) e.outcome (Refused e.why ∷ all_refused e.later) done_same
+        ∙ reported_behind t (reported_of e.done e.outcome t) e.later
 
-    ended_committing : committing events answers ≡ committing e.done e.told
+    ended_committing : committing events answers ≡ committing e.done e.outcome
     ended_committing =
         ap₂ committing e.events_are e.answers_are
-        ∙ committing_both e.done (Rotate ∷ e.later) e.told (Refused e.why ∷ all_refused e.later) done_same
-        ∙ ap (λ (ts : List ℕ). committing e.done e.told ++ ts) (committing_behind e.later) ∙ append-nil (committing e.done e.told)
+        ∙ committing_both e.done (Rotate ∷ e.later) e.outcome (Refused e.why ∷ all_refused e.later) done_same
+        ∙ ap (λ (ts : List ℕ). committing e.done e.outcome ++ ts) (committing_behind e.later) ∙ append-nil (committing e.done e.outcome)
 
-    ended_order : commit_order events answers ≡ commit_order e.done e.told
+    ended_order : commit_order events answers ≡ commit_order e.done e.outcome
     ended_order =
-        ap (λ (f : ℕ → Committed). map f (committing events answers)) (λ i t. commit_of (ended_told t i))
-        ∙ ap (λ (ts : List ℕ). map (λ t. commit_of (told_of e.done e.told t)) ts) ended_committing
+        ap (λ (f : ℕ → Committed). map f (committing events answers)) (λ i t. commit_of (ended_reported t i))
+        ∙ ap (λ (ts : List ℕ). map (λ t. commit_of (reported_of e.done e.outcome t)) ts) ended_committing
 
-    ended_acknowledged : acknowledged answers ≡ acknowledged e.told
+    ended_acknowledged : acknowledged answers ≡ acknowledged e.outcome
     ended_acknowledged =
-        ap acknowledged e.answers_are ∙ acknowledged_both e.told (Refused e.why ∷ all_refused e.later)
-        ∙ ap (λ (ts : List ℕ). acknowledged e.told ++ ts) (acknowledged_behind e.later) ∙ append-nil (acknowledged e.told)
+        ap acknowledged e.answers_are ∙ acknowledged_both e.outcome (Refused e.why ∷ all_refused e.later)
+        ∙ ap (λ (ts : List ℕ). acknowledged e.outcome ++ ts) (acknowledged_behind e.later) ∙ append-nil (acknowledged e.outcome)
 
   pub same_length : (standing : Standing D g) → ∥ HasRunTo seen may_leave moment left_since faults relations counters first events answers standing ∥₁ → length answers ≡ length events
   same_length (Stands n) ran = ∥∥₁_elim ran (hlevel props) (λ r. sym (makes_same seen may_leave faults first events answers r.acts r.state n r.made))
@@ -148,7 +148,7 @@ module _ {D : Type 0} {g : Ghosts D} (seen : D → List ℕ) (may_leave : D → 
     few =
         let all = ap (λ (ts : List ℕ). length ts) run.queue in
         let both = length-append (acknowledged answers) (txns_of k.core.commits.items) in
-        let size = length-map (committing events answers) (λ t. commit_of (told_of events answers t)) in
+        let size = length-map (committing events answers) (λ t. commit_of (reported_of events answers t)) in
         omega (arith, all, both, size)
 
     at_base : (n : ℕ) (c : List ℕ) (b : Base) → b ≡ after (schema_base s) (take n (all_commits k.core)) → CanRestart k.relations k.counters c b → CanRestart (relations_in s) (length (counters_in s)) c (after (schema_base s) (take n (commit_order events answers)))
@@ -196,7 +196,7 @@ module _ {D : Type 0} {g : Ghosts D} (seen : D → List ℕ) (may_leave : D → 
       let e = f.until.ended in
       let acknowledged_are = ended_acknowledged seen may_leave moment left_since faults (relations_in s) (length (counters_in s)) (schema_base s) events answers gone e in
       let order_is = ended_order seen may_leave moment left_since faults (relations_in s) (length (counters_in s)) (schema_base s) events answers gone e in
-      ∥∥₁_map (finds_of seen may_leave moment left_since counts_now only_now faults s f.formatted e.done e.told e.kernel e.ran e.schema.0 e.schema.1 gone f.until.until c left)
+      ∥∥₁_map (finds_of seen may_leave moment left_since counts_now only_now faults s f.formatted e.done e.outcome e.kernel e.ran e.schema.0 e.schema.1 gone f.until.until c left)
       (λ x. subst (λ (X : Type 0). X) (λ i. FindsFirst s (length (sym acknowledged_are i)) (sym order_is i) c) x))
 
 -- ---- of a device in memory that was stopped

@@ -13,7 +13,7 @@ use Rattle.mt_txn.specs.Restarted.{FindsCommits}
 use Rattle.mt_txn.specs.Shown.{Restarts, Shows}
 use Rattle.mt_txn.specs.declared.kernel.Kernel.{Kernel}
 use Rattle.mt_world.specs.Schedules.{HasEnded, HasMade, HasRun}
-use Rattle.mt_world.specs.Told.{acknowledged}
+use Rattle.mt_world.specs.Reported.{acknowledged}
 use Rattle.mt_world.specs.declared.events.Answer.{Answer}
 use Rattle.mt_world.specs.declared.events.Event.{Event}
 use Rattle.mt_world.specs.declared.kernel_or_device.Standing.{Standing}
@@ -67,7 +67,7 @@ pub record FoundUntil {D : Type 0} {g : Ghosts D} (seen : D → List ℕ) (may_l
 pub record FoundUntilEnd {D : Type 0} (g : Ghosts D) (seen : D → List ℕ) (may_leave : D → List ℕ → Type 0) (moment : D → ℕ) (left_since : D → ℕ → List ℕ → Type 0) (faults : D → ℕ)
     (relations counters : ℕ) (since : D) (first : Base) (events : List Event) (answers : List Answer) (device : D) : Type 0 where
   pub ended : HasEnded g seen may_leave moment left_since faults relations counters first events answers device
-  pub until : FoundUntil seen may_leave moment left_since faults since first ended.done ended.told ended.kernel device
+  pub until : FoundUntil seen may_leave moment left_since faults since first ended.done ended.outcome ended.kernel device
 
 -- until what stands after all events
 abbrev pub FoundTo : {D : Type 0} {g : Ghosts D} (seen : D → List ℕ) (may_leave : D → List ℕ → Type 0) (moment : D → ℕ) (left_since : D → ℕ → List ℕ → Type 0) (faults : D → ℕ) → ℕ → ℕ → D → Base → List Event → List Answer → Standing D g → Type 0

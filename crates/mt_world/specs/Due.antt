@@ -13,7 +13,7 @@ use Rattle.mt_live.specs.declared.transactions.TxnState.TheVariants as state
 use Rattle.mt_log.specs.Words.{appended, durable}
 use Rattle.mt_op.specs.Begun.{AreImages}
 use Rattle.mt_pool.specs.Views.{Cleans, IsWaiting, pages}
-use Rattle.mt_pool.specs.declared.flushes.Flushed.{Flushed as FlushTold}
+use Rattle.mt_pool.specs.declared.flushes.Flushed.{Flushed as FlushOutcome}
 use Rattle.mt_pool.specs.declared.flushes.Flushed.TheVariants as flush
 use Rattle.mt_restart.specs.Rotated.{IsForceCause, early_cause}
 use Rattle.mt_txn.specs.Causes.{IsFailure, IsFault, abort_cause, begin_cause, call_cause, commit_cause, open_cause, step_cause}
@@ -22,7 +22,7 @@ use Rattle.mt_txn.specs.Shown.{is_failed}
 use Rattle.mt_txn.specs.Work.{IsAbortForOther, IsForOther, LowersAbort, LowersSteps}
 use Rattle.mt_txn.specs.declared.answers.AbortStepped.{AbortStepped}
 use Rattle.mt_txn.specs.declared.answers.AbortStepped.TheVariants as abort
-use Rattle.mt_txn.specs.declared.answers.Stepped.{Stepped as StepTold}
+use Rattle.mt_txn.specs.declared.answers.Stepped.{Stepped as StepOutcome}
 use Rattle.mt_txn.specs.declared.answers.Stepped.TheVariants as step
 use Rattle.mt_txn.specs.declared.kernel.Kernel.{Kernel}
 use Rattle.mt_world.specs.declared.events.Answer.{Answer}
@@ -38,21 +38,21 @@ IsCaused cause why = (why ≡ refusal.NoMemory) ⊎ (cause ≡ Some why)
 
 module _ {D : Type 0} {g : Ghosts D} where
   -- a step of an operation has fewer left after it if it went on; it waits for another's, or lacks a frame
-  pub record IsStepped (k : Kernel D g) (t : ℕ) (told : StepTold) (n : Kernel D g) : Type 0 where
+  pub record IsStepped (k : Kernel D g) (t : ℕ) (outcome : StepOutcome) (n : Kernel D g) : Type 0 where
     pub may : step_cause (is_failed k) k.core t ≡ None
-    pub work : LowersSteps (pages k.core.operations.store.pool) (Ok told) (steps_in k.core.running.items t) (steps_in n.core.running.items t)
-    pub other : IsForOther k.core.live.members t told
-    pub full : told ≡ step.Flush → WantsFrame k.core n.core
+    pub work : LowersSteps (pages k.core.operations.store.pool) (Ok outcome) (steps_in k.core.running.items t) (steps_in n.core.running.items t)
+    pub other : IsForOther k.core.live.members t outcome
+    pub full : outcome ≡ step.Flush → WantsFrame k.core n.core
 
   -- and so a step of an abort
-  pub record IsBacked (k : Kernel D g) (t : ℕ) (told : AbortStepped) (n : Kernel D g) : Type 0 where
+  pub record IsBacked (k : Kernel D g) (t : ℕ) (outcome : AbortStepped) (n : Kernel D g) : Type 0 where
     pub may : abort_cause (is_failed k) k.core t ≡ None
-    pub work : LowersAbort (pages k.core.operations.store.pool) (Ok told) (undo_steps k.core t) (undo_steps n.core t)
-    pub other : IsAbortForOther k.core.live.members t told
-    pub full : told ≡ abort.Flush → WantsFrame k.core n.core
+    pub work : LowersAbort (pages k.core.operations.store.pool) (Ok outcome) (undo_steps k.core t) (undo_steps n.core t)
+    pub other : IsAbortForOther k.core.live.members t outcome
+    pub full : outcome ≡ abort.Flush → WantsFrame k.core n.core
 
   -- a page was written, each page waits for the log, or there is none to be written
-  abbrev pub IsFlushed : Kernel D g → FlushTold → Kernel D g → Type 0
+  abbrev pub IsFlushed : Kernel D g → FlushOutcome → Kernel D g → Type 0
   IsFlushed k (flush.Page p) n = Cleans k.core.operations.store.pool n.core.operations.store.pool (length (durable k.core.operations.store.log)) p
   IsFlushed k flush.Force n = IsWaiting k.core.operations.store.pool (length (durable k.core.operations.store.log))
   IsFlushed k flush.Clean n = (f : ℕ) → get_or n.core.operations.store.pool.dirty.items f false ≡ false
@@ -73,7 +73,7 @@ module _ {D : Type 0} {g : Ghosts D} (seen : D → List ℕ) (may_leave : D → 
   IsDue k (Call t op) (Called called) n = (call_cause k.relations k.counters (is_failed k) k.core t op ≡ None) × IsAnsweredBy seen may_leave k t op (Ok called)
   IsDue k (Call t op) answer n = ⊥
   IsDue k (Step t) (Refused why) n = IsCaused (step_cause (is_failed k) k.core t) why ⊎ IsFault faults k.core n.core why
-  IsDue k (Step t) (Stepped told) n = IsStepped k t told n
+  IsDue k (Step t) (Stepped outcome) n = IsStepped k t outcome n
   IsDue k (Step t) answer n = ⊥
   IsDue k (Commit t) (Refused why) n = IsCaused (commit_cause (is_failed k) k.core t) why
   IsDue k (Commit t) (Committing place) n = (commit_cause (is_failed k) k.core t ≡ None) × (place ≡ length k.core.book.items + length k.core.commits.items + 1)
@@ -81,13 +81,13 @@ module _ {D : Type 0} {g : Ghosts D} (seen : D → List ℕ) (may_leave : D → 
   IsDue k (AbortBegin t) (Refused why) n = open_cause (is_failed k) k.core t ≡ Some why
   IsDue k (AbortBegin t) answer n = open_cause (is_failed k) k.core t ≡ None
   IsDue k (AbortStep t) (Refused why) n = IsCaused (abort_cause (is_failed k) k.core t) why ⊎ IsFault faults k.core n.core why
-  IsDue k (AbortStep t) (Backed told) n = IsBacked k t told n
+  IsDue k (AbortStep t) (Backed outcome) n = IsBacked k t outcome n
   IsDue k (AbortStep t) answer n = ⊥
   IsDue k Force (Refused why) n = (why ≡ refusal.NoMemory) ⊎ IsFailure faults (is_failed k) k.core n.core why
-  IsDue k Force (Forced told) n = IsForcedBy k.core.operations.store.log k.core.commits.items told n.core.operations.store.log n.core.commits.items
+  IsDue k Force (Forced outcome) n = IsForcedBy k.core.operations.store.log k.core.commits.items outcome n.core.operations.store.log n.core.commits.items
   IsDue k Force answer n = ⊥
   IsDue k Flush (Refused why) n = IsFailure faults (is_failed k) k.core n.core why
-  IsDue k Flush (Flushed told) n = IsFlushed k told n
+  IsDue k Flush (Flushed outcome) n = IsFlushed k outcome n
   IsDue k Flush answer n = ⊥
   IsDue k Rotate (Refused why) n = (early_cause k ≡ Some why) × (n ≡ k) ⊎ ((early_cause k ≡ None) × IsForceCause n why)
   IsDue k Rotate Rotated n = IsTurnedOver k n
@@ -122,7 +122,7 @@ module _ {D : Type 0} {g : Ghosts D} where
   SetsPhases k (Commit t) (Committing place) n = SetsState k.core n.core t (Some state.Committing) × IsQueued k t n
   SetsPhases k (AbortBegin t) Aborting n = SetsState k.core n.core t (Some state.Aborting) × SameCommits k.core n.core
   SetsPhases k (AbortStep t) (Backed abort.Ended) n = (state_in n.core.live.members t ≡ None) × SameStatesBut k.core n.core t × SameCommits k.core n.core
-  SetsPhases k Force (Forced told) n = SameUncommitted k.core n.core
+  SetsPhases k Force (Forced outcome) n = SameUncommitted k.core n.core
   SetsPhases k event answer n = SamePhases k n
 
 -- ---- once the device has failed

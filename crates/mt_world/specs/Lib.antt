@@ -1,7 +1,7 @@
 pub mod Acts
 pub mod Moves
 pub mod Due
-pub mod Told
+pub mod Reported
 pub mod Standings
 pub mod Schedules
 pub mod Crashes

@@ -11,7 +11,7 @@ use Rattle.mt_live.specs.Undoing.{last_effect}
 use Rattle.mt_model.specs.Model.{inverse_of, reply_of}
 use Rattle.mt_model.specs.declared.operations.Op.{Op}
 use Rattle.mt_model.specs.declared.pending_add.Pending.{Pending}
-use Rattle.mt_pool.specs.declared.flushes.Flushed.{Flushed as FlushTold}
+use Rattle.mt_pool.specs.declared.flushes.Flushed.{Flushed as FlushOutcome}
 use Rattle.mt_txn.specs.declared.answers.AbortStepped.TheVariants as abort
 use Rattle.mt_txn.specs.declared.answers.KernelForced.TheVariants as forced
 use Rattle.mt_txn.specs.declared.answers.Stepped.TheVariants as step
@@ -37,7 +37,7 @@ pub data IsStill : Event → Answer → Type 0 where
   abort_full : (t : ℕ) → IsStill (AbortStep t) (Backed abort.Flush)
   force_went : IsStill Force (Forced forced.More)
   force_idle : IsStill Force (Forced forced.Idle)
-  flushed : (told : FlushTold) → IsStill Flush (Flushed told)
+  flushed : (outcome : FlushOutcome) → IsStill Flush (Flushed outcome)
   rotated : IsStill Rotate Rotated
 
 -- An event with its answer leads from a state to another, with what ended in it: one operation at most.

@@ -16,7 +16,7 @@ use Rattle.mt_txn.specs.declared.kernel.Kernel.{Kernel}
 use Rattle.mt_world.specs.Acts.{Act, calls_in}
 use Rattle.mt_world.specs.Due.{FailsIn, IsDue, KeepsDevice, SetsPhases, StayBroken}
 use Rattle.mt_world.specs.Moves.{Moves}
-use Rattle.mt_world.specs.Told.{acknowledged, commit_of, commit_order, committing, told_of}
+use Rattle.mt_world.specs.Reported.{acknowledged, commit_of, commit_order, committing, reported_of}
 use Rattle.mt_world.specs.declared.events.Answer.{Answer}
 use Rattle.mt_world.specs.declared.events.Answer.TheVariants.{Refused}
 use Rattle.mt_world.specs.declared.events.Event.{Event}
@@ -69,7 +69,7 @@ module _ {D : Type 0} {g : Ghosts D} (seen : D → List ℕ) (may_leave : D → 
     pub shows : Shows seen may_leave first state n
     pub acted : IsActed first (calls_in acts)
     pub held : run first (calls_in acts) ≡ state.base
-    pub told : state.book ≡ map (λ t. commit_of (told_of events answers t)) (acknowledged answers)
+    pub outcome : state.book ≡ map (λ t. commit_of (reported_of events answers t)) (acknowledged answers)
     -- in the order of their records
     pub order : all_commits n.core ≡ commit_order events answers
     pub queue : acknowledged answers ++ txns_of n.core.commits.items ≡ committing events answers
@@ -84,12 +84,12 @@ pub record HasEnded {D : Type 0} (g : Ghosts D) (seen : D → List ℕ) (may_lea
     (relations counters : ℕ) (first : Base) (events : List Event) (answers : List Answer) (device : D) : Type 0 where
   pub done : List Event
   pub later : List Event
-  pub told : List Answer
+  pub outcome : List Answer
   pub kernel : Kernel D g
   pub why : Refusal
   pub events_are : events ≡ done ++ Rotate ∷ later
-  pub answers_are : answers ≡ told ++ Refused why ∷ map (λ (event : Event). Refused refusal.DeviceFailed) later
-  pub ran : HasRun seen may_leave faults first done told kernel
+  pub answers_are : answers ≡ outcome ++ Refused why ∷ map (λ (event : Event). Refused refusal.DeviceFailed) later
+  pub ran : HasRun seen may_leave faults first done outcome kernel
   pub schema : (kernel.relations ≡ relations) × (kernel.counters ≡ counters)
   pub left : IsLeft seen may_leave moment left_since faults kernel (IsEnded why device)
   pub stands : StandsForBook may_leave first kernel why device

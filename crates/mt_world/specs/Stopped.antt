@@ -15,7 +15,7 @@ use Rattle.mt_world.specs.Crashes.{HasBegun, device_under}
 use Rattle.mt_world.specs.Schedules.{HasRunTo}
 use Rattle.mt_world.specs.Standings.{device_at}
 use Rattle.mt_world.specs.Stopping.{StopsAt, below, taken_by}
-use Rattle.mt_world.specs.Told.{acknowledged, commit_order}
+use Rattle.mt_world.specs.Reported.{acknowledged, commit_order}
 use Rattle.mt_world.specs.declared.crash.CrashRun.{CrashRun}
 use Rattle.mt_world.specs.declared.events.Answer.{Answer}
 use Rattle.mt_world.specs.declared.events.Event.{Event}

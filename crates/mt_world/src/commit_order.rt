@@ -1,8 +1,8 @@
 // The commits that events have begun, read off the events and their answers.
 ghost use Rattle.std.specs.Prelude.{◌≡◌, ◌∷◌, ◌++◌, [], Some, None, length, map, IfErr, IfOk, MatchOption, OnOk};
 ghost use Rattle.mt_base.specs.declared.refusal.Refusal.{Refusal};
-ghost use Rattle.mt_world.specs.Heard.{told_by};
-ghost use Rattle.mt_world.specs.Told.{acknowledged, commit_of, commit_order, named, replied, started_by, tells, told_of};
+ghost use Rattle.mt_world.specs.Heard.{reported_by};
+ghost use Rattle.mt_world.specs.Reported.{acknowledged, commit_of, commit_order, named, replied, started_by, tells, reported_of};
 
 use crate::events::{Answer, Event};
 use mt_base::{Refusal, TxnNo};
@@ -20,7 +20,7 @@ struct Heard {
 
 // A transaction of this session that was answered nothing yet.
 fn heard_nothing(alloc: Global, session: u32) -> Heard
-    ensures { told_by result ≡ record { session = session; started = None; calls = [] } }
+    ensures { reported_by result ≡ record { session = session; started = None; calls = [] } }
 {
     Heard {
         session,
@@ -31,7 +31,7 @@ fn heard_nothing(alloc: Global, session: u32) -> Heard
 
 // Hears that an operation has started.
 fn hear_start(heard: &mut Heard, op: &Op) -> Result<(), AllocError>
-    ensures { OnOk result (told_by heard.new ≡ record (told_by heard.old) { started = Some op.now }) }
+    ensures { OnOk result (reported_by heard.new ≡ record (reported_by heard.old) { started = Some op.now }) }
 {
     let copy = op.try_clone()?;
     heard.started = Some(copy);
@@ -40,9 +40,9 @@ fn hear_start(heard: &mut Heard, op: &Op) -> Result<(), AllocError>
 
 // Hears the reply to what has started.
 fn hear_reply(heard: &mut Heard, reply: &Reply) -> Result<(), AllocError>
-    ensures { OnOk result (told_by heard.new ≡ record (told_by heard.old) {
+    ensures { OnOk result (reported_by heard.new ≡ record (reported_by heard.old) {
       started = None;
-      calls = (told_by heard.old).calls ++ replied (told_by heard.old).started reply.now;
+      calls = (reported_by heard.old).calls ++ replied (reported_by heard.old).started reply.now;
     }) }
 {
     match heard.started.take() {
@@ -62,7 +62,7 @@ fn hear(
     event: &Event,
     answer: &Answer,
 ) -> Result<(), AllocError>
-    ensures { OnOk result (told_by heard.new ≡ tells txn (told_by heard.old) event.now answer.now) }
+    ensures { OnOk result (reported_by heard.new ≡ tells txn (reported_by heard.old) event.now answer.now) }
 {
     match (event, answer) {
         (Event::Begin(session), Answer::Begun(own)) => {
@@ -88,14 +88,14 @@ fn hear(
 }
 
 // What the events and their answers say of a transaction, as of one that commits. The only refusal is want of memory.
-fn commit_told(
+fn commit_reported(
     alloc: Global,
     events: &[Event],
     answers: &[Answer],
     txn: TxnNo,
 ) -> Result<Committed, Refusal>
     requires same { length answers.now ≡ length events.now }
-    ensures told { IfOk result (λ told. told ≡ commit_of (told_of events.now answers.now txn)) }
+    ensures outcome { IfOk result (λ outcome. outcome ≡ commit_of (reported_of events.now answers.now txn)) }
     ensures only_memory { IfErr result (λ why. why ≡ Refusal.NoMemory) }
 {
     let mut heard = heard_nothing(alloc, 0);
@@ -132,25 +132,25 @@ fn add_started(
 ) -> Result<(), Refusal>
     requires same { length answers.now ≡ length events.now }
     ensures added { OnOk result (all.new.items ≡ all.old.items
-        ++ map (λ t. commit_of (told_of events.now answers.now t)) (started_by event.now answer.now)) }
+        ++ map (λ t. commit_of (reported_of events.now answers.now t)) (started_by event.now answer.now)) }
     ensures only_memory { IfErr result (λ why. why ≡ Refusal.NoMemory) }
 {
     if let Some(txn) = starts(event, answer) {
-        let told = commit_told(alloc, events, answers, txn)?;
-        all.push(told)?;
+        let outcome = commit_reported(alloc, events, answers, txn)?;
+        all.push(outcome)?;
     }
     Ok(())
 }
 
 /// The commits that have begun, in the order in which they did: each session's, with the operations that it had a
 /// reply to. The only refusal is want of memory.
-pub(crate) fn commits_told(
+pub(crate) fn commits_reported(
     alloc: Global,
     events: &[Event],
     answers: &[Answer],
 ) -> Result<Vec<Committed>, Refusal>
     requires same { length answers.now ≡ length events.now }
-    ensures told { IfOk result (λ all. all.items ≡ commit_order events.now answers.now) }
+    ensures outcome { IfOk result (λ all. all.items ≡ commit_order events.now answers.now) }
     ensures only_memory { IfErr result (λ why. why ≡ Refusal.NoMemory) }
 {
     let mut all = Vec::new(alloc);

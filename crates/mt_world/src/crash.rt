@@ -6,7 +6,7 @@ ghost use Rattle.mt_disk.specs.Memory.{content};
 ghost use Rattle.mt_restart.specs.Schemas.{device_bytes};
 ghost use Rattle.mt_world.specs.Stopped.{BeginsWithin, IsCrashRun, IsStoppedRun};
 
-use crate::commit_order::{acknowledged_in, commits_told};
+use crate::commit_order::{acknowledged_in, commits_reported};
 use crate::events::Event;
 use crate::schedules::{begin_on, run_schedule};
 use crate::stopping_device::StoppingDevice;
@@ -83,7 +83,7 @@ fn stopped_run(
         return Err(Refusal::DeviceFailed);
     }
     let device = stopped.into_inner();
-    let order = commits_told(alloc, events, answers.as_slice())?;
+    let order = commits_reported(alloc, events, answers.as_slice())?;
     let acked = acknowledged_in(alloc, answers.as_slice())?.len();
     let content = device.crash(alloc, fill)?;
     Ok(CrashRun {

@@ -82,7 +82,7 @@ fn unread<W: Write>(err: &mut W, why: ErrorKind) -> u8 {
         _ => b"error: a word of the command line is not UTF-8\n",
     };
     // if that cannot be printed either, the status alone says it
-    let _told = err.write(text);
+    let _reported = err.write(text);
     match why {
         ErrorKind::OutOfMemory => REFUSED,
         _ => MISUSED,

@@ -52,7 +52,7 @@ returns-in-Some-clause-ran g c =
     ] in
     rw add-one (rw c.in-Some.is (rw c.in-Some.is at
     (line_through D.seen D.may_leave D.faults c.args.stop c.args.session c.args.kernel c.in-Ok-run_line.now.1 c.args.lines.now c.loop-at.at c.index-lines-at.result c.loop-at.live c.in-Ok-run_line.now.0 _ _ _ c.if-is_none.kernel c.run_line.new.kernel lt c.index-lines-at.is through
-    c.in-Ok-run_line.ensures.told c.in-Ok-run_line.ensures.schema c.in-Ok-run_line.ensures.restarts)))
+    c.in-Ok-run_line.ensures.outcome c.in-Ok-run_line.ensures.schema c.in-Ok-run_line.ensures.restarts)))
 
 pub returns-in-Some-clause-at : goal.returns-in-Some-clause-at
 returns-in-Some-clause-at g c =
@@ -73,7 +73,7 @@ loop-at-preserved g c =
     ] in
     rw add-one (rw c.in_default.is at
     (line_through D.seen D.may_leave D.faults c.args.stop c.args.session c.args.kernel c.in-Ok-run_line.now.1 c.args.lines.now c.loop-at.at c.index-lines-at.result c.loop-at.live c.in-Ok-run_line.now.0 _ _ _ c.if-is_none.kernel c.run_line.new.kernel lt c.index-lines-at.is through
-    c.in-Ok-run_line.ensures.told c.in-Ok-run_line.ensures.schema c.in-Ok-run_line.ensures.restarts))
+    c.in-Ok-run_line.ensures.outcome c.in-Ok-run_line.ensures.schema c.in-Ok-run_line.ensures.restarts))
 
 pub returns-clause-ran : goal.returns-clause-ran
 returns-clause-ran g c =

@@ -1,4 +1,4 @@
-use Rattle.mt_alone.proofs.RunLemmas.{line_stopped, line_told, line_unheard}
+use Rattle.mt_alone.proofs.RunLemmas.{line_stopped, line_reported, line_unheard}
 use Rattle.mt_alone.proofs.script_run.run_line.Goals as goal
 
 pub returns-in-Err-clause-cut : goal.returns-in-Err-clause-cut
@@ -6,12 +6,12 @@ returns-in-Err-clause-cut g c = λ p own b.
     let D = g.D.Device in
     line_stopped D.seen D.may_leave D.faults p c.args.kernel.now c.args.line.now c.in-Err.refusal _ _ c.answer.new.kernel _ (c.in-Err.ensures.answers p own b) c.end_refused.ensures
 
-pub returns-in-Ok-tell-clause-told : goal.returns-in-Ok-tell-clause-told
-returns-in-Ok-tell-clause-told g c = λ p own b.
+pub returns-in-Ok-tell-clause-outcome : goal.returns-in-Ok-tell-clause-outcome
+returns-in-Ok-tell-clause-outcome g c = λ p own b.
     let D = g.D.Device in
-    line_told D.seen D.may_leave D.faults p c.args.kernel.now c.args.stop c.ending-why.result c.args.line.now c.in-Ok.told c.args.live _ _ c.answer.new.kernel c.ending-why.ensures b c.in-Ok.ensures.schema (c.in-Ok.ensures.answers p own b) c.in-Ok-tell.ensures.all
+    line_reported D.seen D.may_leave D.faults p c.args.kernel.now c.args.stop c.ending-why.result c.args.line.now c.in-Ok.outcome c.args.live _ _ c.answer.new.kernel c.ending-why.ensures b c.in-Ok.ensures.schema (c.in-Ok.ensures.answers p own b) c.in-Ok-tell.ensures.all
 
 pub returns-clause-cut : goal.returns-clause-cut
 returns-clause-cut g c = λ p own b.
     let D = g.D.Device in
-    line_unheard D.seen D.may_leave D.faults p c.args.kernel.now c.args.line.now c.in-Ok.told c.args.live _ _ c.answer.new.kernel c.end_unheard.new.kernel _ b c.in-Ok.ensures.schema (c.in-Ok.ensures.answers p own b) c.in-Err-tell.ensures.front c.end_unheard.ensures.left
+    line_unheard D.seen D.may_leave D.faults p c.args.kernel.now c.args.line.now c.in-Ok.outcome c.args.live _ _ c.answer.new.kernel c.end_unheard.new.kernel _ b c.in-Ok.ensures.schema (c.in-Ok.ensures.answers p own b) c.in-Err-tell.ensures.front c.end_unheard.ensures.left

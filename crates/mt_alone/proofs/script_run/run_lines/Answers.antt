@@ -23,7 +23,7 @@ loop-line-preserved g c =
     rw add-one (record {
       ran = λ p own b. unstopped D.seen D.may_leave D.faults p c.args.kernel.now c.in_ok-now.now.1 _ _ _ c.in_ok-now.now.0 c.run_line.new.kernel
           (line_more D.seen D.may_leave D.faults p c.args.kernel.now false c.in_ok-now.now.1 c.args.session c.args.lines.now c.loop-line.line-index c.line-item.result c.loop-line.live c.in_ok-now.now.0 _ _ _ c.loop-line.kernel c.run_line.new.kernel own lt c.line-item.is
-          (c.loop-line.invariant.ran p own b) c.in_ok-now.ensures.told);
+          (c.loop-line.invariant.ran p own b) c.in_ok-now.ensures.outcome);
       schema = (c.run_line.ensures.schema.0 ∙ c.loop-line.invariant.schema.0, c.run_line.ensures.schema.1 ∙ c.loop-line.invariant.schema.1);
       restarts = λ first r. c.run_line.ensures.restarts first (c.loop-line.invariant.restarts first r);
     })

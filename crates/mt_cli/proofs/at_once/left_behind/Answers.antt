@@ -2,9 +2,9 @@ use Rattle.mt_cli.proofs.AtOnceLemmas.{served_at_once}
 use Rattle.mt_cli.proofs.at_once.left_behind.Goals as goal
 
 pub returns : goal.returns
-returns g c = λ bytes scripts served told.
+returns g c = λ bytes scripts served outcome.
     let D = g.D.Device in
     let n = c.args.kernel in
-    served_at_once D.seen D.may_leave bytes scripts c.args.transcripts.items n _ served told
+    served_at_once D.seen D.may_leave bytes scripts c.args.transcripts.items n _ served outcome
     (λ first restarts. rw c.into_device.ensures (c.can_restart.ensures first (D.seen n.core.operations.store.device) restarts (g.met.D.Device.present n.core.operations.store.device) n.schema))
     c.is_cut_off-has_failed.result c.is_cut_off-has_failed.ensures

@@ -3,7 +3,7 @@ use Rattle.std.proofs.KnownBytes.{Keeps-refl}
 use Rattle.std.proofs.lemmas.List.{length-map}
 use Rattle.mt_folder.proofs.FolderLemmas.{lent_and_back}
 use Rattle.mt_alone.specs.Sessions.{lines_in}
-use Rattle.mt_cli.proofs.AtOnceLemmas.{untold_at_once}
+use Rattle.mt_cli.proofs.AtOnceLemmas.{unreported_at_once}
 use Rattle.mt_cli.specs.Serves.{let_go, no_device_at_once, too_many_at_once}
 use Rattle.mt_cli.proofs.at_once.serve_file_at_once.Goals as goal
 
@@ -18,7 +18,7 @@ returns-then-len-gt-MAX_SESSIONS-clause-unserved g c =
 pub returns-in-Ok-serve_over_at_once-clause-unserved : goal.returns-in-Ok-serve_over_at_once-clause-unserved
 returns-in-Ok-serve_over_at_once-clause-unserved g c =
     let behind = c.in-Ok-serve_over_at_once.behind in
-    untold_at_once _ _ _ c.args.service.name.now _ _ _ behind.transcripts.items c.in-Ok.ensures.held c.in-Ok.ensures.lent c.back-in-Ok-serve_over_at_once.ensures behind.has_failed _ _ c.tell_sessions.result
+    unreported_at_once _ _ _ c.args.service.name.now _ _ _ behind.transcripts.items c.in-Ok.ensures.held c.in-Ok.ensures.lent c.back-in-Ok-serve_over_at_once.ensures behind.has_failed _ _ c.tell_sessions.result
     c.in-Ok-serve_over_at_once.ensures.served (rw c.as_slice.ensures.value at c.tell_sessions.ensures.front) c.tell_sessions.ensures.why
 
 pub returns-in-Err-serve_over_at_once-clause-unserved : goal.returns-in-Err-serve_over_at_once-clause-unserved

@@ -1,10 +1,10 @@
 use Rattle.std.proofs.Common.{◌≡◌, rules}
 use Rattle.std.specs.Result.{MatchResult}
-use Rattle.mt_cli.proofs.AdviceLemmas.{told_as}
+use Rattle.mt_cli.proofs.AdviceLemmas.{reported_as}
 use Rattle.mt_cli.specs.declared.faults.Fault.TheVariants.{Output}
 use Rattle.mt_cli.proofs.commands.finish.Goals as goal
 
-pub returns-clause-told : goal.returns-clause-told
-returns-clause-told g c = λ other.
+pub returns-clause-outcome : goal.returns-clause-outcome
+returns-clause-outcome g c = λ other.
     let is : MatchResult c.args.done (λ u. c.match-done.fault ≡ Output) (λ f. c.match-done.fault ≡ f) = search rules in
-    told_as c.args.command.now c.args.reason.now _ _ c.args.done c.match-done.fault is c.tell.ensures
+    reported_as c.args.command.now c.args.reason.now _ _ c.args.done c.match-done.fault is c.tell.ensures

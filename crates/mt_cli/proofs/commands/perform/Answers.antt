@@ -1,5 +1,5 @@
 use Rattle.std.proofs.Common.{rules}
-use Rattle.mt_cli.proofs.AdviceLemmas.{is_told}
+use Rattle.mt_cli.proofs.AdviceLemmas.{is_reported}
 use Rattle.mt_cli.proofs.Endings.{done_kept, given_up_of}
 use Rattle.mt_cli.proofs.commands.perform.Goals as goal
 
@@ -10,8 +10,8 @@ returns-clause-done g c = λ zero.
 
 pub returns-clause-given_up : goal.returns-clause-given_up
 returns-clause-given_up g c = λ other.
-    let told = rw c.reason.ensures at (c.finish.ensures.told other) in
-    given_up_of _ c.args.command.now _ _ _ _ _ _ _ c.do_command-done.result c.do_command-done.ensures.done c.do_command-done.ensures.undone c.finish.ensures.kept told
+    let outcome = rw c.reason.ensures at (c.finish.ensures.outcome other) in
+    given_up_of _ c.args.command.now _ _ _ _ _ _ _ c.do_command-done.result c.do_command-done.ensures.done c.do_command-done.ensures.undone c.finish.ensures.kept outcome
 
-pub returns-clause-told : goal.returns-clause-told
-returns-clause-told g c = λ other. (c.finish.ensures.status other, is_told c.args.command.now _ _ _ c.do_command-done.result (c.finish.ensures.told other))
+pub returns-clause-outcome : goal.returns-clause-outcome
+returns-clause-outcome g c = λ other. (c.finish.ensures.status other, is_reported c.args.command.now _ _ _ c.do_command-done.result (c.finish.ensures.outcome other))

@@ -8,10 +8,10 @@ use Rattle.mt_cli.proofs.dump_command.survey_of.Goals as goal
 pub survey_opened-requires : goal.survey_opened-requires
 survey_opened-requires g c = record { opened = c.in-Ok.ensures.begins }
 
-pub returns-in-Ok-clause-told : goal.returns-in-Ok-clause-told
-returns-in-Ok-clause-told g c =
+pub returns-in-Ok-clause-outcome : goal.returns-in-Ok-clause-outcome
+returns-in-Ok-clause-outcome g c =
     let D = g.D.Device in
-    dumps_of (D.seen c.args.device) c.survey_opened.result.0 (λ n m b. IsOpened D.seen D.may_leave n m b c.in-Ok.kernel) c.survey_opened.ensures.told _ _ c.in-Ok.ensures.begins.0 c.in-Ok.ensures.begins.1 c.in-Ok.ensures.opened
+    dumps_of (D.seen c.args.device) c.survey_opened.result.0 (λ n m b. IsOpened D.seen D.may_leave n m b c.in-Ok.kernel) c.survey_opened.ensures.outcome _ _ c.in-Ok.ensures.begins.0 c.in-Ok.ensures.begins.1 c.in-Ok.ensures.opened
 
 pub returns-in-Ok-clause-cause : goal.returns-in-Ok-clause-cause
 returns-in-Ok-clause-cause g c = IfErr-weaker c.survey_opened.result.0 _ _ (λ why unmade. barred_unmade _ why unmade) c.survey_opened.ensures.why

@@ -1,8 +1,8 @@
 use Rattle.mt_cli.proofs.DumpLemmas.{dumped_of, left_of, ok_always, stands_on, unopened_of}
 use Rattle.mt_cli.proofs.dump_command.survey_of_file.Goals as goal
 
-pub returns-clause-told : goal.returns-clause-told
-returns-clause-told g c = dumped_of _ c.args.name.now _ c.survey_of-surveyed.result.0 c.in_ok-device.ensures.held c.survey_of-surveyed.ensures.told
+pub returns-clause-outcome : goal.returns-clause-outcome
+returns-clause-outcome g c = dumped_of _ c.args.name.now _ c.survey_of-surveyed.result.0 c.in_ok-device.ensures.held c.survey_of-surveyed.ensures.outcome
 
 pub returns-clause-cause : goal.returns-clause-cause
 returns-clause-cause g c = unopened_of _ c.args.name.now _ c.survey_of-surveyed.result.0 c.in_ok-device.ensures.held c.survey_of-surveyed.ensures.cause

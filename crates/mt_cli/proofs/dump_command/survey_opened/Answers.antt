@@ -3,12 +3,12 @@ use Rattle.mt_restart.proofs.Living.{nobody}
 use Rattle.mt_cli.proofs.DumpLemmas.{ok_both, tells_of, unmade_of}
 use Rattle.mt_cli.proofs.dump_command.survey_opened.Goals as goal
 
-pub returns-clause-told : goal.returns-clause-told
-returns-clause-told g c = λ relations counters b opened.
+pub returns-clause-outcome : goal.returns-clause-outcome
+returns-clause-outcome g c = λ relations counters b opened.
     let D = g.D.Device in
-    ok_both c.survey-told.result (λ survey base told. tells_of D.seen D.may_leave relations counters b c.args.kernel survey opened base told) (c.survey-told.ensures.base b (start b) opened.shows) c.survey-told.ensures.pages
+    ok_both c.survey-outcome.result (λ survey base outcome. tells_of D.seen D.may_leave relations counters b c.args.kernel survey opened base outcome) (c.survey-outcome.ensures.base b (start b) opened.shows) c.survey-outcome.ensures.pages
 
 pub returns-clause-why : goal.returns-clause-why
 returns-clause-why g c =
     let D = g.D.Device in
-    unmade_of D.faults _ c.args.kernel.core c.survey-told.new.self.core c.survey-told.result (nobody D.seen D.may_leave c.requires.opened.0 c.args.kernel c.requires.opened.1.shows) c.survey-told.ensures.cause
+    unmade_of D.faults _ c.args.kernel.core c.survey-outcome.new.self.core c.survey-outcome.result (nobody D.seen D.may_leave c.requires.opened.0 c.args.kernel c.requires.opened.1.shows) c.survey-outcome.ensures.cause

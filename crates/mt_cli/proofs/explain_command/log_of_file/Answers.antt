@@ -1,4 +1,4 @@
-use Rattle.mt_cli.proofs.CheckLemmas.{untold_of}
+use Rattle.mt_cli.proofs.CheckLemmas.{unreported_of}
 use Rattle.mt_cli.proofs.ExplainLemmas.{log_in}
 use Rattle.std.proofs.Common.{false}
 use Rattle.mt_cli.proofs.explain_command.log_of_file.Goals as goal
@@ -7,4 +7,4 @@ pub returns-clause-log : goal.returns-clause-log
 returns-clause-log g c = log_in (λ bs. bs.items) _ c.args.name.now _ c.log_of.result c.in_ok-device.ensures.held c.log_of.ensures.log
 
 pub returns-clause-cause : goal.returns-clause-cause
-returns-clause-cause g c = untold_of false _ c.args.name.now _ c.log_of.result c.in_ok-device.ensures.held c.log_of.ensures.cause
+returns-clause-cause g c = unreported_of false _ c.args.name.now _ c.log_of.result c.in_ok-device.ensures.held c.log_of.ensures.cause

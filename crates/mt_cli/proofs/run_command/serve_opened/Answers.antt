@@ -11,5 +11,5 @@ returns-in-Ok-clause-served g c = λ relations counters b opened.
 pub returns-in-Err-clause-short : goal.returns-in-Err-clause-short
 returns-in-Err-clause-short g c = λ relations counters b opened.
     let D = g.D.Device in
-    let told = c.into_device-why.ensures in
-    rw told.why (short_on D.seen D.may_leave D.faults c.args.stop relations counters b c.args.kernel _ _ _ c.in-Err.left _ _ opened (g.met.D.Device.present _) told.stands c.in-Err.ensures.cut)
+    let outcome = c.into_device-why.ensures in
+    rw outcome.why (short_on D.seen D.may_leave D.faults c.args.stop relations counters b c.args.kernel _ _ _ c.in-Err.left _ _ opened (g.met.D.Device.present _) outcome.stands c.in-Err.ensures.cut)

@@ -27,10 +27,10 @@ loop-i-preserved c =
     let i = c.loop-i.i in
     let named : c.pointer_of.result ≡ pointer_at (pages 1) i = c.pointer_of.ensures ∙ ap (λ (d : List ℕ). pointer_at d i) (c.page_at-directory.ensures.is ∙ ap pages c.new.ensures) in
     let there : i < 2 ^ depth_in (pages 1) = in_directory i c.depth.result (depth_in (pages 1)) (c.depth.ensures ∙ ap depth_in (c.page_at-directory.ensures.is ∙ ap pages c.new.ensures)) (omega arith) c.loop-i-test.true in
-    let told = c.in_default.ensures in
+    let outcome = c.in_default.ensures in
     record {
-      size = told.size ∙ c.loop-i.invariant.size;
+      size = outcome.size ∙ c.loop-i.invariant.size;
       marked = marked_more pages c.loop-i.homes c.mark_bucket.new.homes i c.loop-i.invariant.marked
-          (subst (λ (b : ℕ). IsMarked pages c.mark_bucket.new.homes b) named told.done) (subst (λ (b : ℕ). Marks pages b c.loop-i.homes c.mark_bucket.new.homes) named told.marks)
+          (subst (λ (b : ℕ). IsMarked pages c.mark_bucket.new.homes b) named outcome.done) (subst (λ (b : ℕ). Marks pages b c.loop-i.homes c.mark_bucket.new.homes) named outcome.marks)
           (λ j lt. pointer_real (length c.args.pages.now) pages c.requires.kinds j (c.requires.pointers j (omega (arith, lt, there))));
     }

@@ -21,8 +21,8 @@ returns-clause-found c =
     let homes = c.mark_buckets.new.homes in
     let marked = c.in_default.ensures.done in
     answer_follows
-    (λ told. made_sound c.args.relations total pages homes c.requires.kinds c.requires.directory c.requires.buckets c.requires.pointers marked (all_settled total pages homes _ c.requires.kinds marked told))
-    (λ p told x. told.1 (sound_settles c.args.relations total pages x homes marked p told.0))
+    (λ outcome. made_sound c.args.relations total pages homes c.requires.kinds c.requires.directory c.requires.buckets c.requires.pointers marked (all_settled total pages homes _ c.requires.kinds marked outcome))
+    (λ p outcome x. outcome.1 (sound_settles c.args.relations total pages x homes marked p outcome.0))
     c.find_unsettled.result c.find_unsettled.ensures
 
 pub returns-clause-named : goal.returns-clause-named
@@ -31,4 +31,4 @@ returns-clause-named c =
     let homes = c.mark_buckets.new.homes in
     let marked = c.in_default.ensures.done in
     let real : (j : ℕ) → j < 2 ^ depth_in (pages 1) → pointer_at (pages 1) j ≢ 0 = λ j lt. pointer_real (length c.args.pages.now) pages c.requires.kinds j (c.requires.pointers j lt) in
-    page_follows ((p : ℕ) → p < length c.args.pages.now → Settles pages homes p) (λ p told. place_broken told.0 (λ placed. told.1 (placed_settles pages homes p marked real placed))) c.find_unsettled.result c.find_unsettled.ensures
+    page_follows ((p : ℕ) → p < length c.args.pages.now → Settles pages homes p) (λ p outcome. place_broken outcome.0 (λ placed. outcome.1 (placed_settles pages homes p marked real placed))) c.find_unsettled.result c.find_unsettled.ensures

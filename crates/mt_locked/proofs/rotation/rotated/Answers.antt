@@ -68,4 +68,4 @@ returns-in-Err-Kept-clause-gone g c = here c.kept-in-Err-Kept.result.held c.kept
 pub returns-in-Err-Ended-clause-gone : goal.returns-in-Err-Ended-clause-gone
 returns-in-Err-Ended-clause-gone g c = let D = g.D.Device in
     let left = subst (λ (e : NotRotated _ _). IsLeft D.seen D.may_leave D.moment D.left_since D.faults c.kernel.inside.kernel e) c.in-Err-Ended.field-0-is c.in-Err-Ended.ensures.left in
-    λ _. c.outcome-in-Err-Ended.ensures.fault (end_cause D.seen D.may_leave D.moment D.left_since D.faults c.kernel.inside.kernel c.in-Err-Ended.device c.in-Err-Ended.why left.2)
+    λ _. c.answer_to-in-Err-Ended.ensures.fault (end_cause D.seen D.may_leave D.moment D.left_since D.faults c.kernel.inside.kernel c.in-Err-Ended.device c.in-Err-Ended.why left.2)

@@ -14,8 +14,8 @@ if_ok P Q (Ok x) f p = f x p
 if_ok P Q (Err e) f p = tt
 
 -- what is true of a log that has begun with no record is true of this one
-told : (place : AreaPlace) (Q : Log → Type 0) (r : Result Log Refusal) → ((log : Log) → IsBegun place [] log → Q log) → IfOk r (IsBegun place []) → IfOk r Q
-told place Q r f p = if_ok (IsBegun place []) Q r f p
+outcome : (place : AreaPlace) (Q : Log → Type 0) (r : Result Log Refusal) → ((log : Log) → IsBegun place [] log → Q log) → IfOk r (IsBegun place []) → IfOk r Q
+outcome place Q r f p = if_ok (IsBegun place []) Q r f p
 
 pub begin_prepared-requires-clause-prepared : goal.begin_prepared-requires-clause-prepared
 begin_prepared-requires-clause-prepared g c = (c.args.place, [], c.in_ok-prepared.ensures.first)
@@ -47,34 +47,34 @@ pub returns-clause-rest : goal.returns-clause-rest
 returns-clause-rest g c = c.begin_prepared.ensures.rest c.args.place [] c.in_ok-prepared.ensures.first
 
 pub returns-clause-start : goal.returns-clause-start
-returns-clause-start g c = told c.args.place _ c.begin_prepared.result (λ log is. is.start) (c.begin_prepared.ensures.log c.args.place [] c.in_ok-prepared.ensures.first)
+returns-clause-start g c = outcome c.args.place _ c.begin_prepared.result (λ log is. is.start) (c.begin_prepared.ensures.log c.args.place [] c.in_ok-prepared.ensures.first)
 
 pub returns-clause-end : goal.returns-clause-end
-returns-clause-end g c = told c.args.place _ c.begin_prepared.result (λ log is. is.end) (c.begin_prepared.ensures.log c.args.place [] c.in_ok-prepared.ensures.first)
+returns-clause-end g c = outcome c.args.place _ c.begin_prepared.result (λ log is. is.end) (c.begin_prepared.ensures.log c.args.place [] c.in_ok-prepared.ensures.first)
 
 pub returns-clause-size : goal.returns-clause-size
-returns-clause-size g c = told c.args.place _ c.begin_prepared.result (λ log is. is.size) (c.begin_prepared.ensures.log c.args.place [] c.in_ok-prepared.ensures.first)
+returns-clause-size g c = outcome c.args.place _ c.begin_prepared.result (λ log is. is.size) (c.begin_prepared.ensures.log c.args.place [] c.in_ok-prepared.ensures.first)
 
 pub returns-clause-batches : goal.returns-clause-batches
-returns-clause-batches g c = told c.args.place _ c.begin_prepared.result (λ log is. is.batches) (c.begin_prepared.ensures.log c.args.place [] c.in_ok-prepared.ensures.first)
+returns-clause-batches g c = outcome c.args.place _ c.begin_prepared.result (λ log is. is.batches) (c.begin_prepared.ensures.log c.args.place [] c.in_ok-prepared.ensures.first)
 
 pub returns-clause-durable : goal.returns-clause-durable
-returns-clause-durable g c = told c.args.place _ c.begin_prepared.result (λ log is. durable-joined log ∙ ap joined is.batches) (c.begin_prepared.ensures.log c.args.place [] c.in_ok-prepared.ensures.first)
+returns-clause-durable g c = outcome c.args.place _ c.begin_prepared.result (λ log is. durable-joined log ∙ ap joined is.batches) (c.begin_prepared.ensures.log c.args.place [] c.in_ok-prepared.ensures.first)
 
 pub returns-clause-in_flight : goal.returns-clause-in_flight
-returns-clause-in_flight g c = told c.args.place _ c.begin_prepared.result (λ log is. is.none_flies) (c.begin_prepared.ensures.log c.args.place [] c.in_ok-prepared.ensures.first)
+returns-clause-in_flight g c = outcome c.args.place _ c.begin_prepared.result (λ log is. is.none_flies) (c.begin_prepared.ensures.log c.args.place [] c.in_ok-prepared.ensures.first)
 
 pub returns-clause-waiting : goal.returns-clause-waiting
-returns-clause-waiting g c = told c.args.place _ c.begin_prepared.result (λ log is. is.none_waits) (c.begin_prepared.ensures.log c.args.place [] c.in_ok-prepared.ensures.first)
+returns-clause-waiting g c = outcome c.args.place _ c.begin_prepared.result (λ log is. is.none_waits) (c.begin_prepared.ensures.log c.args.place [] c.in_ok-prepared.ensures.first)
 
 pub returns-clause-used : goal.returns-clause-used
-returns-clause-used g c = told c.args.place _ c.begin_prepared.result (λ log is. is.bytes) (c.begin_prepared.ensures.log c.args.place [] c.in_ok-prepared.ensures.first)
+returns-clause-used g c = outcome c.args.place _ c.begin_prepared.result (λ log is. is.bytes) (c.begin_prepared.ensures.log c.args.place [] c.in_ok-prepared.ensures.first)
 
 pub returns-clause-calls : goal.returns-clause-calls
-returns-clause-calls g c = told c.args.place _ c.begin_prepared.result (λ log is. is.calls) (c.begin_prepared.ensures.log c.args.place [] c.in_ok-prepared.ensures.first)
+returns-clause-calls g c = outcome c.args.place _ c.begin_prepared.result (λ log is. is.calls) (c.begin_prepared.ensures.log c.args.place [] c.in_ok-prepared.ensures.first)
 
 pub returns-clause-failed : goal.returns-clause-failed
-returns-clause-failed g c = told c.args.place _ c.begin_prepared.result (λ log is. is.well) (c.begin_prepared.ensures.log c.args.place [] c.in_ok-prepared.ensures.first)
+returns-clause-failed g c = outcome c.args.place _ c.begin_prepared.result (λ log is. is.well) (c.begin_prepared.ensures.log c.args.place [] c.in_ok-prepared.ensures.first)
 
 pub returns-clause-sound : goal.returns-clause-sound
-returns-clause-sound g c = told c.args.place _ c.begin_prepared.result (λ log is pages. is.sound pages (tt, tt) tt) (c.begin_prepared.ensures.log c.args.place [] c.in_ok-prepared.ensures.first)
+returns-clause-sound g c = outcome c.args.place _ c.begin_prepared.result (λ log is pages. is.sound pages (tt, tt) tt) (c.begin_prepared.ensures.log c.args.place [] c.in_ok-prepared.ensures.first)

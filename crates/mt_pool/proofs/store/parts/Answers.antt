@@ -17,9 +17,9 @@ use Rattle.mt_pool.proofs.store.parts.Goals as goal
 bytes : (start end s n : ℕ) → start ≡ s → end ≡ s + n → end - start ≡ n
 bytes start end s n first last = omega (arith, first, last)
 
--- a fact of the area, told of the one that the slot names
-told_of_area : (s n t m : ℕ) (P : ℕ → ℕ → Type 0) → s ≡ t → n ≡ m → P s n → P t m
-told_of_area s n t m P first size is = subst (λ (k : ℕ). P t k) size (subst (λ (k : ℕ). P k n) first is)
+-- a fact of the area, reported of the one that the slot names
+reported_of_area : (s n t m : ℕ) (P : ℕ → ℕ → Type 0) → s ≡ t → n ≡ m → P s n → P t m
+reported_of_area s n t m P first size is = subst (λ (k : ℕ). P t k) size (subst (λ (k : ℕ). P k n) first is)
 
 pub begin_area-requires : goal.begin_area-requires
 begin_area-requires g c =
@@ -63,14 +63,14 @@ returns g c = record {
   moments = let a = c.named_by-area.ensures in let r = c.args.ruling.now in let area = c.named_by-area.result in
       let may = g.D.Device.may_leave in
       let first = follows_less area.start (area.end - area.start) (may c.args.device.now) (may c.sync.new.self) c.sync.ensures.crash in
-      told_of_area area.start (area.end - area.start) (area_start r) (area_size r)
+      reported_of_area area.start (area.end - area.start) (area_start r) (area_size r)
       (λ s n. LeavesOnly g.D.Device.moment g.D.Device.left_since c.args.device.now c.begin_area.new.device (TornFrom (may c.args.device.now) s n))
       a.start (bytes area.start area.end (area_start r) (area_size r) a.start a.end)
       (frame_then g.D.Device.moment g.D.Device.left_since may g.met.D.Device.only_now area.start (area.end - area.start) c.args.device.now c.sync.new.self c.begin_area.new.device
       (frame_one g.D.Device.moment g.D.Device.left_since may g.met.D.Device.only_now area.start (area.end - area.start) c.args.device.now c.sync.new.self c.sync.ensures.time first)
       first c.begin_area.ensures.moments);
   rest = let a = c.named_by-area.ensures in let r = c.args.ruling.now in let area = c.named_by-area.result in let seen = g.D.Device.seen in
-      told_of_area area.start (area.end - area.start) (area_start r) (area_size r)
+      reported_of_area area.start (area.end - area.start) (area_start r) (area_size r)
       (λ s n. Torn s n (seen c.args.device.now) (seen c.begin_area.new.device))
       a.start (bytes area.start area.end (area_start r) (area_size r) a.start a.end)
       (subst (λ (l : List ℕ). Torn area.start (area.end - area.start) l (seen c.begin_area.new.device)) c.sync.ensures.seen c.begin_area.ensures.rest);
@@ -106,14 +106,14 @@ returns-in_err-log g c = record {
   moments = let a = c.named_by-area.ensures in let r = c.args.ruling.now in let area = c.named_by-area.result in
       let may = g.D.Device.may_leave in
       let first = follows_less area.start (area.end - area.start) (may c.args.device.now) (may c.sync.new.self) c.sync.ensures.crash in
-      told_of_area area.start (area.end - area.start) (area_start r) (area_size r)
+      reported_of_area area.start (area.end - area.start) (area_start r) (area_size r)
       (λ s n. LeavesOnly g.D.Device.moment g.D.Device.left_since c.args.device.now c.begin_area.new.device (TornFrom (may c.args.device.now) s n))
       a.start (bytes area.start area.end (area_start r) (area_size r) a.start a.end)
       (frame_then g.D.Device.moment g.D.Device.left_since may g.met.D.Device.only_now area.start (area.end - area.start) c.args.device.now c.sync.new.self c.begin_area.new.device
       (frame_one g.D.Device.moment g.D.Device.left_since may g.met.D.Device.only_now area.start (area.end - area.start) c.args.device.now c.sync.new.self c.sync.ensures.time first)
       first c.begin_area.ensures.moments);
   rest = let a = c.named_by-area.ensures in let r = c.args.ruling.now in let area = c.named_by-area.result in let seen = g.D.Device.seen in
-      told_of_area area.start (area.end - area.start) (area_start r) (area_size r)
+      reported_of_area area.start (area.end - area.start) (area_start r) (area_size r)
       (λ s n. Torn s n (seen c.args.device.now) (seen c.begin_area.new.device))
       a.start (bytes area.start area.end (area_start r) (area_size r) a.start a.end)
       (subst (λ (l : List ℕ). Torn area.start (area.end - area.start) l (seen c.begin_area.new.device)) c.sync.ensures.seen c.begin_area.ensures.rest);

@@ -10,7 +10,7 @@ use Rattle.mt_log.specs.declared.batch.Batch.{Batch}
 use Rattle.mt_replay.specs.Losers.{all_finished, AreOfGrammar}
 use Rattle.mt_replay.specs.Refused.{BreaksFormat, in_log}
 use Rattle.mt_log.specs.Masters.{area_end, area_start}
-use Rattle.mt_replay.specs.Told.{losers}
+use Rattle.mt_replay.specs.Recorded.{losers}
 use Rattle.mt_replay.specs.declared.losers.Loser.{Loser}
 use Rattle.mt_replay.proofs.Areas.{area_had, ended_grammar, grammar_of, held_of}
 use Rattle.mt_replay.proofs.Causes.{cause_area, cause_behind, repeated_of}

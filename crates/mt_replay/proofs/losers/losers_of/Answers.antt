@@ -3,7 +3,7 @@ use Rattle.std.specs.List.{AllByRecursion}
 use Rattle.mt_frame.specs.declared.records.Record.{Record}
 use Rattle.mt_log.specs.Batch.{joined}
 use Rattle.mt_log.specs.Found.{records_of}
-use Rattle.mt_replay.specs.Losers.{HasEnded, HasTold}
+use Rattle.mt_replay.specs.Losers.{HasEnded, HasRecorded}
 use Rattle.mt_replay.specs.declared.losers.Loser.{Loser}
 use Rattle.mt_replay.proofs.Losing.{all_reverse}
 use Rattle.mt_replay.proofs.Walking.{joined_at}
@@ -19,9 +19,9 @@ loop-i-preserved c =
     let tells = c.in_ok-tell_batch.ensures.tells in
     record {
       inside = omega arith;
-      told = subst (λ (rs : List Record). HasTold c.tell_batch.new.self rs)
+      outcome = subst (λ (rs : List Record). HasRecorded c.tell_batch.new.self rs)
           (sym (joined_at bs i b (omega arith) c.index-batches-i.is ∙ (λ j. b.records.items ++ joined (records_of (drop (next j) bs)))))
-          (tells.told (joined (records_of (drop c.loop-i.i bs))) c.loop-i.invariant.told);
+          (tells.outcome (joined (records_of (drop c.loop-i.i bs))) c.loop-i.invariant.outcome);
       ended = tells.ended bs (i, (omega arith), sym c.index-batches-i.is) c.loop-i.invariant.ended;
     }
 

@@ -51,8 +51,8 @@ returns c =
     record {
       formed = record {
         size = inv.size;
-        relations_told = inv.relations;
-        counters_told = inv.counters ∙ ap length all;
+        relations_reported = inv.relations;
+        counters_reported = inv.counters ∙ ap length all;
         zeros = inv.zeros;
         few = s.counter_count;
         each = λ k lt. subst IsLimited (sym (starts k lt)) (subst (λ l. IsLimited (count_at l k)) all (c.counters-counters.ensures.limited k no_count (omega (arith, lt, ap length all))));

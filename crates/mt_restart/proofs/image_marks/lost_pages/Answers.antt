@@ -13,11 +13,11 @@ loop-page-preserved g c =
     let page = c.loop-page.page in
     let pages = c.args.pages.now in
     let imaged = c.args.imaged.now in
-    let told = c.in_ok-told.told in
+    let outcome = c.in_ok-outcome.outcome in
     record {
-      size = length_more lost c.push.new.self.items told page was.size c.in_ok-push.ensures.items;
-      each = each_more (λ (p : ℕ) (b : Bool). TellsLost (get_or pages p []) (get_or imaged p false) seen p b) lost c.push.new.self.items told false page was.size c.in_ok-push.ensures.items was.each
-          (subst (λ (s : List ℕ). TellsLost (get_or pages page []) (get_or imaged page false) s page told) was.reads.same c.in_ok-told.ensures.told);
-      quiet = c.in_ok-told.ensures.cause.quiet (refl {a = true}) ∙ was.quiet;
+      size = length_more lost c.push.new.self.items outcome page was.size c.in_ok-push.ensures.items;
+      each = each_more (λ (p : ℕ) (b : Bool). TellsLost (get_or pages p []) (get_or imaged p false) seen p b) lost c.push.new.self.items outcome false page was.size c.in_ok-push.ensures.items was.each
+          (subst (λ (s : List ℕ). TellsLost (get_or pages page []) (get_or imaged page false) s page outcome) was.reads.same c.in_ok-outcome.ensures.outcome);
+      quiet = c.in_ok-outcome.ensures.cause.quiet (refl {a = true}) ∙ was.quiet;
       reads = reads_then D.seen D.may_leave D.moment D.left_since g.met.D.Device.only_now c.args.device.now c.loop-page.device c.is_lost.new.device was.reads c.is_lost.ensures.reads;
     }

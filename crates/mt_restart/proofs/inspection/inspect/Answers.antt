@@ -14,14 +14,14 @@ returns-clause-surveyed g c = λ relations counters b can.
     let replayed = c.in_ok-replayed.replayed in
     let e = c.in_ok-replayed.ensures in
     if_ok_map c.survey_of.result
-    (λ survey told. surveys_shown c.only_own_pages_matter.ensures relations counters b (g.D.Device.seen c.args.device.now) replayed.ruling replayed.figures replayed.restored.pages.items survey e.replayed (e.found relations counters b can) told)
+    (λ survey outcome. surveys_shown c.only_own_pages_matter.ensures relations counters b (g.D.Device.seen c.args.device.now) replayed.ruling replayed.figures replayed.restored.pages.items survey e.replayed (e.found relations counters b can) outcome)
     c.survey_of.ensures.surveyed
 
 pub returns-clause-inspected : goal.returns-clause-inspected
 returns-clause-inspected g c =
     let replayed = c.in_ok-replayed.replayed in
     if_ok_map c.survey_of.result
-    (λ survey told. inspected_of (g.D.Device.seen c.args.device.now) replayed.ruling replayed.figures replayed.restored.pages.items survey c.in_ok-replayed.ensures.replayed told)
+    (λ survey outcome. inspected_of (g.D.Device.seen c.args.device.now) replayed.ruling replayed.figures replayed.restored.pages.items survey c.in_ok-replayed.ensures.replayed outcome)
     c.survey_of.ensures.surveyed
 
 pub returns-clause-unformatted : goal.returns-clause-unformatted

@@ -21,7 +21,7 @@ returns-clause-surveyed c = λ relations counters held good holds.
     record {
       depth = c.depth.ensures ∙ ap depth_in directory;
       free = c.free_count.ensures ∙ ap (λ (xs : List (List ℕ)). free_pages (length xs) (bytes_of xs)) same;
-      relations_told = lists.relations ∙ c.in_ok-base.ensures.relations ∙ ap (λ (bytes : List ℕ). get_or bytes 0 0) page ∙ good.counts.relations_told;
-      counters_told = lists.counters ∙ c.in_ok-base.ensures.counters ∙ ap (λ (bytes : List ℕ). get_or bytes 1 0) page ∙ good.counts.counters_told;
+      relations_reported = lists.relations ∙ c.in_ok-base.ensures.relations ∙ ap (λ (bytes : List ℕ). get_or bytes 0 0) page ∙ good.counts.relations_reported;
+      counters_reported = lists.counters ∙ c.in_ok-base.ensures.counters ∙ ap (λ (bytes : List ℕ). get_or bytes 1 0) page ∙ good.counts.counters_reported;
       base = base_listed relations counters items held none new good holds counted c.in_ok-base.ensures.rows lists;
     }

@@ -7,8 +7,8 @@ returns-in_err-ruling-clause-no_other_refusal g c = λ relations counters b can.
     let p = err_from_is_err_and c.from_residual.result c.from_residual.ensures.1 in
     rw (p.1, p.2) (c.in_err-ruling.ensures.no_other_refusal relations counters b can)
 
-pub returns-clause-told : goal.returns-clause-told
-returns-clause-told g c = record {
+pub returns-clause-outcome : goal.returns-clause-outcome
+returns-clause-outcome g c = record {
   slot = c.in_ok-ruling.ruling;
   figures = c.in_ok-ruling.figures;
   log = c.in_ok-ruling.ensures.log;

@@ -8,7 +8,7 @@ use Rattle.mt_restart.proofs.opened_kernel.kernel_over.Goals as goal
 pub assemble-requires-clause-schema : goal.assemble-requires-clause-schema
 assemble-requires-clause-schema g c =
     let r = c.requires.recovered.1 in
-    subst IsRelationCount (sym (r.beside.relations ∙ r.checked.good.counts.relations_told)) r.checked.fits
+    subst IsRelationCount (sym (r.beside.relations ∙ r.checked.good.counts.relations_reported)) r.checked.fits
 
 pub assemble-requires-clause-opens : goal.assemble-requires-clause-opens
 assemble-requires-clause-opens g c =

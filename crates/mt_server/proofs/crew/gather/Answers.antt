@@ -15,6 +15,6 @@ crew-preserved-else-not-place_all g c =
     let both = popped (λ d. HasDone scripts d.0 d.1) c.crew.done.items c.pop.new.self.items c.pop.result _ c.pop.ensures.items c.in-Some.is c.crew.invariant.heard in
     record {
       heard = both.0;
-      placed = λ book count seen board. pass_placed scripts c.args.board.now c.crew.board c.place_all.new.self book c.crew.passes.items c.push.new.self.items c.in-Some.pass c.in_ok-told.field-0.items count c.in_ok-push.ensures.items seen
-          (λ front was. c.crew.invariant.placed book count front was) (λ more there told now. c.if-not-place_all.ensures refl scripts book more there told now) (subst (HasDone scripts c.in-Some.pass) c.in_ok-told.was both.1) board;
+      placed = λ book count seen board. pass_placed scripts c.args.board.now c.crew.board c.place_all.new.self book c.crew.passes.items c.push.new.self.items c.in-Some.pass c.in_ok-outcome.field-0.items count c.in_ok-push.ensures.items seen
+          (λ front was. c.crew.invariant.placed book count front was) (λ more there outcome now. c.if-not-place_all.ensures refl scripts book more there outcome now) (subst (HasDone scripts c.in-Some.pass) c.in_ok-outcome.was both.1) board;
     }

@@ -1,7 +1,7 @@
 use Rattle.std.proofs.Common.{◌++◌, ◌∷◌, [], ap, ◌∙◌}
 use Rattle.mt_script.specs.Answers.{transcript_text}
 use Rattle.mt_script.specs.declared.answers.Answer.TheVariants.{Refused}
-use Rattle.mt_server.proofs.HearingLemmas.{stops_behind, told_dead}
+use Rattle.mt_server.proofs.HearingLemmas.{stops_behind, reported_dead}
 use Rattle.mt_server.proofs.line_answers.died.Goals as goal
 
 pub returns-then-not-take_back-clause-turns : goal.returns-then-not-take_back-clause-turns
@@ -10,5 +10,5 @@ returns-then-not-take_back-clause-turns g c = λ op.
 
 pub returns-clause-turns : goal.returns-clause-turns
 returns-clause-turns g c = λ op.
-    told_dead g.J.Naming.base c.args.txn c.args.pass.now c.requires.own op c.requires.dies.0 _ _ c.take_back.new.pass c.take_back.ensures
+    reported_dead g.J.Naming.base c.args.txn c.args.pass.now c.requires.own op c.requires.dies.0 _ _ c.take_back.new.pass c.take_back.ensures
     (c.in_ok-refuse.ensures.ok ∙ ap (λ why. c.args.out.now.items ++ transcript_text (Refused why ∷ [])) c.requires.dies.1)

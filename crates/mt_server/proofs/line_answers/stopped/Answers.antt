@@ -1,4 +1,4 @@
-use Rattle.mt_server.proofs.HearingLemmas.{lets_live, stops_behind, told_refused}
+use Rattle.mt_server.proofs.HearingLemmas.{lets_live, stops_behind, reported_refused}
 use Rattle.mt_server.specs.Hearing.{Turning}
 use Rattle.mt_script.specs.declared.lines.Line.TheVariants as line
 use Rattle.mt_server.proofs.line_answers.stopped.Goals as goal
@@ -9,6 +9,6 @@ returns-in-DeviceFailed-clause-turns g c = λ op.
 
 pub returns-in_default : goal.returns-in_default
 returns-in_default g c = record {
-  turns = λ op. told_refused g.J.Naming.base c.args.txn c.args.pass.now c.requires.own (line.Call op) c.args.why _ _ c.refused.new.pass c.refused.result (lets_live c.args.why c.in_default.not-Die c.in_default.not-DeviceFailed) c.refused.ensures.tells;
+  turns = λ op. reported_refused g.J.Naming.base c.args.txn c.args.pass.now c.requires.own (line.Call op) c.args.why _ _ c.refused.new.pass c.refused.result (lets_live c.args.why c.in_default.not-Die c.in_default.not-DeviceFailed) c.refused.ensures.tells;
   lives = λ never. c.refused.ensures.lives;
 }

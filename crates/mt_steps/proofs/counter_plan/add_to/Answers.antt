@@ -40,7 +40,7 @@ returns-then-not-add g c = record {
   made = λ relations pages agrees m rows counters there a.
       let total = g.V.Pages.total c.args.views.now in
       let at_two : pages 2 ≡ c.in-Some.old.now = agrees 2 c.in-Some.old.now (ap (λ (p : ℕ). g.V.Pages.at_hand c.args.views.now p) (sym c.new-page.ensures) ∙ c.in-Some.ensures.some) in
-      let leaves : stays (count_in (pages 2) c.args.number) c.args.step ≡ false = ap (λ (page : List ℕ). stays (count_in page c.args.number) c.args.step) at_two ∙ sym (c.add.ensures.told ∙ ap (λ (z : ℤ). stays (count_in c.in-Some.old.now c.args.number) z) (to_z-of_z w64 c.args.step c.ranges.step)) ∙ c.if-not-add.true in
+      let leaves : stays (count_in (pages 2) c.args.number) c.args.step ≡ false = ap (λ (page : List ℕ). stays (count_in page c.args.number) c.args.step) at_two ∙ sym (c.add.ensures.outcome ∙ ap (λ (z : ℤ). stays (count_in c.in-Some.old.now c.args.number) z) (to_z-of_z w64 c.args.step c.ranges.step)) ∙ c.if-not-add.true in
       subst (λ (l : List PageChange). IsAct relations total pages (after l pages) (Add c.args.number c.args.step) OutOfBounds × AreShort l pages) (sym c.new-changes.ensures)
       (adds_nothing relations total pages m c.args.number counters c.args.step rows there a leaves, tt);
   there = search rules;
@@ -63,7 +63,7 @@ returns g c = record {
       let list = c.new-changes.result.list.items in
       let at_two : pages 2 ≡ c.in-Some.old.now = agrees 2 c.in-Some.old.now (ap (λ (q : ℕ). g.V.Pages.at_hand c.args.views.now q) (sym c.new-page.ensures) ∙ c.in-Some.ensures.some) in
       let at_page : pages p ≡ c.in-Some.old.now = ap pages c.new-page.ensures ∙ at_two in
-      let fits : stays (count_in (pages 2) c.args.number) c.args.step ≡ true = ap (λ (page : List ℕ). stays (count_in page c.args.number) c.args.step) at_two ∙ sym (c.add.ensures.told ∙ ap (λ (z : ℤ). stays (count_in c.in-Some.old.now c.args.number) z) (to_z-of_z w64 c.args.step c.ranges.step)) ∙ c.if-not-add.false in
+      let fits : stays (count_in (pages 2) c.args.number) c.args.step ≡ true = ap (λ (page : List ℕ). stays (count_in page c.args.number) c.args.step) at_two ∙ sym (c.add.ensures.outcome ∙ ap (λ (z : ℤ). stays (count_in c.in-Some.old.now c.args.number) z) (to_z-of_z w64 c.args.step c.ranges.step)) ∙ c.if-not-add.false in
       let noted = c.in_ok-note.ensures.noted pages (ap (λ (l : List PageChange). after l pages p) c.new-changes.ensures ∙ at_page) in
       let made : after c.note.new.self.list.items pages ≡ replaced 2 new pages =
       noted ∙ ap (λ (l : List PageChange). replaced p new (after l pages)) c.new-changes.ensures ∙ ap (λ (q : ℕ). replaced q new pages) c.new-page.ensures in

@@ -7,7 +7,7 @@ use Rattle.mt_model.specs.declared.operations.Op.TheVariants.{Delete}
 use Rattle.mt_model.specs.declared.operations.Reply.TheVariants.{Missing}
 use Rattle.mt_base.specs.declared.modes.Mode.TheVariants.{Read}
 use Rattle.std.proofs.lemmas.Result.{IfOk-weaker}
-use Rattle.mt_steps.proofs.Telling.{lock_told, asks_told, made_told, full_told, broken_told}
+use Rattle.mt_steps.proofs.Telling.{lock_reported, asks_reported, made_reported, full_reported, broken_reported}
 use Rattle.mt_steps.proofs.Asking.{bucket_inside, looks_to_write}
 use Rattle.mt_steps.proofs.Modest.{modest_nothing}
 use Rattle.mt_steps.specs.Acts.{IsAct}
@@ -66,14 +66,14 @@ returns-in-Need g c = record {
 
 pub returns-in-Found : goal.returns-in-Found
 returns-in-Found g c = record {
-  lock = IfOk-weaker c.delete_row.result _ _ (lock_told (g.V.Pages.at_hand c.args.views.now) (g.V.Pages.total c.args.views.now) _ _ _) c.delete_row.ensures;
-  asks = λ room split. IfOk-weaker c.delete_row.result _ _ (asks_told (g.V.Pages.at_hand c.args.views.now) (g.V.Pages.total c.args.views.now) _ _ _ _ (λ p mode asks. inr ((c.in-Found.name, c.in-Found.ensures.found), λ relations pages agrees m rows named. asks relations pages agrees m rows tt))) c.delete_row.ensures;
-  made = λ relations. IfOk-weaker c.delete_row.result _ _ (made_told (g.V.Pages.at_hand c.args.views.now) (g.V.Pages.total c.args.views.now) _ _ _ _ (λ changes reply done pages agrees m rows. let d = done.does relations pages agrees m rows tt in (d.act, d.short))) c.delete_row.ensures;
-  modest = λ relations. IfOk-weaker c.delete_row.result _ _ (made_told (g.V.Pages.at_hand c.args.views.now) (g.V.Pages.total c.args.views.now) _ _ _ _ (λ changes reply done pages agrees m rows. (done.does relations pages agrees m rows tt).modest)) c.delete_row.ensures;
-  takes = λ relations. IfOk-weaker c.delete_row.result _ _ (made_told (g.V.Pages.at_hand c.args.views.now) (g.V.Pages.total c.args.views.now) _ _ _ _ (λ changes reply done pages agrees m rows. (done.does relations pages agrees m rows tt).keeps)) c.delete_row.ensures;
-  full = IfOk-weaker c.delete_row.result _ _ (full_told (g.V.Pages.at_hand c.args.views.now) (g.V.Pages.total c.args.views.now) _ _ _ _ (λ no. no)) c.delete_row.ensures;
-  there = IfOk-weaker c.delete_row.result _ _ (made_told (g.V.Pages.at_hand c.args.views.now) (g.V.Pages.total c.args.views.now) _ _ _ _ (λ changes reply done. done.there)) c.delete_row.ensures;
-  few = IfOk-weaker c.delete_row.result _ _ (made_told (g.V.Pages.at_hand c.args.views.now) (g.V.Pages.total c.args.views.now) _ _ _ _ (λ changes reply done. done.few)) c.delete_row.ensures;
-  idle = IfOk-weaker c.delete_row.result _ _ (made_told (g.V.Pages.at_hand c.args.views.now) (g.V.Pages.total c.args.views.now) _ _ _ _ (λ changes reply done. done.idle)) c.delete_row.ensures;
-  broken = IfOk-weaker c.delete_row.result _ _ (broken_told (g.V.Pages.at_hand c.args.views.now) (g.V.Pages.total c.args.views.now) _ _ _) c.delete_row.ensures;
+  lock = IfOk-weaker c.delete_row.result _ _ (lock_reported (g.V.Pages.at_hand c.args.views.now) (g.V.Pages.total c.args.views.now) _ _ _) c.delete_row.ensures;
+  asks = λ room split. IfOk-weaker c.delete_row.result _ _ (asks_reported (g.V.Pages.at_hand c.args.views.now) (g.V.Pages.total c.args.views.now) _ _ _ _ (λ p mode asks. inr ((c.in-Found.name, c.in-Found.ensures.found), λ relations pages agrees m rows named. asks relations pages agrees m rows tt))) c.delete_row.ensures;
+  made = λ relations. IfOk-weaker c.delete_row.result _ _ (made_reported (g.V.Pages.at_hand c.args.views.now) (g.V.Pages.total c.args.views.now) _ _ _ _ (λ changes reply done pages agrees m rows. let d = done.does relations pages agrees m rows tt in (d.act, d.short))) c.delete_row.ensures;
+  modest = λ relations. IfOk-weaker c.delete_row.result _ _ (made_reported (g.V.Pages.at_hand c.args.views.now) (g.V.Pages.total c.args.views.now) _ _ _ _ (λ changes reply done pages agrees m rows. (done.does relations pages agrees m rows tt).modest)) c.delete_row.ensures;
+  takes = λ relations. IfOk-weaker c.delete_row.result _ _ (made_reported (g.V.Pages.at_hand c.args.views.now) (g.V.Pages.total c.args.views.now) _ _ _ _ (λ changes reply done pages agrees m rows. (done.does relations pages agrees m rows tt).keeps)) c.delete_row.ensures;
+  full = IfOk-weaker c.delete_row.result _ _ (full_reported (g.V.Pages.at_hand c.args.views.now) (g.V.Pages.total c.args.views.now) _ _ _ _ (λ no. no)) c.delete_row.ensures;
+  there = IfOk-weaker c.delete_row.result _ _ (made_reported (g.V.Pages.at_hand c.args.views.now) (g.V.Pages.total c.args.views.now) _ _ _ _ (λ changes reply done. done.there)) c.delete_row.ensures;
+  few = IfOk-weaker c.delete_row.result _ _ (made_reported (g.V.Pages.at_hand c.args.views.now) (g.V.Pages.total c.args.views.now) _ _ _ _ (λ changes reply done. done.few)) c.delete_row.ensures;
+  idle = IfOk-weaker c.delete_row.result _ _ (made_reported (g.V.Pages.at_hand c.args.views.now) (g.V.Pages.total c.args.views.now) _ _ _ _ (λ changes reply done. done.idle)) c.delete_row.ensures;
+  broken = IfOk-weaker c.delete_row.result _ _ (broken_reported (g.V.Pages.at_hand c.args.views.now) (g.V.Pages.total c.args.views.now) _ _ _) c.delete_row.ensures;
 }

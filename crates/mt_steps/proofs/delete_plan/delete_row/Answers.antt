@@ -32,15 +32,15 @@ plan_read-requires-clause-good g c = ∥∥₁_map c.requires.good (λ fact.
 pub returns-in-Need : goal.returns-in-Need
 returns-in-Need g c =
     let n = c.args.name.now in
-    let told : (relations : ℕ) (pages : PageBytes) → Agrees (g.V.Pages.at_hand c.args.views.now) pages → (m : Map) → AreRows relations (g.V.Pages.total c.args.views.now) pages m
+    let outcome : (relations : ℕ) (pages : PageBytes) → Agrees (g.V.Pages.at_hand c.args.views.now) pages → (m : Map) → AreRows relations (g.V.Pages.total c.args.views.now) pages m
     → ((g.V.Pages.at_hand c.args.views.now c.in-Need.page ≡ None) × (c.in-Need.page < g.V.Pages.total c.args.views.now)) × HasStood pages c.in-Need.page c.args.relation c.args.key.now = λ relations pages agrees m rows.
     let is = c.requires.named pages agrees m rows.index in
     let named = rows.named.names c.args.relation c.args.key.now n is in
     let need = c.in-Need.ensures pages agrees rows.file (record_kind pages n.page n.slot _ named.1) in
     let own = stands_in relations (g.V.Pages.total c.args.views.now) pages m n c.args.relation c.args.key.now c.in-Need.page rows is need.2 in
     ((need.0, own.0), own.1) in
-    let asked = lock_some (g.V.Pages.at_hand c.args.views.now) (g.V.Pages.total c.args.views.now) c.in-Need.page (∥∥₁_map c.requires.good (λ fact. let good = fact.1 in (told fact.0 good.0 good.1 good.2 good.3).0)) in
-    (asked.0, asked.1, λ relations pages agrees m rows so. inr (refl, inl (told relations pages agrees m rows).1))
+    let asked = lock_some (g.V.Pages.at_hand c.args.views.now) (g.V.Pages.total c.args.views.now) c.in-Need.page (∥∥₁_map c.requires.good (λ fact. let good = fact.1 in (outcome fact.0 good.0 good.1 good.2 good.3).0)) in
+    (asked.0, asked.1, λ relations pages agrees m rows so. inr (refl, inl (outcome relations pages agrees m rows).1))
 
 pub returns-in-Nothing : goal.returns-in-Nothing
 returns-in-Nothing g c = ∥∥₁_elim c.requires.good (hlevel props) (λ fact.
@@ -58,13 +58,13 @@ plan_remove-requires-clause-good g c = ∥∥₁_map c.requires.good (λ fact.
 pub returns-in-Need-2 : goal.returns-in-Need-2
 returns-in-Need-2 g c =
     let n = c.args.name.now in
-    let told = λ (relations : ℕ) (pages : PageBytes) (agrees : Agrees (g.V.Pages.at_hand c.args.views.now) pages) (m : Map) (rows : AreRows relations (g.V.Pages.total c.args.views.now) pages m).
+    let outcome = λ (relations : ℕ) (pages : PageBytes) (agrees : Agrees (g.V.Pages.at_hand c.args.views.now) pages) (m : Map) (rows : AreRows relations (g.V.Pages.total c.args.views.now) pages m).
     let is = c.requires.named pages agrees m rows.index in
     let named = rows.named.names c.args.relation c.args.key.now n is in
     removal_needs (g.V.Pages.at_hand c.args.views.now) relations (g.V.Pages.total c.args.views.now) pages m n c.args.relation c.args.key.now named.0 c.in-Need-2.page c.in-Need-2.mode c.in_ok-page.field-0 c.in-Need-2.is rows is named.1
     (c.in_ok-page.ensures.removal pages _ agrees rows.file named.1) in
-    let asked = lock_some (g.V.Pages.at_hand c.args.views.now) (g.V.Pages.total c.args.views.now) c.in-Need-2.page (∥∥₁_map c.requires.good (λ fact. let good = fact.1 in let t = told fact.0 good.0 good.1 good.2 good.3 in (t.0, t.1))) in
-    (asked.0, asked.1, λ relations pages agrees m rows so. (told relations pages agrees m rows).2)
+    let asked = lock_some (g.V.Pages.at_hand c.args.views.now) (g.V.Pages.total c.args.views.now) c.in-Need-2.page (∥∥₁_map c.requires.good (λ fact. let good = fact.1 in let t = outcome fact.0 good.0 good.1 good.2 good.3 in (t.0, t.1))) in
+    (asked.0, asked.1, λ relations pages agrees m rows so. (outcome relations pages agrees m rows).2)
 
 pub drop_entry-requires-clause-there : goal.drop_entry-requires-clause-there
 drop_entry-requires-clause-there g c = step_at_hand (g.V.Pages.at_hand c.args.views.now) c.in_ok-page.field-0 c.in-Done.plan c.in-Done.is c.in_ok-page.ensures.there
@@ -84,8 +84,8 @@ drop_entry-requires-clause-good g c = ∥∥₁_map c.requires.good (λ fact. (
       let n = c.args.name.now in
       let is = c.requires.named pages agrees m rows.index in
       let named = rows.named.names c.args.relation c.args.key.now n is in
-      let told = c.in-Record.ensures pages agrees rows.file (record_kind pages n.page n.slot _ named.1) in
-      let stood = named.1 ∙ ap (λ (v : List ℕ). row_of c.args.relation c.args.key.now (Some v)) (value_of _ _ _ (sym named.1 ∙ told) ∙ sym c.in_ok-old-in-Record.ensures) in
+      let outcome = c.in-Record.ensures pages agrees rows.file (record_kind pages n.page n.slot _ named.1) in
+      let stood = named.1 ∙ ap (λ (v : List ℕ). row_of c.args.relation c.args.key.now (Some v)) (value_of _ _ _ (sym named.1 ∙ outcome) ∙ sym c.in_ok-old-in-Record.ensures) in
       (is, removal_takes (g.V.Pages.at_hand c.args.views.now) pages n _ c.in_ok-page.field-0 c.in-Done.plan c.in-Done.is (c.in_ok-page.ensures.removal pages _ agrees rows.file named.1) (c.in_ok-page.ensures.short pages _ agrees rows.file named.1) stood),
 ))
 
@@ -97,8 +97,8 @@ returns g c =
     let taken : (relations : ℕ) (pages : PageBytes) → Agrees at_hand pages → (m : Map) → AreRows relations total pages m → HasTaken c.in-Done.plan.changes.list.items n (record { relation = c.args.relation; key = c.args.key.now; value = c.in_ok-old-in-Record.old }) relations pages m = λ relations pages agrees m rows.
     let is = c.requires.named pages agrees m rows.index in
     let named = rows.named.names c.args.relation c.args.key.now n is in
-    let told = c.in-Record.ensures pages agrees rows.file (record_kind pages n.page n.slot _ named.1) in
-    let stood = named.1 ∙ ap (λ (v : List ℕ). row_of c.args.relation c.args.key.now (Some v)) (value_of _ _ _ (sym named.1 ∙ told) ∙ sym c.in_ok-old-in-Record.ensures) in (
+    let outcome = c.in-Record.ensures pages agrees rows.file (record_kind pages n.page n.slot _ named.1) in
+    let stood = named.1 ∙ ap (λ (v : List ℕ). row_of c.args.relation c.args.key.now (Some v)) (value_of _ _ _ (sym named.1 ∙ outcome) ∙ sym c.in_ok-old-in-Record.ensures) in (
       is,
       removal_takes at_hand pages n _ c.in_ok-page.field-0 c.in-Done.plan c.in-Done.is (c.in_ok-page.ensures.removal pages _ agrees rows.file named.1) (c.in_ok-page.ensures.short pages _ agrees rows.file named.1) stood,
     ) in

@@ -33,8 +33,8 @@ returns-in-Missing g c = ∥∥₁_elim c.requires.good (hlevel props) (λ fact.
     let good = fact.1 in
     let placed = fact.2 good.0 good.1 good.2 good.3 in
     let copies = c.in_ok-overlay.overlay.copies.items in
-    let told = subst (λ x. InMaps (shown copies (g.V.Pages.at_hand x)) (g.V.Pages.total x) (λ pages m. m c.args.relation c.args.key.now ≡ None)) c.in_ok-overlay.ensures.views (amend_missing_is _ c.in_ok-page.field-0 c.in-Missing.is c.in_ok-page.ensures.missing) in
-    none_some _ (sym (told (after c.args.first.list.items good.0) (c.in_ok-overlay.ensures.agrees good.0 good.1) good.2
+    let outcome = subst (λ x. InMaps (shown copies (g.V.Pages.at_hand x)) (g.V.Pages.total x) (λ pages m. m c.args.relation c.args.key.now ≡ None)) c.in_ok-overlay.ensures.views (amend_missing_is _ c.in_ok-page.field-0 c.in-Missing.is c.in_ok-page.ensures.missing) in
+    none_some _ (sym (outcome (after c.args.first.list.items good.0) (c.in_ok-overlay.ensures.agrees good.0 good.1) good.2
     (taken_map fact.0 (g.V.Pages.total c.args.views.now) good.0 good.2 c.args.first.list.items c.args.name.now _ good.3 placed.1)) ∙ placed.0))
 
 pub returns-in-Endless : goal.returns-in-Endless
@@ -42,8 +42,8 @@ returns-in-Endless g c = ∥∥₁_elim c.requires.good (hlevel props) (λ fact.
     let good = fact.1 in
     let placed = fact.2 good.0 good.1 good.2 good.3 in
     let copies = c.in_ok-overlay.overlay.copies.items in
-    let told = subst (λ x. InMaps (shown copies (g.V.Pages.at_hand x)) (g.V.Pages.total x) (λ pages m. ⊥)) c.in_ok-overlay.ensures.views (amend_endless_is _ c.in_ok-page.field-0 c.in-Endless.is c.in_ok-page.ensures.endless) in
-    told (after c.args.first.list.items good.0) (c.in_ok-overlay.ensures.agrees good.0 good.1) good.2
+    let outcome = subst (λ x. InMaps (shown copies (g.V.Pages.at_hand x)) (g.V.Pages.total x) (λ pages m. ⊥)) c.in_ok-overlay.ensures.views (amend_endless_is _ c.in_ok-page.field-0 c.in-Endless.is c.in_ok-page.ensures.endless) in
+    outcome (after c.args.first.list.items good.0) (c.in_ok-overlay.ensures.agrees good.0 good.1) good.2
     (taken_map fact.0 (g.V.Pages.total c.args.views.now) good.0 good.2 c.args.first.list.items c.args.name.now _ good.3 placed.1))
 
 pub overlay_of-requires-clause-short : goal.overlay_of-requires-clause-short
@@ -54,9 +54,9 @@ join-requires-clause-short g c = ∥∥₁_map c.requires.good (λ fact.
     let good = fact.1 in
     let placed = fact.2 good.0 good.1 good.2 good.3 in
     let copies = c.in_ok-overlay.overlay.copies.items in
-    let told = subst (λ x. InMaps (shown copies (g.V.Pages.at_hand x)) (g.V.Pages.total x) (λ pages m. Amends (g.V.Pages.total x) pages c.in-Changes.second.list.items m c.args.relation c.args.key.now None)) c.in_ok-overlay.ensures.views
+    let outcome = subst (λ x. InMaps (shown copies (g.V.Pages.at_hand x)) (g.V.Pages.total x) (λ pages m. Amends (g.V.Pages.total x) pages c.in-Changes.second.list.items m c.args.relation c.args.key.now None)) c.in_ok-overlay.ensures.views
     (amended_is _ c.in_ok-page.field-0 c.in-Changes.second c.in-Changes.is c.in_ok-page.ensures.dropped) in
-    let amends = told (after c.args.first.list.items good.0) (c.in_ok-overlay.ensures.agrees good.0 good.1) good.2
+    let amends = outcome (after c.args.first.list.items good.0) (c.in_ok-overlay.ensures.agrees good.0 good.1) good.2
     (taken_map fact.0 (g.V.Pages.total c.args.views.now) good.0 good.2 c.args.first.list.items c.args.name.now _ good.3 placed.1) in
     (good.0, good.1, placed.1.short, amends.short))
 
@@ -87,13 +87,13 @@ returns-in-Changes g c =
     let first = c.args.first.list.items in
     let second = c.in-Changes.second.list.items in
     let copies = c.in_ok-overlay.overlay.copies.items in
-    let told = subst (λ x. InMaps (shown copies (g.V.Pages.at_hand x)) (g.V.Pages.total x) (λ pages m. Amends (g.V.Pages.total x) pages second m c.args.relation c.args.key.now None)) c.in_ok-overlay.ensures.views
+    let outcome = subst (λ x. InMaps (shown copies (g.V.Pages.at_hand x)) (g.V.Pages.total x) (λ pages m. Amends (g.V.Pages.total x) pages second m c.args.relation c.args.key.now None)) c.in_ok-overlay.ensures.views
     (amended_is _ c.in_ok-page.field-0 c.in-Changes.second c.in-Changes.is c.in_ok-page.ensures.dropped) in
-    let told_formed = subst (λ x. InMaps (shown copies (g.V.Pages.at_hand x)) (g.V.Pages.total x) (λ pages m. (relations : ℕ) → AreFormed relations (g.V.Pages.total x) pages → AreFormed relations (g.V.Pages.total x) (after second pages))) c.in_ok-overlay.ensures.views
+    let reported_formed = subst (λ x. InMaps (shown copies (g.V.Pages.at_hand x)) (g.V.Pages.total x) (λ pages m. (relations : ℕ) → AreFormed relations (g.V.Pages.total x) pages → AreFormed relations (g.V.Pages.total x) (after second pages))) c.in_ok-overlay.ensures.views
     (amended_is _ c.in_ok-page.field-0 c.in-Changes.second c.in-Changes.is c.in_ok-page.ensures.formed) in
     let one : length second ≤ 1 = ∥∥₁_elim c.requires.good (hlevel props) (λ fact.
     let good = fact.1 in
-    (told (after first good.0) (c.in_ok-overlay.ensures.agrees good.0 good.1) good.2 (taken_map fact.0 total good.0 good.2 first c.args.name.now _ good.3 (fact.2 good.0 good.1 good.2 good.3).1)).one) in
+    (outcome (after first good.0) (c.in_ok-overlay.ensures.agrees good.0 good.1) good.2 (taken_map fact.0 total good.0 good.2 first c.args.name.now _ good.3 (fact.2 good.0 good.1 good.2 good.3).1)).one) in
     IfOk-weaker c.join.result _ _ (tells_weaker at_hand total _ _ _ _ ⊥ ⊥ (λ p mode never. absurd never) (λ changes reply joined. record {
       there = joined.there;
       few = few_more _ _ _ 1 1 8 joined.few c.requires.few one (omega arith);
@@ -104,8 +104,8 @@ returns-in-Changes g c =
           let taken = so.1 in
           let between = taken_map relations total pages m first c.args.name.now _ rows taken in
           let overlay_agrees = c.in_ok-overlay.ensures.agrees pages agrees in
-          let amends = told mid overlay_agrees m between in
-          let formed = told_formed mid overlay_agrees m between relations (taken_form relations total pages m first c.args.name.now _ rows taken) in
+          let amends = outcome mid overlay_agrees m between in
+          let formed = reported_formed mid overlay_agrees m between relations (taken_form relations total pages m first c.args.name.now _ rows taken) in
           let modest = modest_trans at_hand total 0 0 false pages mid last (taken_modest at_hand relations total false pages m first c.args.name.now _ rows c.requires.seen taken)
           (amended_modest at_hand total false mid last m between amends.others) in
           let led = joined.leads pages agrees in record {

@@ -76,14 +76,14 @@ returns-in-Need-plan_read g c = record {
   lock = ∥∥₁_elim c.requires.good (hlevel props) (λ fact.
       let good = fact.1 in
       let named = good.3.named.names c.args.relation c.args.key.now c.in-Found.name (c.in-Found.ensures.found good.0 good.1 good.2 good.3.index) in
-      let told = c.in-Need-plan_read.ensures good.0 good.1 good.3.file (record_kind good.0 c.in-Found.name.page c.in-Found.name.slot _ named.1) in
-      (told.0, kind_inside (g.V.Pages.total c.args.views.now) good.0 good.2 c.in-Need-plan_read.page 3 good.3.index (ap (λ (p : ℕ). kind good.0 p) told.2 ∙ record_kind good.0 c.in-Found.name.page c.in-Found.name.slot _ named.1) (omega arith)));
+      let outcome = c.in-Need-plan_read.ensures good.0 good.1 good.3.file (record_kind good.0 c.in-Found.name.page c.in-Found.name.slot _ named.1) in
+      (outcome.0, kind_inside (g.V.Pages.total c.args.views.now) good.0 good.2 c.in-Need-plan_read.page 3 good.3.index (ap (λ (p : ℕ). kind good.0 p) outcome.2 ∙ record_kind good.0 c.in-Found.name.page c.in-Found.name.slot _ named.1) (omega arith)));
   asks = λ room split.
-      let told : (g.V.Pages.at_hand c.args.views.now c.in-Need-plan_read.page ≡ None) × (c.in-Need-plan_read.mode ≡ Read) × (c.in-Need-plan_read.page ≡ c.in-Found.name.page) = ∥∥₁_elim c.requires.good (hlevel props) (λ fact.
+      let outcome : (g.V.Pages.at_hand c.args.views.now c.in-Need-plan_read.page ≡ None) × (c.in-Need-plan_read.mode ≡ Read) × (c.in-Need-plan_read.page ≡ c.in-Found.name.page) = ∥∥₁_elim c.requires.good (hlevel props) (λ fact.
       let good = fact.1 in
       let named = good.3.named.names c.args.relation c.args.key.now c.in-Found.name (c.in-Found.ensures.found good.0 good.1 good.2 good.3.index) in
       c.in-Need-plan_read.ensures good.0 good.1 good.3.file (record_kind good.0 c.in-Found.name.page c.in-Found.name.slot _ named.1)) in
-      inr (c.in-Found.name.slot, λ pages agrees m maps. c.in-Found.ensures.found pages agrees m maps ∙ ap (λ (p : ℕ). Some (record { page = p; slot = c.in-Found.name.slot })) (sym told.2), told.1);
+      inr (c.in-Found.name.slot, λ pages agrees m maps. c.in-Found.ensures.found pages agrees m maps ∙ ap (λ (p : ℕ). Some (record { page = p; slot = c.in-Found.name.slot })) (sym outcome.2), outcome.1);
   mode = ∥∥₁_elim c.requires.good (hlevel props) (λ fact.
       let good = fact.1 in
       let named = good.3.named.names c.args.relation c.args.key.now c.in-Found.name (c.in-Found.ensures.found good.0 good.1 good.2 good.3.index) in
@@ -104,8 +104,8 @@ returns-in_ok-value-in-Record g c = record {
       let name = c.in-Found.name in
       let is = c.in-Found.ensures.found pages agrees m rows.index in
       let named = rows.named.names c.args.relation c.args.key.now name is in
-      let told = c.in-Record.ensures pages agrees rows.file (record_kind pages name.page name.slot _ named.1) in
-      let same : named.0 ≡ c.in-Record.row.value.now = value_of _ _ _ (sym named.1 ∙ told) in
+      let outcome = c.in-Record.ensures pages agrees rows.file (record_kind pages name.page name.slot _ named.1) in
+      let same : named.0 ≡ c.in-Record.row.value.now = value_of _ _ _ (sym named.1 ∙ outcome) in
       nothing_changes relations (g.V.Pages.total c.args.views.now) pages c.new-in-Record.result.list.items _ _ c.new-in-Record.ensures
       (row_act relations (g.V.Pages.total c.args.views.now) pages pages m (Get c.args.relation c.args.key.now) (Found c.in_ok-value-in-Record.value) (counters_refl (g.V.Pages.total c.args.views.now) pages rows.map) (λ b. refl)
       (λ b held. ap found (value_held pages m b name c.args.relation c.args.key.now named.0 held named.1) ∙ ap Found (same ∙ sym c.in_ok-value-in-Record.ensures))
@@ -129,6 +129,6 @@ returns-in-Nothing g c = record {
       let good = fact.1 in
       let name = c.in-Found.name in
       let named = good.3.named.names c.args.relation c.args.key.now name (c.in-Found.ensures.found good.0 good.1 good.2 good.3.index) in
-      let told = c.in-Nothing.ensures good.0 good.1 good.3.file (record_kind good.0 name.page name.slot _ named.1) in
-      no_row _ (sym told ∙ named.1));
+      let outcome = c.in-Nothing.ensures good.0 good.1 good.3.file (record_kind good.0 name.page name.slot _ named.1) in
+      no_row _ (sym outcome ∙ named.1));
 }

@@ -28,8 +28,8 @@ returns-in-Endless g c = λ value. ∥∥₁_elim c.requires.good (hlevel props)
     let good = fact.3 in
     let placed = fact.4 good.0 good.1 good.2 good.3 good.4 in
     let copies = c.in_ok-overlay.overlay.copies.items in
-    let told = subst (λ x. InMaps (shown copies (g.V.Pages.at_hand x)) (g.V.Pages.total x) (λ pages m. ⊥)) c.in_ok-overlay.ensures.views (endless_is _ c.in_ok-page.field-0 c.in-Endless.is c.in_ok-page.ensures.endless) in
-    told (after c.args.plan.changes.list.items good.0) (c.in_ok-overlay.ensures.agrees good.0 good.1) good.2
+    let outcome = subst (λ x. InMaps (shown copies (g.V.Pages.at_hand x)) (g.V.Pages.total x) (λ pages m. ⊥)) c.in_ok-overlay.ensures.views (endless_is _ c.in_ok-page.field-0 c.in-Endless.is c.in_ok-page.ensures.endless) in
+    outcome (after c.args.plan.changes.list.items good.0) (c.in_ok-overlay.ensures.agrees good.0 good.1) good.2
     (placed_map fact.0 (g.V.Pages.total c.args.views.now) good.0 good.2 c.args.plan.changes.list.items c.args.plan.name _ good.3 placed))
 
 pub overlay_of-requires-clause-short : goal.overlay_of-requires-clause-short
@@ -41,9 +41,9 @@ join-requires-clause-short g c = ∥∥₁_map c.requires.good (λ fact.
     let placed = fact.4 good.0 good.1 good.2 good.3 good.4 in
     let copies = c.in_ok-overlay.overlay.copies.items in
     let e : Entry = record { relation = c.args.relation; key = c.args.key.now; name = c.args.plan.name } in
-    let told = subst (λ x. InMaps (shown copies (g.V.Pages.at_hand x)) (g.V.Pages.total x) (λ pages m. Adds c.args.split (g.V.Pages.total x) e pages c.in-Changes.changes.list.items)) c.in_ok-overlay.ensures.views
+    let outcome = subst (λ x. InMaps (shown copies (g.V.Pages.at_hand x)) (g.V.Pages.total x) (λ pages m. Adds c.args.split (g.V.Pages.total x) e pages c.in-Changes.changes.list.items)) c.in_ok-overlay.ensures.views
     (added_is _ c.in_ok-page.field-0 c.in-Changes.changes c.in-Changes.is c.in_ok-page.ensures.added) in
-    let adds = told (after c.args.plan.changes.list.items good.0) (c.in_ok-overlay.ensures.agrees good.0 good.1) good.2
+    let adds = outcome (after c.args.plan.changes.list.items good.0) (c.in_ok-overlay.ensures.agrees good.0 good.1) good.2
     (placed_map fact.0 (g.V.Pages.total c.args.views.now) good.0 good.2 c.args.plan.changes.list.items c.args.plan.name _ good.3 placed) in
     (good.0, good.1, placed.short, adds.short))
 
@@ -97,15 +97,15 @@ returns-in-Changes g c = λ value.
     let second = c.in-Changes.changes.list.items in
     let copies = c.in_ok-overlay.overlay.copies.items in
     let e : Entry = record { relation = c.args.relation; key = c.args.key.now; name = name } in
-    let told = subst (λ x. InMaps (shown copies (g.V.Pages.at_hand x)) (g.V.Pages.total x) (λ pages m. Adds c.args.split (g.V.Pages.total x) e pages second)) c.in_ok-overlay.ensures.views
+    let outcome = subst (λ x. InMaps (shown copies (g.V.Pages.at_hand x)) (g.V.Pages.total x) (λ pages m. Adds c.args.split (g.V.Pages.total x) e pages second)) c.in_ok-overlay.ensures.views
     (added_is _ c.in_ok-page.field-0 c.in-Changes.changes c.in-Changes.is c.in_ok-page.ensures.added) in
-    let told_map = subst (λ x. InMaps (shown copies (g.V.Pages.at_hand x)) (g.V.Pages.total x) (λ pages m. m c.args.relation c.args.key.now ≡ None → AreMap (g.V.Pages.total x) (after second pages) (alter m c.args.relation c.args.key.now (Some name)))) c.in_ok-overlay.ensures.views
+    let reported_map = subst (λ x. InMaps (shown copies (g.V.Pages.at_hand x)) (g.V.Pages.total x) (λ pages m. m c.args.relation c.args.key.now ≡ None → AreMap (g.V.Pages.total x) (after second pages) (alter m c.args.relation c.args.key.now (Some name)))) c.in_ok-overlay.ensures.views
     (added_is _ c.in_ok-page.field-0 c.in-Changes.changes c.in-Changes.is c.in_ok-page.ensures.map) in
-    let told_seen = subst (λ x. InMaps (shown copies (g.V.Pages.at_hand x)) (g.V.Pages.total x) (λ pages m. TakesSeen (shown copies (g.V.Pages.at_hand x)) pages second)) c.in_ok-overlay.ensures.views
+    let reported_seen = subst (λ x. InMaps (shown copies (g.V.Pages.at_hand x)) (g.V.Pages.total x) (λ pages m. TakesSeen (shown copies (g.V.Pages.at_hand x)) pages second)) c.in_ok-overlay.ensures.views
     (added_is _ c.in_ok-page.field-0 c.in-Changes.changes c.in-Changes.is c.in_ok-page.ensures.seen) in
     let few : length second ≤ 5 = ∥∥₁_elim c.requires.good (hlevel props) (λ fact.
     let good = fact.3 in
-    (told (after first good.0) (c.in_ok-overlay.ensures.agrees good.0 good.1) good.2 (placed_map fact.0 total good.0 good.2 first name _ good.3 (fact.4 good.0 good.1 good.2 good.3 good.4))).few) in
+    (outcome (after first good.0) (c.in_ok-overlay.ensures.agrees good.0 good.1) good.2 (placed_map fact.0 total good.0 good.2 first name _ good.3 (fact.4 good.0 good.1 good.2 good.3 good.4))).few) in
     IfOk-weaker c.join.result _ _ (tells_weaker at_hand total _ _ _ _ ⊥ _ (λ p mode never. absurd never) (λ changes reply joined. record {
       there = joined.there;
       few = few_more _ _ _ 2 5 8 joined.few c.requires.few few (omega arith);
@@ -116,9 +116,9 @@ returns-in-Changes g c = λ value.
           let placed = so.2 in
           let between = placed_map relations total pages m first name _ rows placed in
           let overlay_agrees = c.in_ok-overlay.ensures.agrees pages agrees in
-          let adds = told mid overlay_agrees m between in
-          let map = told_map mid overlay_agrees m between so.1 in
-          let seen = told_seen mid overlay_agrees m between in
+          let adds = outcome mid overlay_agrees m between in
+          let map = reported_map mid overlay_agrees m between so.1 in
+          let seen = reported_seen mid overlay_agrees m between in
           let led = joined.leads pages agrees in record {
             act = subst (λ (next : PageBytes). IsAct relations total pages next (Insert c.args.relation c.args.key.now value) reply) (sym led.0)
                 (entered relations total c.args.split pages last m first name c.args.relation c.args.key.now value reply rows so.1 so.0 placed map adds.added joined.same);

@@ -7,7 +7,7 @@ use Rattle.mt_model.specs.declared.operations.Op.TheVariants.{Insert}
 use Rattle.mt_model.specs.declared.operations.Reply.TheVariants.{Exists}
 use Rattle.mt_base.specs.declared.modes.Mode.TheVariants.{Read}
 use Rattle.std.proofs.lemmas.Result.{IfOk-weaker}
-use Rattle.mt_steps.proofs.Telling.{lock_told, asks_told, made_told, full_told, broken_told}
+use Rattle.mt_steps.proofs.Telling.{lock_reported, asks_reported, made_reported, full_reported, broken_reported}
 use Rattle.mt_steps.proofs.Naming.{quiet_none, none_takes}
 use Rattle.mt_steps.proofs.Asking.{bucket_inside, looks_to_write}
 use Rattle.mt_steps.proofs.Modest.{modest_nothing}
@@ -67,14 +67,14 @@ returns-in-Need g c = record {
 
 pub returns-in-Missing : goal.returns-in-Missing
 returns-in-Missing g c = record {
-  lock = IfOk-weaker c.insert_new.result _ _ (lock_told (g.V.Pages.at_hand c.args.views.now) (g.V.Pages.total c.args.views.now) _ _ _) c.insert_new.ensures;
-  asks = IfOk-weaker c.insert_new.result _ _ (asks_told (g.V.Pages.at_hand c.args.views.now) (g.V.Pages.total c.args.views.now) _ _ _ _ (λ p mode asks. inr (c.in-Missing.ensures.missing, asks))) c.insert_new.ensures;
-  made = λ relations fits. IfOk-weaker c.insert_new.result _ _ (made_told (g.V.Pages.at_hand c.args.views.now) (g.V.Pages.total c.args.views.now) _ _ _ _ (λ changes reply done pages agrees m rows named. let d = done.does relations pages agrees m rows (fits, named) in (d.act, d.short))) c.insert_new.ensures;
-  there = IfOk-weaker c.insert_new.result _ _ (made_told (g.V.Pages.at_hand c.args.views.now) (g.V.Pages.total c.args.views.now) _ _ _ _ (λ changes reply done. done.there)) c.insert_new.ensures;
-  few = IfOk-weaker c.insert_new.result _ _ (made_told (g.V.Pages.at_hand c.args.views.now) (g.V.Pages.total c.args.views.now) _ _ _ _ (λ changes reply done. done.few)) c.insert_new.ensures;
-  idle = IfOk-weaker c.insert_new.result _ _ (made_told (g.V.Pages.at_hand c.args.views.now) (g.V.Pages.total c.args.views.now) _ _ _ _ (λ changes reply done. done.idle)) c.insert_new.ensures;
-  modest = λ relations fits. IfOk-weaker c.insert_new.result _ _ (made_told (g.V.Pages.at_hand c.args.views.now) (g.V.Pages.total c.args.views.now) _ _ _ _ (λ changes reply done pages agrees m rows named. (done.does relations pages agrees m rows (fits, named)).modest)) c.insert_new.ensures;
-  takes = λ relations fits. IfOk-weaker c.insert_new.result _ _ (made_told (g.V.Pages.at_hand c.args.views.now) (g.V.Pages.total c.args.views.now) _ _ _ _ (λ changes reply done pages agrees m rows named. (done.does relations pages agrees m rows (fits, named)).keeps)) c.insert_new.ensures;
-  full = λ relations. IfOk-weaker c.insert_new.result _ _ (full_told (g.V.Pages.at_hand c.args.views.now) (g.V.Pages.total c.args.views.now) _ _ _ _ (λ full. full relations)) c.insert_new.ensures;
-  broken = IfOk-weaker c.insert_new.result _ _ (broken_told (g.V.Pages.at_hand c.args.views.now) (g.V.Pages.total c.args.views.now) _ _ _) c.insert_new.ensures;
+  lock = IfOk-weaker c.insert_new.result _ _ (lock_reported (g.V.Pages.at_hand c.args.views.now) (g.V.Pages.total c.args.views.now) _ _ _) c.insert_new.ensures;
+  asks = IfOk-weaker c.insert_new.result _ _ (asks_reported (g.V.Pages.at_hand c.args.views.now) (g.V.Pages.total c.args.views.now) _ _ _ _ (λ p mode asks. inr (c.in-Missing.ensures.missing, asks))) c.insert_new.ensures;
+  made = λ relations fits. IfOk-weaker c.insert_new.result _ _ (made_reported (g.V.Pages.at_hand c.args.views.now) (g.V.Pages.total c.args.views.now) _ _ _ _ (λ changes reply done pages agrees m rows named. let d = done.does relations pages agrees m rows (fits, named) in (d.act, d.short))) c.insert_new.ensures;
+  there = IfOk-weaker c.insert_new.result _ _ (made_reported (g.V.Pages.at_hand c.args.views.now) (g.V.Pages.total c.args.views.now) _ _ _ _ (λ changes reply done. done.there)) c.insert_new.ensures;
+  few = IfOk-weaker c.insert_new.result _ _ (made_reported (g.V.Pages.at_hand c.args.views.now) (g.V.Pages.total c.args.views.now) _ _ _ _ (λ changes reply done. done.few)) c.insert_new.ensures;
+  idle = IfOk-weaker c.insert_new.result _ _ (made_reported (g.V.Pages.at_hand c.args.views.now) (g.V.Pages.total c.args.views.now) _ _ _ _ (λ changes reply done. done.idle)) c.insert_new.ensures;
+  modest = λ relations fits. IfOk-weaker c.insert_new.result _ _ (made_reported (g.V.Pages.at_hand c.args.views.now) (g.V.Pages.total c.args.views.now) _ _ _ _ (λ changes reply done pages agrees m rows named. (done.does relations pages agrees m rows (fits, named)).modest)) c.insert_new.ensures;
+  takes = λ relations fits. IfOk-weaker c.insert_new.result _ _ (made_reported (g.V.Pages.at_hand c.args.views.now) (g.V.Pages.total c.args.views.now) _ _ _ _ (λ changes reply done pages agrees m rows named. (done.does relations pages agrees m rows (fits, named)).keeps)) c.insert_new.ensures;
+  full = λ relations. IfOk-weaker c.insert_new.result _ _ (full_reported (g.V.Pages.at_hand c.args.views.now) (g.V.Pages.total c.args.views.now) _ _ _ _ (λ full. full relations)) c.insert_new.ensures;
+  broken = IfOk-weaker c.insert_new.result _ _ (broken_reported (g.V.Pages.at_hand c.args.views.now) (g.V.Pages.total c.args.views.now) _ _ _) c.insert_new.ensures;
 }

@@ -35,10 +35,10 @@ pub returns-in-Need : goal.returns-in-Need
 returns-in-Need g c =
     let at_hand = g.V.Pages.at_hand c.args.views.now in
     let total = g.V.Pages.total c.args.views.now in
-    let told = λ (relations : ℕ) (pages : PageBytes) (agrees : Agrees at_hand pages) (m : Map) (rows : AreRows relations total pages m) (named : IsNamed c.args.room pages).
+    let outcome = λ (relations : ℕ) (pages : PageBytes) (agrees : Agrees at_hand pages) (m : Map) (rows : AreRows relations total pages m) (named : IsNamed c.args.room pages).
     put_needs at_hand c.args.room total pages m _ c.in-Need.page c.in-Need.mode c.in_ok-page.field-0 c.in-Need.is rows.index named (c.in_ok-page.ensures.put pages agrees rows.file named) in
-    let asked = lock_some at_hand total c.in-Need.page (∥∥₁_map c.requires.good (λ fact. let good = fact.1 in let t = told fact.0 good.0 good.1 good.2 good.3 good.4 in (t.0, t.1))) in
-    (asked.0, asked.1, λ relations pages agrees m rows named. inl (told relations pages agrees m rows named).2)
+    let asked = lock_some at_hand total c.in-Need.page (∥∥₁_map c.requires.good (λ fact. let good = fact.1 in let t = outcome fact.0 good.0 good.1 good.2 good.3 good.4 in (t.0, t.1))) in
+    (asked.0, asked.1, λ relations pages agrees m rows named. inl (outcome relations pages agrees m rows named).2)
 
 pub add_entry-requires-clause-there : goal.add_entry-requires-clause-there
 add_entry-requires-clause-there g c = step_at_hand (g.V.Pages.at_hand c.args.views.now) c.in_ok-page.field-0 c.in-Done.plan c.in-Done.is c.in_ok-page.ensures.there
@@ -47,8 +47,8 @@ pub returns-in-Full : goal.returns-in-Full
 returns-in-Full g c = λ relations pages agrees m rows named.
     let total = g.V.Pages.total c.args.views.now in
     let row : Row = record { relation = c.args.relation; key = c.args.key.now; value = c.args.value.now } in
-    let told = subst (λ (x : Step). IsPut (g.V.Pages.at_hand c.args.views.now) c.args.room total [] pages row x) c.in-Full.is (c.in_ok-page.ensures.put pages agrees rows.file named) in
-    ⊎_elim (λ none. let needs = insert_needs c.args.split in inl (omega (arith, none, needs))) (λ tight. inr tight) (too_full c.args.room total _ pages told)
+    let outcome = subst (λ (x : Step). IsPut (g.V.Pages.at_hand c.args.views.now) c.args.room total [] pages row x) c.in-Full.is (c.in_ok-page.ensures.put pages agrees rows.file named) in
+    ⊎_elim (λ none. let needs = insert_needs c.args.split in inl (omega (arith, none, needs))) (λ tight. inr tight) (too_full c.args.room total _ pages outcome)
 
 pub returns : goal.returns
 returns g c =
@@ -58,8 +58,8 @@ returns g c =
     placed_is at_hand c.args.room relations total pages m _ c.in_ok-page.field-0 c.in-Done.plan c.in-Done.is rows named
     (c.in_ok-page.ensures.put pages agrees rows.file named) (c.in_ok-page.ensures.short pages agrees rows.file named) in
     IfOk-weaker c.add_entry.result _ _ (tells_weaker at_hand total _ _ _ _ _ _ (λ p mode asks relations pages agrees m rows named.
-    let told = subst (λ (x : Step). IsPut at_hand c.args.room total [] pages (record { relation = c.args.relation; key = c.args.key.now; value = c.args.value.now }) x) c.in-Done.is (c.in_ok-page.ensures.put pages agrees rows.file named) in
-    inr (after c.in-Done.plan.changes.list.items pages, (c.in-Done.plan.name, told.1, told.0), asks relations pages agrees m rows (put relations pages agrees m rows named)))
+    let outcome = subst (λ (x : Step). IsPut at_hand c.args.room total [] pages (record { relation = c.args.relation; key = c.args.key.now; value = c.args.value.now }) x) c.in-Done.is (c.in_ok-page.ensures.put pages agrees rows.file named) in
+    inr (after c.in-Done.plan.changes.list.items pages, (c.in-Done.plan.name, outcome.1, outcome.0), asks relations pages agrees m rows (put relations pages agrees m rows named)))
     (λ changes reply done. record {
       there = done.there;
       few = done.few;

@@ -10,11 +10,11 @@ pub returns-clause-counts : goal.returns-clause-counts
 returns-clause-counts c =
     let page = c.args.page.now in
     let bounds = c.in_ok-bounds.bounds.items in
-    let are : AreBounds page (get_or page 1 0) bounds = subst (λ (n : ℕ). AreBounds page n bounds) c.sizes-told.ensures.counters c.in_ok-bounds.ensures in
+    let are : AreBounds page (get_or page 1 0) bounds = subst (λ (n : ℕ). AreBounds page n bounds) c.sizes-outcome.ensures.counters c.in_ok-bounds.ensures in
     if_ok_map c.new.result (λ base same number lt. counted page (get_or page 1 0) bounds (counters_of base) (same ∙ ap (map started) c.as_slice.ensures.value) are number lt) c.new.ensures.counters
 
-pub sizes-told-requires : goal.sizes-told-requires
-sizes-told-requires c = grind (arith, common_steps)
+pub sizes-outcome-requires : goal.sizes-outcome-requires
+sizes-outcome-requires c = grind (arith, common_steps)
 
 pub returns-clause-rows : goal.returns-clause-rows
 returns-clause-rows c = grind (arith, common_steps)

@@ -9,7 +9,7 @@ use Rattle.mt_steps.specs.Acts.{IfLock}
 use Rattle.mt_steps.specs.Asks.{AsksFor}
 use Rattle.mt_steps.proofs.Promised.{ok_both, asks_same, lock_both, rows_planned, whole_planned, good_planned, quiet_planned, counts_planned, read_planned, rows_full, never_full}
 use Rattle.mt_steps.proofs.Telling.{two_inside}
-use Rattle.mt_steps.proofs.Naming.{roomy_told, none_told, quiet_told}
+use Rattle.mt_steps.proofs.Naming.{roomy_reported, none_reported, quiet_reported}
 use Rattle.mt_steps.proofs.Single.{IsStep-prop}
 use Rattle.mt_steps.proofs.operation_plan.plan.Goals as goal
 
@@ -196,7 +196,7 @@ returns-in-Insert-clause-takes g c = λ relations counters few within.
     let is : Insert c.in-Insert.relation c.as_slice-in-Insert.result.now c.as_slice-in-Insert-2.result.now ≡ c.args.op.now =
     (λ i. Insert c.in-Insert.relation (c.as_slice-in-Insert.ensures i) (c.as_slice-in-Insert-2.ensures i)) ∙ sym c.in-Insert.is in
     let inside = subst (λ (o : Op). IsWithin relations counters o) (sym is) within in
-    IfOk-weaker c.insert.result _ _ (λ act. roomy_told relations counters (g.V.Pages.total c.args.views.now) (g.V.Pages.at_hand c.args.views.now) c.args.room c.args.op.now _ act is)
+    IfOk-weaker c.insert.result _ _ (λ act. roomy_reported relations counters (g.V.Pages.total c.args.views.now) (g.V.Pages.at_hand c.args.views.now) c.args.room c.args.op.now _ act is)
     (c.insert.ensures.takes relations (record { relation = inside.0; key = inside.1; value = inside.2 }))
 
 pub returns-in-Update-clause-takes : goal.returns-in-Update-clause-takes
@@ -204,24 +204,24 @@ returns-in-Update-clause-takes g c = λ relations counters few within.
     let is : Update c.in-Update.relation c.as_slice-in-Update.result.now c.as_slice-in-Update-2.result.now ≡ c.args.op.now =
     (λ i. Update c.in-Update.relation (c.as_slice-in-Update.ensures i) (c.as_slice-in-Update-2.ensures i)) ∙ sym c.in-Update.is in
     let inside = subst (λ (o : Op). IsWithin relations counters o) (sym is) within in
-    IfOk-weaker c.update.result _ _ (λ act. roomy_told relations counters (g.V.Pages.total c.args.views.now) (g.V.Pages.at_hand c.args.views.now) c.args.room c.args.op.now _ act is)
+    IfOk-weaker c.update.result _ _ (λ act. roomy_reported relations counters (g.V.Pages.total c.args.views.now) (g.V.Pages.at_hand c.args.views.now) c.args.room c.args.op.now _ act is)
     (c.update.ensures.takes relations (record { relation = inside.0; key = inside.1; value = inside.2 }))
 
 pub returns-in-Delete-clause-takes : goal.returns-in-Delete-clause-takes
 returns-in-Delete-clause-takes g c = λ relations counters few within.
-    IfOk-weaker c.delete.result _ _ (λ act. none_told relations counters (g.V.Pages.total c.args.views.now) (g.V.Pages.at_hand c.args.views.now) c.args.room c.args.op.now act) (c.delete.ensures.takes relations)
+    IfOk-weaker c.delete.result _ _ (λ act. none_reported relations counters (g.V.Pages.total c.args.views.now) (g.V.Pages.at_hand c.args.views.now) c.args.room c.args.op.now act) (c.delete.ensures.takes relations)
 
 pub returns-in-Add-clause-takes : goal.returns-in-Add-clause-takes
 returns-in-Add-clause-takes g c = λ relations counters few within.
-    IfOk-weaker c.add_to.result _ _ (λ act. none_told relations counters (g.V.Pages.total c.args.views.now) (g.V.Pages.at_hand c.args.views.now) c.args.room c.args.op.now act) (c.add_to.ensures.takes relations)
+    IfOk-weaker c.add_to.result _ _ (λ act. none_reported relations counters (g.V.Pages.total c.args.views.now) (g.V.Pages.at_hand c.args.views.now) c.args.room c.args.op.now act) (c.add_to.ensures.takes relations)
 
 pub returns-in-Get-clause-takes : goal.returns-in-Get-clause-takes
 returns-in-Get-clause-takes g c = λ relations counters few within.
-    IfOk-weaker c.get.result _ _ (λ act. quiet_told relations counters (g.V.Pages.total c.args.views.now) (g.V.Pages.at_hand c.args.views.now) c.args.room c.args.op.now act) c.get.ensures.quiet
+    IfOk-weaker c.get.result _ _ (λ act. quiet_reported relations counters (g.V.Pages.total c.args.views.now) (g.V.Pages.at_hand c.args.views.now) c.args.room c.args.op.now act) c.get.ensures.quiet
 
 pub returns-in-Read-clause-takes : goal.returns-in-Read-clause-takes
 returns-in-Read-clause-takes g c = λ relations counters few within.
-    quiet_told relations counters (g.V.Pages.total c.args.views.now) (g.V.Pages.at_hand c.args.views.now) c.args.room c.args.op.now c.read_from.result c.read_from.ensures.quiet
+    quiet_reported relations counters (g.V.Pages.total c.args.views.now) (g.V.Pages.at_hand c.args.views.now) c.args.room c.args.op.now c.read_from.result c.read_from.ensures.quiet
 
 pub returns-in-Add-clause-asks : goal.returns-in-Add-clause-asks
 returns-in-Add-clause-asks g c =

@@ -36,8 +36,8 @@ returns-in-Missing g c = λ name value seen. ∥∥₁_elim c.requires.good (hle
     let good = fact.4 in
     let placed = fact.5 good.0 good.1 good.2 good.3 good.4 in
     let copies = c.in_ok-overlay.overlay.copies.items in
-    let told = subst (λ x. InMaps (shown copies (g.V.Pages.at_hand x)) (g.V.Pages.total x) (λ pages m. m c.args.relation c.args.key.now ≡ None)) c.in_ok-overlay.ensures.views (amend_missing_is _ c.in_ok-page.field-0 c.in-Missing.is c.in_ok-page.ensures.missing) in
-    none_some _ (sym (told (after c.args.plan.changes.list.items good.0) (c.in_ok-overlay.ensures.agrees good.0 good.1) good.2
+    let outcome = subst (λ x. InMaps (shown copies (g.V.Pages.at_hand x)) (g.V.Pages.total x) (λ pages m. m c.args.relation c.args.key.now ≡ None)) c.in_ok-overlay.ensures.views (amend_missing_is _ c.in_ok-page.field-0 c.in-Missing.is c.in_ok-page.ensures.missing) in
+    none_some _ (sym (outcome (after c.args.plan.changes.list.items good.0) (c.in_ok-overlay.ensures.agrees good.0 good.1) good.2
     (moved_map fact.0 (g.V.Pages.total c.args.views.now) good.0 good.2 c.args.plan.changes.list.items fact.2 c.args.plan.name _ _ good.3 placed.1).0) ∙ placed.0))
 
 pub returns-in-Endless : goal.returns-in-Endless
@@ -45,8 +45,8 @@ returns-in-Endless g c = λ name value seen. ∥∥₁_elim c.requires.good (hle
     let good = fact.4 in
     let placed = fact.5 good.0 good.1 good.2 good.3 good.4 in
     let copies = c.in_ok-overlay.overlay.copies.items in
-    let told = subst (λ x. InMaps (shown copies (g.V.Pages.at_hand x)) (g.V.Pages.total x) (λ pages m. ⊥)) c.in_ok-overlay.ensures.views (amend_endless_is _ c.in_ok-page.field-0 c.in-Endless.is c.in_ok-page.ensures.endless) in
-    told (after c.args.plan.changes.list.items good.0) (c.in_ok-overlay.ensures.agrees good.0 good.1) good.2
+    let outcome = subst (λ x. InMaps (shown copies (g.V.Pages.at_hand x)) (g.V.Pages.total x) (λ pages m. ⊥)) c.in_ok-overlay.ensures.views (amend_endless_is _ c.in_ok-page.field-0 c.in-Endless.is c.in_ok-page.ensures.endless) in
+    outcome (after c.args.plan.changes.list.items good.0) (c.in_ok-overlay.ensures.agrees good.0 good.1) good.2
     (moved_map fact.0 (g.V.Pages.total c.args.views.now) good.0 good.2 c.args.plan.changes.list.items fact.2 c.args.plan.name _ _ good.3 placed.1).0)
 
 pub overlay_of-requires-clause-short : goal.overlay_of-requires-clause-short
@@ -57,9 +57,9 @@ join-requires-clause-short g c = ∥∥₁_map c.requires.good (λ fact.
     let good = fact.4 in
     let placed = fact.5 good.0 good.1 good.2 good.3 good.4 in
     let copies = c.in_ok-overlay.overlay.copies.items in
-    let told = subst (λ x. InMaps (shown copies (g.V.Pages.at_hand x)) (g.V.Pages.total x) (λ pages m. Amends (g.V.Pages.total x) pages c.in-Changes.second.list.items m c.args.relation c.args.key.now (Some c.args.plan.name))) c.in_ok-overlay.ensures.views
+    let outcome = subst (λ x. InMaps (shown copies (g.V.Pages.at_hand x)) (g.V.Pages.total x) (λ pages m. Amends (g.V.Pages.total x) pages c.in-Changes.second.list.items m c.args.relation c.args.key.now (Some c.args.plan.name))) c.in_ok-overlay.ensures.views
     (amended_is _ c.in_ok-page.field-0 c.in-Changes.second c.in-Changes.is c.in_ok-page.ensures.set) in
-    let amends = told (after c.args.plan.changes.list.items good.0) (c.in_ok-overlay.ensures.agrees good.0 good.1) good.2
+    let amends = outcome (after c.args.plan.changes.list.items good.0) (c.in_ok-overlay.ensures.agrees good.0 good.1) good.2
     (moved_map fact.0 (g.V.Pages.total c.args.views.now) good.0 good.2 c.args.plan.changes.list.items fact.2 c.args.plan.name _ _ good.3 placed.1).0 in
     (good.0, good.1, placed.1.short, amends.short))
 
@@ -94,13 +94,13 @@ returns-in-Changes g c = λ name value seen.
     let to = c.args.plan.name in
     let second = c.in-Changes.second.list.items in
     let copies = c.in_ok-overlay.overlay.copies.items in
-    let told = subst (λ x. InMaps (shown copies (g.V.Pages.at_hand x)) (g.V.Pages.total x) (λ pages m. Amends (g.V.Pages.total x) pages second m c.args.relation c.args.key.now (Some to))) c.in_ok-overlay.ensures.views
+    let outcome = subst (λ x. InMaps (shown copies (g.V.Pages.at_hand x)) (g.V.Pages.total x) (λ pages m. Amends (g.V.Pages.total x) pages second m c.args.relation c.args.key.now (Some to))) c.in_ok-overlay.ensures.views
     (amended_is _ c.in_ok-page.field-0 c.in-Changes.second c.in-Changes.is c.in_ok-page.ensures.set) in
-    let told_formed = subst (λ x. InMaps (shown copies (g.V.Pages.at_hand x)) (g.V.Pages.total x) (λ pages m. (relations : ℕ) → to.page < g.V.Pages.total x → AreFormed relations (g.V.Pages.total x) pages → AreFormed relations (g.V.Pages.total x) (after second pages))) c.in_ok-overlay.ensures.views
+    let reported_formed = subst (λ x. InMaps (shown copies (g.V.Pages.at_hand x)) (g.V.Pages.total x) (λ pages m. (relations : ℕ) → to.page < g.V.Pages.total x → AreFormed relations (g.V.Pages.total x) pages → AreFormed relations (g.V.Pages.total x) (after second pages))) c.in_ok-overlay.ensures.views
     (amended_is _ c.in_ok-page.field-0 c.in-Changes.second c.in-Changes.is c.in_ok-page.ensures.formed) in
     let one : length second ≤ 1 = ∥∥₁_elim c.requires.good (hlevel props) (λ fact.
     let good = fact.4 in
-    (told (after first good.0) (c.in_ok-overlay.ensures.agrees good.0 good.1) good.2 (moved_map fact.0 total good.0 good.2 first fact.2 to _ _ good.3 (fact.5 good.0 good.1 good.2 good.3 good.4).1).0).one) in
+    (outcome (after first good.0) (c.in_ok-overlay.ensures.agrees good.0 good.1) good.2 (moved_map fact.0 total good.0 good.2 first fact.2 to _ _ good.3 (fact.5 good.0 good.1 good.2 good.3 good.4).1).0).one) in
     IfOk-weaker c.join.result _ _ (tells_weaker at_hand total _ _ _ _ ⊥ ⊥ (λ p mode never. absurd never) (λ changes reply joined. record {
       there = joined.there;
       few = few_more _ _ _ 3 1 8 joined.few c.requires.few one (omega arith);
@@ -111,8 +111,8 @@ returns-in-Changes g c = λ name value seen.
           let moved = so.2 in
           let between = moved_map relations total pages m first name to _ _ rows moved in
           let overlay_agrees = c.in_ok-overlay.ensures.agrees pages agrees in
-          let amends = told mid overlay_agrees m between.0 in
-          let formed = told_formed mid overlay_agrees m between.0 relations (to_inside relations total pages m first name to _ _ rows moved) between.1 in
+          let amends = outcome mid overlay_agrees m between.0 in
+          let formed = reported_formed mid overlay_agrees m between.0 relations (to_inside relations total pages m first name to _ _ rows moved) between.1 in
           let led = joined.leads pages agrees in record {
             act = subst (λ (next : PageBytes). IsAct relations total pages next (Update c.args.relation c.args.key.now value) reply) (sym led.0)
                 (moved_act relations total pages last m first name to c.args.relation c.args.key.now c.args.old value reply rows so.1 so.0 moved amends.map amends.others formed joined.same);

@@ -7,7 +7,7 @@ use Rattle.mt_model.specs.declared.operations.Op.TheVariants.{Update}
 use Rattle.mt_model.specs.declared.operations.Reply.TheVariants.{Missing}
 use Rattle.mt_base.specs.declared.modes.Mode.TheVariants.{Read}
 use Rattle.std.proofs.lemmas.Result.{IfOk-weaker}
-use Rattle.mt_steps.proofs.Telling.{lock_told, asks_told, made_told, full_told, broken_told}
+use Rattle.mt_steps.proofs.Telling.{lock_reported, asks_reported, made_reported, full_reported, broken_reported}
 use Rattle.mt_steps.proofs.Naming.{quiet_none, none_takes}
 use Rattle.mt_steps.proofs.Asking.{bucket_inside}
 use Rattle.mt_steps.proofs.Modest.{modest_nothing}
@@ -66,14 +66,14 @@ returns-in-Need g c = record {
 
 pub returns-in-Found : goal.returns-in-Found
 returns-in-Found g c = record {
-  lock = IfOk-weaker c.update_row.result _ _ (lock_told (g.V.Pages.at_hand c.args.views.now) (g.V.Pages.total c.args.views.now) _ _ _) c.update_row.ensures;
-  asks = λ split. IfOk-weaker c.update_row.result _ _ (asks_told (g.V.Pages.at_hand c.args.views.now) (g.V.Pages.total c.args.views.now) _ _ _ _ (λ p mode asks. inr ((c.in-Found.name, c.in-Found.ensures.found), asks))) c.update_row.ensures;
-  made = λ relations fits. IfOk-weaker c.update_row.result _ _ (made_told (g.V.Pages.at_hand c.args.views.now) (g.V.Pages.total c.args.views.now) _ _ _ _ (λ changes reply done pages agrees m rows named. let d = done.does relations pages agrees m rows (fits, named) in (d.act, d.short))) c.update_row.ensures;
-  there = IfOk-weaker c.update_row.result _ _ (made_told (g.V.Pages.at_hand c.args.views.now) (g.V.Pages.total c.args.views.now) _ _ _ _ (λ changes reply done. done.there)) c.update_row.ensures;
-  few = IfOk-weaker c.update_row.result _ _ (made_told (g.V.Pages.at_hand c.args.views.now) (g.V.Pages.total c.args.views.now) _ _ _ _ (λ changes reply done. done.few)) c.update_row.ensures;
-  idle = IfOk-weaker c.update_row.result _ _ (made_told (g.V.Pages.at_hand c.args.views.now) (g.V.Pages.total c.args.views.now) _ _ _ _ (λ changes reply done. done.idle)) c.update_row.ensures;
-  modest = λ relations fits. IfOk-weaker c.update_row.result _ _ (made_told (g.V.Pages.at_hand c.args.views.now) (g.V.Pages.total c.args.views.now) _ _ _ _ (λ changes reply done pages agrees m rows named. (done.does relations pages agrees m rows (fits, named)).modest)) c.update_row.ensures;
-  takes = λ relations fits. IfOk-weaker c.update_row.result _ _ (made_told (g.V.Pages.at_hand c.args.views.now) (g.V.Pages.total c.args.views.now) _ _ _ _ (λ changes reply done pages agrees m rows named. (done.does relations pages agrees m rows (fits, named)).keeps)) c.update_row.ensures;
-  full = λ relations. IfOk-weaker c.update_row.result _ _ (full_told (g.V.Pages.at_hand c.args.views.now) (g.V.Pages.total c.args.views.now) _ _ _ _ (λ full. full relations)) c.update_row.ensures;
-  broken = IfOk-weaker c.update_row.result _ _ (broken_told (g.V.Pages.at_hand c.args.views.now) (g.V.Pages.total c.args.views.now) _ _ _) c.update_row.ensures;
+  lock = IfOk-weaker c.update_row.result _ _ (lock_reported (g.V.Pages.at_hand c.args.views.now) (g.V.Pages.total c.args.views.now) _ _ _) c.update_row.ensures;
+  asks = λ split. IfOk-weaker c.update_row.result _ _ (asks_reported (g.V.Pages.at_hand c.args.views.now) (g.V.Pages.total c.args.views.now) _ _ _ _ (λ p mode asks. inr ((c.in-Found.name, c.in-Found.ensures.found), asks))) c.update_row.ensures;
+  made = λ relations fits. IfOk-weaker c.update_row.result _ _ (made_reported (g.V.Pages.at_hand c.args.views.now) (g.V.Pages.total c.args.views.now) _ _ _ _ (λ changes reply done pages agrees m rows named. let d = done.does relations pages agrees m rows (fits, named) in (d.act, d.short))) c.update_row.ensures;
+  there = IfOk-weaker c.update_row.result _ _ (made_reported (g.V.Pages.at_hand c.args.views.now) (g.V.Pages.total c.args.views.now) _ _ _ _ (λ changes reply done. done.there)) c.update_row.ensures;
+  few = IfOk-weaker c.update_row.result _ _ (made_reported (g.V.Pages.at_hand c.args.views.now) (g.V.Pages.total c.args.views.now) _ _ _ _ (λ changes reply done. done.few)) c.update_row.ensures;
+  idle = IfOk-weaker c.update_row.result _ _ (made_reported (g.V.Pages.at_hand c.args.views.now) (g.V.Pages.total c.args.views.now) _ _ _ _ (λ changes reply done. done.idle)) c.update_row.ensures;
+  modest = λ relations fits. IfOk-weaker c.update_row.result _ _ (made_reported (g.V.Pages.at_hand c.args.views.now) (g.V.Pages.total c.args.views.now) _ _ _ _ (λ changes reply done pages agrees m rows named. (done.does relations pages agrees m rows (fits, named)).modest)) c.update_row.ensures;
+  takes = λ relations fits. IfOk-weaker c.update_row.result _ _ (made_reported (g.V.Pages.at_hand c.args.views.now) (g.V.Pages.total c.args.views.now) _ _ _ _ (λ changes reply done pages agrees m rows named. (done.does relations pages agrees m rows (fits, named)).keeps)) c.update_row.ensures;
+  full = λ relations. IfOk-weaker c.update_row.result _ _ (full_reported (g.V.Pages.at_hand c.args.views.now) (g.V.Pages.total c.args.views.now) _ _ _ _ (λ full. full relations)) c.update_row.ensures;
+  broken = IfOk-weaker c.update_row.result _ _ (broken_reported (g.V.Pages.at_hand c.args.views.now) (g.V.Pages.total c.args.views.now) _ _ _) c.update_row.ensures;
 }

@@ -43,15 +43,15 @@ plan_read-requires-clause-good g c = ∥∥₁_map c.requires.good (λ fact.
 pub returns-in-Need : goal.returns-in-Need
 returns-in-Need g c =
     let n = c.args.name.now in
-    let told : (relations : ℕ) (pages : PageBytes) → Agrees (g.V.Pages.at_hand c.args.views.now) pages → (m : Map) → AreRows relations (g.V.Pages.total c.args.views.now) pages m
+    let outcome : (relations : ℕ) (pages : PageBytes) → Agrees (g.V.Pages.at_hand c.args.views.now) pages → (m : Map) → AreRows relations (g.V.Pages.total c.args.views.now) pages m
     → ((g.V.Pages.at_hand c.args.views.now c.in-Need.page ≡ None) × (c.in-Need.page < g.V.Pages.total c.args.views.now)) × HasStood pages c.in-Need.page c.args.relation c.args.key.now = λ relations pages agrees m rows.
     let is = c.requires.named pages agrees m rows.index in
     let named = rows.named.names c.args.relation c.args.key.now n is in
     let need = c.in-Need.ensures pages agrees rows.file (record_kind pages n.page n.slot _ named.1) in
     let own = stands_in relations (g.V.Pages.total c.args.views.now) pages m n c.args.relation c.args.key.now c.in-Need.page rows is need.2 in
     ((need.0, own.0), own.1) in
-    let asked = lock_some (g.V.Pages.at_hand c.args.views.now) (g.V.Pages.total c.args.views.now) c.in-Need.page (∥∥₁_map c.requires.good (λ fact. let good = fact.1 in (told fact.0 good.0 good.1 good.2 good.3).0)) in
-    (asked.0, asked.1, λ relations pages agrees m rows so. inl (refl, (told relations pages agrees m rows).1))
+    let asked = lock_some (g.V.Pages.at_hand c.args.views.now) (g.V.Pages.total c.args.views.now) c.in-Need.page (∥∥₁_map c.requires.good (λ fact. let good = fact.1 in (outcome fact.0 good.0 good.1 good.2 good.3).0)) in
+    (asked.0, asked.1, λ relations pages agrees m rows so. inl (refl, (outcome relations pages agrees m rows).1))
 
 pub returns-in-Nothing : goal.returns-in-Nothing
 returns-in-Nothing g c = ∥∥₁_elim c.requires.good (hlevel props) (λ fact.
@@ -69,13 +69,13 @@ plan_replace-requires-clause-good g c = ∥∥₁_map c.requires.good (λ fact.
 pub returns-in-Need-2 : goal.returns-in-Need-2
 returns-in-Need-2 g c =
     let n = c.args.name.now in
-    let told = λ (relations : ℕ) (pages : PageBytes) (agrees : Agrees (g.V.Pages.at_hand c.args.views.now) pages) (m : Map) (rows : AreRows relations (g.V.Pages.total c.args.views.now) pages m) (roomy : IsNamed c.args.room pages).
+    let outcome = λ (relations : ℕ) (pages : PageBytes) (agrees : Agrees (g.V.Pages.at_hand c.args.views.now) pages) (m : Map) (rows : AreRows relations (g.V.Pages.total c.args.views.now) pages m) (roomy : IsNamed c.args.room pages).
     let is = c.requires.named pages agrees m rows.index in
     let named = rows.named.names c.args.relation c.args.key.now n is in
     replacement_needs (g.V.Pages.at_hand c.args.views.now) c.args.room relations (g.V.Pages.total c.args.views.now) pages m n c.args.relation c.args.key.now named.0 c.args.value.now c.in-Need-2.page c.in-Need-2.mode c.in_ok-page.field-0 c.in-Need-2.is rows roomy is named.1
     (c.in_ok-page.ensures.replacement pages _ agrees rows.file roomy named.1) in
-    let asked = lock_some (g.V.Pages.at_hand c.args.views.now) (g.V.Pages.total c.args.views.now) c.in-Need-2.page (∥∥₁_map c.requires.good (λ fact. let good = fact.1 in let t = told fact.0 good.0 good.1 good.2 good.3 good.4 in (t.0, t.1))) in
-    (asked.0, asked.1, λ relations pages agrees m rows so. (told relations pages agrees m rows so).2)
+    let asked = lock_some (g.V.Pages.at_hand c.args.views.now) (g.V.Pages.total c.args.views.now) c.in-Need-2.page (∥∥₁_map c.requires.good (λ fact. let good = fact.1 in let t = outcome fact.0 good.0 good.1 good.2 good.3 good.4 in (t.0, t.1))) in
+    (asked.0, asked.1, λ relations pages agrees m rows so. (outcome relations pages agrees m rows so).2)
 
 pub set_entry-requires-clause-there : goal.set_entry-requires-clause-there
 set_entry-requires-clause-there g c = step_at_hand (g.V.Pages.at_hand c.args.views.now) c.in_ok-page.field-0 c.in-Done.plan c.in-Done.is c.in_ok-page.ensures.there
@@ -92,8 +92,8 @@ set_entry-requires-clause-good g c = ∥∥₁_map c.requires.good (λ fact. (
       let old = c.in_ok-old-in-Record.old in
       let is = c.requires.named pages agrees m rows.index in
       let named = rows.named.names c.args.relation c.args.key.now n is in
-      let told = c.in-Record.ensures pages agrees rows.file (record_kind pages n.page n.slot _ named.1) in
-      let stood = named.1 ∙ ap (λ (v : List ℕ). row_of c.args.relation c.args.key.now (Some v)) (value_of _ _ _ (sym named.1 ∙ told) ∙ sym c.in_ok-old-in-Record.ensures) in
+      let outcome = c.in-Record.ensures pages agrees rows.file (record_kind pages n.page n.slot _ named.1) in
+      let stood = named.1 ∙ ap (λ (v : List ℕ). row_of c.args.relation c.args.key.now (Some v)) (value_of _ _ _ (sym named.1 ∙ outcome) ∙ sym c.in_ok-old-in-Record.ensures) in
       let r : Row = record { relation = c.args.relation; key = c.args.key.now; value = old } in (
         is,
         has_moved (g.V.Pages.total c.args.views.now) pages c.in-Done.plan n r c.args.value.now c.if-is_name.ensures
@@ -108,8 +108,8 @@ returns-in-Full g c = λ relations pages agrees m rows roomy.
     let total = g.V.Pages.total c.args.views.now in
     let named = rows.named.names c.args.relation c.args.key.now n (c.requires.named pages agrees m rows.index) in
     let r : Row = record { relation = c.args.relation; key = c.args.key.now; value = named.0 } in
-    let told = subst (λ (x : Step). IsReplacement (g.V.Pages.at_hand c.args.views.now) c.args.room total pages n.page n.slot r (record r { value = c.args.value.now }) x) c.in-Full.is (c.in_ok-page.ensures.replacement pages r agrees rows.file roomy named.1) in
-    ⊎_elim (λ none. inl (omega (arith, none))) (λ tight. inr tight) (too_full c.args.room total _ pages told.1)
+    let outcome = subst (λ (x : Step). IsReplacement (g.V.Pages.at_hand c.args.views.now) c.args.room total pages n.page n.slot r (record r { value = c.args.value.now }) x) c.in-Full.is (c.in_ok-page.ensures.replacement pages r agrees rows.file roomy named.1) in
+    ⊎_elim (λ none. inl (omega (arith, none))) (λ tight. inr tight) (too_full c.args.room total _ pages outcome.1)
 
 pub set_entry-requires-clause-seen : goal.set_entry-requires-clause-seen
 set_entry-requires-clause-seen g c =
@@ -128,8 +128,8 @@ returns-then-is_name g c = record {
       let old = c.in_ok-old-in-Record.old in
       let is = c.requires.named pages agrees m rows.index in
       let named = rows.named.names c.args.relation c.args.key.now n is in
-      let told = c.in-Record.ensures pages agrees rows.file (record_kind pages n.page n.slot _ named.1) in
-      let stood = named.1 ∙ ap (λ (v : List ℕ). row_of c.args.relation c.args.key.now (Some v)) (value_of _ _ _ (sym named.1 ∙ told) ∙ sym c.in_ok-old-in-Record.ensures) in
+      let outcome = c.in-Record.ensures pages agrees rows.file (record_kind pages n.page n.slot _ named.1) in
+      let stood = named.1 ∙ ap (λ (v : List ℕ). row_of c.args.relation c.args.key.now (Some v)) (value_of _ _ _ (sym named.1 ∙ outcome) ∙ sym c.in_ok-old-in-Record.ensures) in
       let r : Row = record { relation = c.args.relation; key = c.args.key.now; value = old } in
       let w : Row = record { relation = c.args.relation; key = c.args.key.now; value = c.args.value.now } in
       let changes = c.in-Done.plan.changes.list.items in
@@ -165,8 +165,8 @@ returns g c =
     let old = c.in_ok-old-in-Record.old in
     let is = c.requires.named pages agrees m rows.index in
     let named = rows.named.names c.args.relation c.args.key.now n is in
-    let told = c.in-Record.ensures pages agrees rows.file (record_kind pages n.page n.slot _ named.1) in
-    let stood = named.1 ∙ ap (λ (v : List ℕ). row_of c.args.relation c.args.key.now (Some v)) (value_of _ _ _ (sym named.1 ∙ told) ∙ sym c.in_ok-old-in-Record.ensures) in
+    let outcome = c.in-Record.ensures pages agrees rows.file (record_kind pages n.page n.slot _ named.1) in
+    let stood = named.1 ∙ ap (λ (v : List ℕ). row_of c.args.relation c.args.key.now (Some v)) (value_of _ _ _ (sym named.1 ∙ outcome) ∙ sym c.in_ok-old-in-Record.ensures) in
     let r : Row = record { relation = c.args.relation; key = c.args.key.now; value = old } in (
       stood,
       has_moved total pages c.in-Done.plan n r c.args.value.now c.if-is_name.ensures

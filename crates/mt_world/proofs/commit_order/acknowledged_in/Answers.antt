@@ -1,6 +1,6 @@
 use Rattle.std.proofs.Common.{◌∙◌, ◌++◌, add-one, ap, arith, sym, List, ℕ}
 use Rattle.mt_world.proofs.OrderLemmas.{acknowledged_next}
-use Rattle.mt_world.specs.Told.{named}
+use Rattle.mt_world.specs.Reported.{named}
 use Rattle.mt_world.proofs.commit_order.acknowledged_in.Goals as goal
 
 pub loop-answer-preserved : goal.loop-answer-preserved

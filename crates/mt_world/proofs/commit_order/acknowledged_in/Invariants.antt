@@ -1,5 +1,5 @@
 use Rattle.std.proofs.Common.{◌≡◌, take}
-use Rattle.mt_world.specs.Told.{acknowledged}
+use Rattle.mt_world.specs.Reported.{acknowledged}
 use Rattle.mt_world.proofs.commit_order.acknowledged_in.Given as goal
 
 abbrev pub invariant-loop-answer : goal.invariant-loop-answer

@@ -20,7 +20,7 @@ use Rattle.mt_core.proofs.parts.Core.abort_begin.Goals as goal
 pub returns-clause-state : goal.returns-clause-state
 returns-clause-state g c = λ origin base safe. let e = c.set_state.ensures in let k = c.args.self.now in let was = c.requires in
     changed_in g.D.Device.seen g.D.Device.may_leave origin base k (record k { live = c.set_state.new.self }) c.args.txn (λ m. with_state m Aborting) safe e.member e.begun e.standing e.count (λ m. refl)
-    (λ last records m told. record { many = told.many; numbers = told.numbers; rising = told.rising; due = told.due }) (λ m. refl) (λ m. refl)
+    (λ last records m outcome. record { many = outcome.many; numbers = outcome.numbers; rising = outcome.rising; due = outcome.due }) (λ m. refl) (λ m. refl)
     (reopened k.live.members c.set_state.new.self.members c.args.txn was e.member)
     (λ u h. changed_keeps has_room (λ m. with_state m Aborting) k.live.members c.set_state.new.self.members c.args.txn (λ m. refl) e.member u ∙ h)
     (λ u. (reopened_states k.live.members c.set_state.new.self.members c.args.txn was e.member u).0)

@@ -114,8 +114,8 @@ returns g c = record {
       let has : Has seen (s.next + 5) body.items = subst (λ (l : List ℕ). Has l (s.next + 5) body.items) (c.body_length.ensures.reads.same ∙ c.gate_is_open.ensures.reads.same) c.in_ok-read_into.ensures.bytes in
       let size : length body.items ≡ n = let e = c.in_ok-read_into.ensures.size in omega (arith, body.ok.0) in
       let first : c.is_empty-first.result ≡ (length s.found.items == 0) = c.is_empty-first.ensures ∙ ap (λ (k : ℕ). k == 0) (let e = s.found.ok.0 in omega arith) in
-      let told = if_some (λ (q : Vec Record Global). AreAdmitted c.deref.result.now s.pages c.is_empty-first.result s.rules c.admitted.new.rules q.items) c.in_ok-records.field-0 v c.in-Some-2.is c.in_ok-records.ensures.some in
-      let text : body.items ≡ body_text v.items = sym c.deref.ensures.value ∙ told.row.text in
+      let outcome = if_some (λ (q : Vec Record Global). AreAdmitted c.deref.result.now s.pages c.is_empty-first.result s.rules c.admitted.new.rules q.items) c.in_ok-records.field-0 v c.in-Some-2.is c.in_ok-records.ensures.some in
+      let text : body.items ≡ body_text v.items = sym c.deref.ensures.value ∙ outcome.row.text in
       let gate : get_or seen s.next 0 ≡ 165 = c.in_ok-gate_is_open.ensures.is.0 c.if-not-branch.false in
       let there : Has seen s.next (batch_text v.items) = batch_there seen s.next n body.items v.items gate head has size text in
       let grown : records_of c.push.new.self.items ≡ before ++ v.items ∷ [] = ap records_of c.in_ok-push.ensures.items ∙ records_push s.found.items b in
@@ -123,9 +123,9 @@ returns g c = record {
       record {
         row = subst (λ (l : List (List Record)). Stands seen s.place.start l (s.next + (5 + n))) (sym grown) row;
         places = ap places_of c.in_ok-push.ensures.items ∙ places_push s.found.items b ∙ ap (λ (l : List ℕ). l ++ s.next ∷ []) r.places ∙ sym (next_place seen s.place.start before s.next v.items r.row) ∙ ap (places_from s.place.start) (sym grown);
-        each = subst (AreBatches s.pages) (sym grown) (batches_push s.pages before v.items r.each told.each);
-        rules = subst BreakNoRule (sym grown) (rules_push before v.items r.rules (may_come c.is_empty-first.result s.found.items v.items first (told.may (joined before) r.known)));
-        known = subst (Knows c.admitted.new.rules) (sym (ap joined grown ∙ joined_push before v.items)) (told.known (joined before) r.known);
+        each = subst (AreBatches s.pages) (sym grown) (batches_push s.pages before v.items r.each outcome.each);
+        rules = subst BreakNoRule (sym grown) (rules_push before v.items r.rules (may_come c.is_empty-first.result s.found.items v.items first (outcome.may (joined before) r.known)));
+        known = subst (Knows c.admitted.new.rules) (sym (ap joined grown ∙ joined_push before v.items)) (outcome.known (joined before) r.known);
       };
   place = search rules;
   pages = search rules;

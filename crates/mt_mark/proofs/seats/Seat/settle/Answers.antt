@@ -12,4 +12,4 @@ load-requires c =
     let d = c.deref.ensures in
     let same = ap (λ t. t.shared.table_id) (sym d) in
     let v : c.self.inside.place.me.0 ≡ c.args.self.now.view = ap (λ h. h.view) c.self.view_is in
-    (i.same ∙ same, (let n = ap (λ z. z.words) same in let m = i.words in omega arith), settles _ _ _ _ i.sees (subst (λ (x : View). IsPrefix x.list x.told) (sym v) c.requires.longer) (subst (λ (x : View). length x.told ≤ x.sure) (sym v) c.requires.sure))
+    (i.same ∙ same, (let n = ap (λ z. z.words) same in let m = i.words in omega arith), settles _ _ _ _ i.sees (subst (λ (x : View). IsPrefix x.list x.known) (sym v) c.requires.longer) (subst (λ (x : View). length x.known ≤ x.sure) (sym v) c.requires.sure))

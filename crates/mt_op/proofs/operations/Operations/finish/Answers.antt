@@ -34,8 +34,8 @@ use Rattle.mt_op.proofs.Known.{known_within}
 use Rattle.mt_op.proofs.operations.Operations.finish.Goals as goal
 use Rattle.mt_op.proofs.operations.Operations.finish.Goals.{in-Some+in_ok-append_end, in_default}
 
-pub told-requires : goal.told-requires
-told-requires g c = ∥∥₁_elim c.requires.right (hlevel props) (λ (opening, relations, counters, right, k, few, some). has_reply relations counters (world g.D.Device.seen opening c.args.self.now) c.args.scope.now k c.requires.writing)
+pub outcome-requires : goal.outcome-requires
+outcome-requires g c = ∥∥₁_elim c.requires.right (hlevel props) (λ (opening, relations, counters, right, k, few, some). has_reply relations counters (world g.D.Device.seen opening c.args.self.now) c.args.scope.now k c.requires.writing)
 
 pub made_ready-reply-requires : goal.made_ready-reply-requires
 made_ready-reply-requires g c = ∥∥₁_elim c.requires.right (hlevel props) (λ (opening, relations, counters, right, k, few, some).

@@ -11,7 +11,7 @@ use Rattle.mt_op.specs.Stepping.{LocksPage}
 use Rattle.mt_op.specs.declared.answers.Stepped.TheVariants as stepped
 use Rattle.mt_op.proofs.Choosing.{idle_locks, locks_behind}
 use Rattle.mt_op.proofs.Known.{known, one_rests}
-use Rattle.mt_op.proofs.Faulting.{no_fault_ok, fault_told, unfailed}
+use Rattle.mt_op.proofs.Faulting.{no_fault_ok, fault_reported, unfailed}
 use Rattle.mt_op.proofs.operations.Operations.lock.Goals as goal
 
 pub returns-in_err-bring : goal.returns-in_err-bring
@@ -19,7 +19,7 @@ returns-in_err-bring g c = let d = g.D.Device in let f = c.bring.ensures in let 
     let p = err_from_is_err_and c.from_residual.result c.from_residual.ensures.1 in
     subst (LocksPage d.seen d.may_leave d.moment d.left_since d.faults o c.bring.new.self s s) (sym (p.1 ∙ ap Err (p.2 ∙ subst (λ (r : Result Bool Refusal). IfErr r (λ why. why ≡ refusal.DeviceFailed)) c.in_err-bring.was c.bring.ensures.only_device)))
     (idle_locks d.seen d.may_leave d.moment d.left_since d.faults o c.bring.new.self s f.right f.rests f.moments f.log f.map f.locks f.rooms (Err refusal.DeviceFailed) tt
-    (λ is. absurd cc) (inr refl) (fault_told _ _ c.bring.result _ (Err refusal.DeviceFailed) f.cause c.in_err-bring.was refl))
+    (λ is. absurd cc) (inr refl) (fault_reported _ _ c.bring.result _ (Err refusal.DeviceFailed) f.cause c.in_err-bring.was refl))
 
 pub returns-then-not-branch : goal.returns-then-not-branch
 returns-then-not-branch g c = let d = g.D.Device in let f = c.bring.ensures in

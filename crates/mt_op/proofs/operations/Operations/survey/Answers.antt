@@ -54,9 +54,9 @@ list_pages-requires g c =
     record {
       idle = ∥∥₁_elim c.requires.idle (hlevel props) (λ (relations, small, idle).
           let later = read_idle D.seen D.may_leave D.moment D.left_since relations o m c.held_page.ensures.read idle in
-          let told = counters_page D.seen D.may_leave relations m c.in_ok-held_page-2.field-0
+          let outcome = counters_page D.seen D.may_leave relations m c.in_ok-held_page-2.field-0
           (λ opening counters right. c.in_ok-held_page-2.ensures.held opening relations counters right ∙ ap (λ (p : ℕ). held_in (world D.seen opening m) p) c.new-2.ensures) later in
-          subst (λ (k : ℕ). IsIdle D.seen D.may_leave k n) (sym (c.in_ok-base.ensures.relations ∙ told.0)) (read_idle D.seen D.may_leave D.moment D.left_since relations m n c.held_page-2.ensures.read later));
+          subst (λ (k : ℕ). IsIdle D.seen D.may_leave k n) (sym (c.in_ok-base.ensures.relations ∙ outcome.0)) (read_idle D.seen D.may_leave D.moment D.left_since relations m n c.held_page-2.ensures.read later));
     }
 
 pub returns-in_err-list_pages-clause-read : goal.returns-in_err-list_pages-clause-read
@@ -83,8 +83,8 @@ returns-clause-surveyed g c = λ opening relations counters held right holds.
     record {
       depth = c.depth-depth.ensures ∙ ap depth_in (c.in_ok-held_page.ensures.held opening relations counters right ∙ ap pages' c.new.ensures);
       free = c.free.ensures ∙ ap (λ (x : SpaceMap). free_of x.space) all.map ∙ ap free_in right.space;
-      relations_told = c.list_pages.ensures.relations ∙ c.in_ok-base.ensures.relations ∙ ap (λ (xs : List ℕ). get_or xs 0 0) counts ∙ right.sound.good.counts.relations_told;
-      counters_told = c.list_pages.ensures.counters ∙ c.in_ok-base.ensures.counters ∙ ap (λ (xs : List ℕ). get_or xs 1 0) counts ∙ right.sound.good.counts.counters_told;
+      relations_reported = c.list_pages.ensures.relations ∙ c.in_ok-base.ensures.relations ∙ ap (λ (xs : List ℕ). get_or xs 0 0) counts ∙ right.sound.good.counts.relations_reported;
+      counters_reported = c.list_pages.ensures.counters ∙ c.in_ok-base.ensures.counters ∙ ap (λ (xs : List ℕ). get_or xs 1 0) counts ∙ right.sound.good.counts.counters_reported;
       base = same_base relations counters (pages o.store.pool) pages' held (base_of c.list_pages.new.base) (base_of c.in_ok-base.base) bytes right.sound.good holds counts c.in_ok-base.ensures.counts c.in_ok-list_pages.ensures.counts listed;
     }
 

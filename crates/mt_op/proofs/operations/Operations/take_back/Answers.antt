@@ -11,7 +11,7 @@ use Rattle.mt_op.specs.declared.answers.TakenBack.TheVariants as taken
 use Rattle.mt_op.proofs.Back.{TakesBack, takes_none, takes_behind, no_page_stands}
 use Rattle.mt_op.proofs.Known.{one_rests}
 use Rattle.mt_op.proofs.Restored.{few_stand, some_stand, standing_one, returnable_one}
-use Rattle.mt_op.proofs.Faulting.{no_fault_ok, fault_told, unfailed}
+use Rattle.mt_op.proofs.Faulting.{no_fault_ok, fault_reported, unfailed}
 use Rattle.mt_pool.proofs.Kept.{no_call}
 use Rattle.mt_op.proofs.Known.{Changing-prop}
 use Rattle.mt_op.proofs.Known.{known}
@@ -50,7 +50,7 @@ returns-in_err-bring g c = let d = g.D.Device in let f = c.bring.ensures in let 
     let b = subst (TakesBack d.seen d.may_leave d.moment d.left_since d.faults o c.bring.new.self s s) (sym (p.1 ∙ ap Err (p.2 ∙ subst (λ (r : Result Bool Refusal). IfErr r (λ why. why ≡ refusal.DeviceFailed)) c.in_err-bring.was c.bring.ensures.only_device)))
     (takes_none d.seen d.may_leave d.moment d.left_since d.faults o c.bring.new.self s f.right f.rests f.moments f.log f.map f.locks
     few (Err refusal.DeviceFailed) tt c.requires.budget
-    (λ is. absurd cc) (inr refl) (fault_told _ _ c.bring.result _ (Err refusal.DeviceFailed) f.cause c.in_err-bring.was refl)) in
+    (λ is. absurd cc) (inr refl) (fault_reported _ _ c.bring.result _ (Err refusal.DeviceFailed) f.cause c.in_err-bring.was refl)) in
     record {
       goes = b.goes;
       moments = b.moments;

@@ -12,7 +12,7 @@ use Rattle.mt_op.specs.Stepping.{GoesAhead}
 use Rattle.mt_op.specs.declared.answers.Stepped.TheVariants as stepped
 use Rattle.mt_op.proofs.Ahead.{idle_ahead, ahead_behind}
 use Rattle.mt_op.proofs.Known.{one_rests, writes_on}
-use Rattle.mt_op.proofs.Faulting.{no_fault_ok, fault_told, unfailed}
+use Rattle.mt_op.proofs.Faulting.{no_fault_ok, fault_reported, unfailed}
 use Rattle.mt_op.proofs.Known.{known}
 use Rattle.mt_op.proofs.operations.Operations.write_next.Goals as goal
 
@@ -24,7 +24,7 @@ returns-in_err-bring g c = let d = g.D.Device in let f = c.bring.ensures in let 
       stage = c.requires.writing;
       ahead = subst (GoesAhead d.seen d.may_leave d.moment d.left_since d.faults o c.bring.new.self s s) (sym (p.1 ∙ ap Err (p.2 ∙ subst (λ (r : Result Bool Refusal). IfErr r (λ why. why ≡ refusal.DeviceFailed)) c.in_err-bring.was c.bring.ensures.only_device)))
           (idle_ahead d.seen d.may_leave d.moment d.left_since d.faults o c.bring.new.self s f.right f.rests f.moments (ap used f.log) (ap area_size f.log) (ap durable f.log) f.map f.locks (Err refusal.DeviceFailed) tt c.requires.writing c.requires.budget
-          (λ is. absurd cc) (inr refl) (fault_told _ _ c.bring.result _ (Err refusal.DeviceFailed) f.cause c.in_err-bring.was refl));
+          (λ is. absurd cc) (inr refl) (fault_reported _ _ c.bring.result _ (Err refusal.DeviceFailed) f.cause c.in_err-bring.was refl));
     }
 
 pub returns-then-not-branch : goal.returns-then-not-branch

@@ -6,7 +6,7 @@ use Rattle.mt_steps.specs.Overlays.{AreAtHand}
 use Rattle.mt_steps.specs.Plans.{InPages, IsPlanned, IsTight, TakesPages, free_pages, own_needs, record_bytes}
 use Rattle.mt_steps.specs.declared.act.Act.{Act}
 use Rattle.mt_replay.specs.Memory.{AreFirst}
-use Rattle.mt_replay.specs.Told.{undo_of}
+use Rattle.mt_replay.specs.Recorded.{undo_of}
 use Rattle.mt_replay.specs.Undoing.{IsRoom}
 use Rattle.mt_replay.proofs.Inverses.{all_there, missed_full, missed_reply, of_all, plan_good, three_pages, undoing_made}
 use Rattle.mt_replay.proofs.undo_pass.Restored.plan_undo.Goals as goal

@@ -2,7 +2,7 @@ use Rattle.std.proofs.Common.{◌<◌, ◌∙◌, ℕ, ap, inr, refl, subst, sym
 use Rattle.mt_model.specs.Views.{base_of}
 use Rattle.mt_model.specs.declared.tables.Base.{Base}
 use Rattle.mt_restart.proofs.Living.{found_on, nobody_counts}
-use Rattle.mt_shared.proofs.Openings.{began_on_survey, book_at_first, first_book, open_fault, refused_other, same_as_told, survey_fault, unopened_by, unsurveyed}
+use Rattle.mt_shared.proofs.Openings.{began_on_survey, book_at_first, first_book, open_fault, refused_other, same_as_reported, survey_fault, unopened_by, unsurveyed}
 use Rattle.mt_steps.specs.Listed.{IsSame}
 use Rattle.mt_shared.proofs.opened.Opened.open.Goals as goal
 
@@ -15,7 +15,7 @@ pub returns-in-Ok-new-clause-base : goal.returns-in-Ok-new-clause-base
 returns-in-Ok-new-clause-base g c = λ relations counters b can.
     let D = g.D.Device in let survey = c.in-Ok-survey.survey in
     subst (λ (x : Base). IsSame counters (base_of x) b) (sym c.in-Ok-new.ensures.ok.0)
-    (same_as_told D.seen D.may_leave relations counters b survey.base survey c.in-Ok.kernel (c.in-Ok.ensures.opened relations counters b can) refl c.in-Ok-survey.ensures.base)
+    (same_as_reported D.seen D.may_leave relations counters b survey.base survey c.in-Ok.kernel (c.in-Ok.ensures.opened relations counters b can) refl c.in-Ok-survey.ensures.base)
 
 pub returns-in-Ok-new-clause-first : goal.returns-in-Ok-new-clause-first
 returns-in-Ok-new-clause-first g c =

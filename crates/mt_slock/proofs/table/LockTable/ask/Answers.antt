@@ -20,7 +20,7 @@ returns-in-Own-clause-asked c =
     (subst (λ t. IsFree (held_of t) c.args.txn c.args.object c.args.mode) c.self.view_is c.in-Own.ensures.0, with_held (held_of c.args.self.now) c.args.txn c.args.object c.args.mode held, sym held)
 
 -- where a growth was refused the lock would be granted, and was not held
-refused : (held : Held) (t : ℕ) (x : Object) (m : LockMode) (told : Result Asked Refusal) → IfErr told (λ why. why ≡ refusal.NoMemory) → IsFree held t x m → held t x m ≡ false → IfErr told (λ why. IsRefused held t x m why)
+refused : (held : Held) (t : ℕ) (x : Object) (m : LockMode) (outcome : Result Asked Refusal) → IfErr outcome (λ why. why ≡ refusal.NoMemory) → IsFree held t x m → held t x m ≡ false → IfErr outcome (λ why. IsRefused held t x m why)
 refused held t x m (Ok asked) only free new = tt
 refused held t x m (Err why) only free new = subst (λ (w : Refusal). IsRefused held t x m w) (sym only) (free, new)
 

@@ -20,71 +20,71 @@ use Rattle.mt_txn.proofs.Showing.{sound_of, step_shown, step_well, forward_of, s
 use Rattle.mt_txn.proofs.Restarting.{meanwhile, no_call, restarts_on, step_goes}
 use Rattle.mt_txn.proofs.kernel.Kernel.step.Goals as goal
 
-pub step-told-requires-clause-safe : goal.step-told-requires-clause-safe
-step-told-requires-clause-safe g c = sound_of g.D.Device.seen g.D.Device.may_leave c.args.self.now.relations c.args.self.now.counters c.args.self.now.core c.args.self.now.well
+pub step-outcome-requires-clause-safe : goal.step-outcome-requires-clause-safe
+step-outcome-requires-clause-safe g c = sound_of g.D.Device.seen g.D.Device.may_leave c.args.self.now.relations c.args.self.now.counters c.args.self.now.core c.args.self.now.well
 
-pub step-told-requires-clause-forward : goal.step-told-requires-clause-forward
-step-told-requires-clause-forward g c = forward_of g.D.Device.seen g.D.Device.may_leave c.args.self.now.relations c.args.self.now.counters c.args.self.now.core c.args.txn c.in-Some-place_of.place c.args.self.now.well c.in-Some-place_of.ensures.place.0 c.in-Some-place_of.ensures.place.1 c.in_default.ensures.opened
+pub step-outcome-requires-clause-forward : goal.step-outcome-requires-clause-forward
+step-outcome-requires-clause-forward g c = forward_of g.D.Device.seen g.D.Device.may_leave c.args.self.now.relations c.args.self.now.counters c.args.self.now.core c.args.txn c.in-Some-place_of.place c.args.self.now.well c.in-Some-place_of.ensures.place.0 c.in-Some-place_of.ensures.place.1 c.in_default.ensures.opened
 
-pub step-told-requires-clause-stage : goal.step-told-requires-clause-stage
-step-told-requires-clause-stage g c = stage_of g.D.Device.seen g.D.Device.may_leave c.args.self.now.relations c.args.self.now.counters c.args.self.now.core c.args.txn c.in-Some-place_of.place c.args.self.now.well c.in-Some-place_of.ensures.place.0 c.in-Some-place_of.ensures.place.1 c.in_default.ensures.opened
+pub step-outcome-requires-clause-stage : goal.step-outcome-requires-clause-stage
+step-outcome-requires-clause-stage g c = stage_of g.D.Device.seen g.D.Device.may_leave c.args.self.now.relations c.args.self.now.counters c.args.self.now.core c.args.txn c.in-Some-place_of.place c.args.self.now.well c.in-Some-place_of.ensures.place.0 c.in-Some-place_of.ensures.place.1 c.in_default.ensures.opened
 
 pub invariant_of-self : goal.invariant_of-self
-invariant_of-self g c = record { well = step_well g.D.Device.seen g.D.Device.may_leave c.args.self.now.relations c.args.self.now.counters c.args.self.now.core c.step-told.new.self c.in-Some-place_of.place c.step-told.result c.in-Some-place_of.ensures.place.0 c.step-told.ensures.steps c.args.self.now.well; starts = ∥∥₁_map c.args.self.now.starts (λ (first, r). let D = g.D.Device in let k = c.args.self.now in (first, restarts_on D.seen D.may_leave k.relations k.counters first k.core c.step-told.new.self (step_goes D.seen D.may_leave k.core c.step-told.new.self c.in-Some-place_of.place c.step-told.result c.in-Some-place_of.ensures.place.0 c.step-told.ensures.steps) (c.step-told.ensures.restartable) r)); schema = c.args.self.now.schema }
+invariant_of-self g c = record { well = step_well g.D.Device.seen g.D.Device.may_leave c.args.self.now.relations c.args.self.now.counters c.args.self.now.core c.step-outcome.new.self c.in-Some-place_of.place c.step-outcome.result c.in-Some-place_of.ensures.place.0 c.step-outcome.ensures.steps c.args.self.now.well; starts = ∥∥₁_map c.args.self.now.starts (λ (first, r). let D = g.D.Device in let k = c.args.self.now in (first, restarts_on D.seen D.may_leave k.relations k.counters first k.core c.step-outcome.new.self (step_goes D.seen D.may_leave k.core c.step-outcome.new.self c.in-Some-place_of.place c.step-outcome.result c.in-Some-place_of.ensures.place.0 c.step-outcome.ensures.steps) (c.step-outcome.ensures.restartable) r)); schema = c.args.self.now.schema }
 
 pub returns-in_err-reply-clause-stepped : goal.returns-in_err-reply-clause-stepped
 returns-in_err-reply-clause-stepped g c = λ first s shows. let p = err_from_is_err_and c.from_residual.result c.from_residual.ensures.1 in
-    err_stepped g.D.Device.seen g.D.Device.may_leave first s c.args.txn _ c.from_residual.result p.0 p.1 (subst (StepShown g.D.Device.seen g.D.Device.may_leave c.args.self.now.relations c.args.self.now.counters c.step-told.new.self first s c.args.txn) (c.in_err-reply.was) (step_shown g.D.Device.seen g.D.Device.may_leave c.args.self.now.relations c.args.self.now.counters c.args.self.now.core c.step-told.new.self first s c.args.txn c.in-Some-place_of.place c.step-told.result c.in-Some-place_of.ensures.place.0 c.in-Some-place_of.ensures.place.1 (forward_of g.D.Device.seen g.D.Device.may_leave c.args.self.now.relations c.args.self.now.counters c.args.self.now.core c.args.txn c.in-Some-place_of.place c.args.self.now.well c.in-Some-place_of.ensures.place.0 c.in-Some-place_of.ensures.place.1 c.in_default.ensures.opened) c.step-told.ensures.steps shows))
+    err_stepped g.D.Device.seen g.D.Device.may_leave first s c.args.txn _ c.from_residual.result p.0 p.1 (subst (StepShown g.D.Device.seen g.D.Device.may_leave c.args.self.now.relations c.args.self.now.counters c.step-outcome.new.self first s c.args.txn) (c.in_err-reply.was) (step_shown g.D.Device.seen g.D.Device.may_leave c.args.self.now.relations c.args.self.now.counters c.args.self.now.core c.step-outcome.new.self first s c.args.txn c.in-Some-place_of.place c.step-outcome.result c.in-Some-place_of.ensures.place.0 c.in-Some-place_of.ensures.place.1 (forward_of g.D.Device.seen g.D.Device.may_leave c.args.self.now.relations c.args.self.now.counters c.args.self.now.core c.args.txn c.in-Some-place_of.place c.args.self.now.well c.in-Some-place_of.ensures.place.0 c.in-Some-place_of.ensures.place.1 c.in_default.ensures.opened) c.step-outcome.ensures.steps shows))
 
 pub returns-in-Ended-clause-stepped : goal.returns-in-Ended-clause-stepped
-returns-in-Ended-clause-stepped g c = λ first s shows. subst (StepShown g.D.Device.seen g.D.Device.may_leave c.args.self.now.relations c.args.self.now.counters c.step-told.new.self first s c.args.txn) (c.in_ok-reply.was ∙ ap Ok c.in-Ended.is) (step_shown g.D.Device.seen g.D.Device.may_leave c.args.self.now.relations c.args.self.now.counters c.args.self.now.core c.step-told.new.self first s c.args.txn c.in-Some-place_of.place c.step-told.result c.in-Some-place_of.ensures.place.0 c.in-Some-place_of.ensures.place.1 (forward_of g.D.Device.seen g.D.Device.may_leave c.args.self.now.relations c.args.self.now.counters c.args.self.now.core c.args.txn c.in-Some-place_of.place c.args.self.now.well c.in-Some-place_of.ensures.place.0 c.in-Some-place_of.ensures.place.1 c.in_default.ensures.opened) c.step-told.ensures.steps shows)
+returns-in-Ended-clause-stepped g c = λ first s shows. subst (StepShown g.D.Device.seen g.D.Device.may_leave c.args.self.now.relations c.args.self.now.counters c.step-outcome.new.self first s c.args.txn) (c.in_ok-reply.was ∙ ap Ok c.in-Ended.is) (step_shown g.D.Device.seen g.D.Device.may_leave c.args.self.now.relations c.args.self.now.counters c.args.self.now.core c.step-outcome.new.self first s c.args.txn c.in-Some-place_of.place c.step-outcome.result c.in-Some-place_of.ensures.place.0 c.in-Some-place_of.ensures.place.1 (forward_of g.D.Device.seen g.D.Device.may_leave c.args.self.now.relations c.args.self.now.counters c.args.self.now.core c.args.txn c.in-Some-place_of.place c.args.self.now.well c.in-Some-place_of.ensures.place.0 c.in-Some-place_of.ensures.place.1 c.in_default.ensures.opened) c.step-outcome.ensures.steps shows)
 
 pub returns-in-Going-clause-stepped : goal.returns-in-Going-clause-stepped
-returns-in-Going-clause-stepped g c = λ first s shows. going_stepped g.D.Device.seen g.D.Device.may_leave first s c.args.txn _ _ c.in-Going.going c.stepped.result c.stepped.ensures (subst (StepShown g.D.Device.seen g.D.Device.may_leave c.args.self.now.relations c.args.self.now.counters c.step-told.new.self first s c.args.txn) (c.in_ok-reply.was ∙ ap Ok c.in-Going.is) (step_shown g.D.Device.seen g.D.Device.may_leave c.args.self.now.relations c.args.self.now.counters c.args.self.now.core c.step-told.new.self first s c.args.txn c.in-Some-place_of.place c.step-told.result c.in-Some-place_of.ensures.place.0 c.in-Some-place_of.ensures.place.1 (forward_of g.D.Device.seen g.D.Device.may_leave c.args.self.now.relations c.args.self.now.counters c.args.self.now.core c.args.txn c.in-Some-place_of.place c.args.self.now.well c.in-Some-place_of.ensures.place.0 c.in-Some-place_of.ensures.place.1 c.in_default.ensures.opened) c.step-told.ensures.steps shows))
+returns-in-Going-clause-stepped g c = λ first s shows. going_stepped g.D.Device.seen g.D.Device.may_leave first s c.args.txn _ _ c.in-Going.going c.stepped.result c.stepped.ensures (subst (StepShown g.D.Device.seen g.D.Device.may_leave c.args.self.now.relations c.args.self.now.counters c.step-outcome.new.self first s c.args.txn) (c.in_ok-reply.was ∙ ap Ok c.in-Going.is) (step_shown g.D.Device.seen g.D.Device.may_leave c.args.self.now.relations c.args.self.now.counters c.args.self.now.core c.step-outcome.new.self first s c.args.txn c.in-Some-place_of.place c.step-outcome.result c.in-Some-place_of.ensures.place.0 c.in-Some-place_of.ensures.place.1 (forward_of g.D.Device.seen g.D.Device.may_leave c.args.self.now.relations c.args.self.now.counters c.args.self.now.core c.args.txn c.in-Some-place_of.place c.args.self.now.well c.in-Some-place_of.ensures.place.0 c.in-Some-place_of.ensures.place.1 c.in_default.ensures.opened) c.step-outcome.ensures.steps shows))
 
 pub returns-in-Ended-clause-work : goal.returns-in-Ended-clause-work
-returns-in-Ended-clause-work g c = let k = c.args.self.now.core in let n = c.step-told.new.self in let all = pages k.operations.store.pool in
+returns-in-Ended-clause-work g c = let k = c.args.self.now.core in let n = c.step-outcome.new.self in let all = pages k.operations.store.pool in
     let at = at_place k.running.items c.in-Some-place_of.place c.in-Some-place_of.ensures.place.0 in
-    let lowers = subst (λ t. Lowers all c.step-told.result (steps_in k.running.items t) (steps_in n.running.items t)) (c.in-Some-place_of.ensures.place.1 at.0 at.1) (c.step-told.ensures.work at.0 at.1) in
+    let lowers = subst (λ t. Lowers all c.step-outcome.result (steps_in k.running.items t) (steps_in n.running.items t)) (c.in-Some-place_of.ensures.place.1 at.0 at.1) (c.step-outcome.ensures.work at.0 at.1) in
     subst (λ (r : Result Stepping Refusal). Lowers all r (steps_in k.running.items c.args.txn) (steps_in n.running.items c.args.txn)) (c.in_ok-reply.was ∙ ap Ok c.in-Ended.is) lowers
 
 pub returns-in-Going-clause-work : goal.returns-in-Going-clause-work
-returns-in-Going-clause-work g c = let k = c.args.self.now.core in let n = c.step-told.new.self in let all = pages k.operations.store.pool in
+returns-in-Going-clause-work g c = let k = c.args.self.now.core in let n = c.step-outcome.new.self in let all = pages k.operations.store.pool in
     let at = at_place k.running.items c.in-Some-place_of.place c.in-Some-place_of.ensures.place.0 in
-    let lowers = subst (λ t. Lowers all c.step-told.result (steps_in k.running.items t) (steps_in n.running.items t)) (c.in-Some-place_of.ensures.place.1 at.0 at.1) (c.step-told.ensures.work at.0 at.1) in
+    let lowers = subst (λ t. Lowers all c.step-outcome.result (steps_in k.running.items t) (steps_in n.running.items t)) (c.in-Some-place_of.ensures.place.1 at.0 at.1) (c.step-outcome.ensures.work at.0 at.1) in
     going_lowers n.running.items all (steps_in k.running.items c.args.txn) (steps_in n.running.items c.args.txn) c.in-Going.going c.stepped.result c.stepped.ensures (subst (λ (r : Result Stepping Refusal). Lowers all r (steps_in k.running.items c.args.txn) (steps_in n.running.items c.args.txn)) (c.in_ok-reply.was ∙ ap Ok c.in-Going.is) lowers)
 
 pub returns-in_err-reply-clause-work : goal.returns-in_err-reply-clause-work
-returns-in_err-reply-clause-work g c = let k = c.args.self.now.core in let n = c.step-told.new.self in let all = pages k.operations.store.pool in
+returns-in_err-reply-clause-work g c = let k = c.args.self.now.core in let n = c.step-outcome.new.self in let all = pages k.operations.store.pool in
     let at = at_place k.running.items c.in-Some-place_of.place c.in-Some-place_of.ensures.place.0 in
     let p = err_from_is_err_and c.from_residual.result c.from_residual.ensures.1 in
-    let lowers = subst (λ t. Lowers all c.step-told.result (steps_in k.running.items t) (steps_in n.running.items t)) (c.in-Some-place_of.ensures.place.1 at.0 at.1) (c.step-told.ensures.work at.0 at.1) in
+    let lowers = subst (λ t. Lowers all c.step-outcome.result (steps_in k.running.items t) (steps_in n.running.items t)) (c.in-Some-place_of.ensures.place.1 at.0 at.1) (c.step-outcome.ensures.work at.0 at.1) in
     let few : steps_in n.running.items c.args.txn ≤ steps_in k.running.items c.args.txn = subst (λ (r : Result Stepping Refusal). Lowers all r (steps_in k.running.items c.args.txn) (steps_in n.running.items c.args.txn)) c.in_err-reply.was lowers in
     subst (λ (r : Result Stepped Refusal). LowersSteps all r (steps_in k.running.items c.args.txn) (steps_in n.running.items c.args.txn)) (sym p.1) few
 
 pub returns-in-Going-clause-other : goal.returns-in-Going-clause-other
-returns-in-Going-clause-other g c = let k = c.args.self.now.core in let n = c.step-told.new.self in let place = c.in-Some-place_of.place in
+returns-in-Going-clause-other g c = let k = c.args.self.now.core in let n = c.step-outcome.new.self in let place = c.in-Some-place_of.place in
     let seen = g.D.Device.seen in let may_leave = g.D.Device.may_leave in
     let was = c.in_ok-reply.was ∙ ap Ok c.in-Going.is in
     step_other seen may_leave c.args.self.now.relations c.args.self.now.counters k n c.args.txn place c.in-Going.going c.stepped.result c.in-Some-place_of.ensures.place.1
     (record {
       within = c.in-Some-place_of.ensures.place.0;
-      states = c.step-told.ensures.states;
-      consistent = λ origin base safe. (subst (Steps seen may_leave origin base k n place) was (c.step-told.ensures.steps origin base safe)).consistent;
-      names = λ origin base safe. subst (λ (r : Result Stepping Refusal). AtPlace k.running.items place (λ q. NamesOther n.running.items q.scope.txn r)) was (c.step-told.ensures.other origin base safe);
+      states = c.step-outcome.ensures.states;
+      consistent = λ origin base safe. (subst (Steps seen may_leave origin base k n place) was (c.step-outcome.ensures.steps origin base safe)).consistent;
+      names = λ origin base safe. subst (λ (r : Result Stepping Refusal). AtPlace k.running.items place (λ q. NamesOther n.running.items q.scope.txn r)) was (c.step-outcome.ensures.other origin base safe);
     }) c.args.self.now.well c.stepped.ensures
 
 pub returns-in_err-reply-clause-restarts : goal.returns-in_err-reply-clause-restarts
 returns-in_err-reply-clause-restarts g c = λ first r. let D = g.D.Device in let k = c.args.self.now in
-    restarts_on D.seen D.may_leave k.relations k.counters first k.core c.step-told.new.self (step_goes D.seen D.may_leave k.core c.step-told.new.self c.in-Some-place_of.place c.step-told.result c.in-Some-place_of.ensures.place.0 c.step-told.ensures.steps) (c.step-told.ensures.restartable) r
+    restarts_on D.seen D.may_leave k.relations k.counters first k.core c.step-outcome.new.self (step_goes D.seen D.may_leave k.core c.step-outcome.new.self c.in-Some-place_of.place c.step-outcome.result c.in-Some-place_of.ensures.place.0 c.step-outcome.ensures.steps) (c.step-outcome.ensures.restartable) r
 
 pub returns-in-Ended-clause-restarts : goal.returns-in-Ended-clause-restarts
 returns-in-Ended-clause-restarts g c = λ first r. let D = g.D.Device in let k = c.args.self.now in
-    restarts_on D.seen D.may_leave k.relations k.counters first k.core c.step-told.new.self (step_goes D.seen D.may_leave k.core c.step-told.new.self c.in-Some-place_of.place c.step-told.result c.in-Some-place_of.ensures.place.0 c.step-told.ensures.steps) (c.step-told.ensures.restartable) r
+    restarts_on D.seen D.may_leave k.relations k.counters first k.core c.step-outcome.new.self (step_goes D.seen D.may_leave k.core c.step-outcome.new.self c.in-Some-place_of.place c.step-outcome.result c.in-Some-place_of.ensures.place.0 c.step-outcome.ensures.steps) (c.step-outcome.ensures.restartable) r
 
 pub returns-in-Going-clause-restarts : goal.returns-in-Going-clause-restarts
 returns-in-Going-clause-restarts g c = λ first r. let D = g.D.Device in let k = c.args.self.now in
-    restarts_on D.seen D.may_leave k.relations k.counters first k.core c.step-told.new.self (step_goes D.seen D.may_leave k.core c.step-told.new.self c.in-Some-place_of.place c.step-told.result c.in-Some-place_of.ensures.place.0 c.step-told.ensures.steps) (c.step-told.ensures.restartable) r
+    restarts_on D.seen D.may_leave k.relations k.counters first k.core c.step-outcome.new.self (step_goes D.seen D.may_leave k.core c.step-outcome.new.self c.in-Some-place_of.place c.step-outcome.result c.in-Some-place_of.ensures.place.0 c.step-outcome.ensures.steps) (c.step-outcome.ensures.restartable) r
 
 pub returns-in-Some-clause-moments : goal.returns-in-Some-clause-moments
 returns-in-Some-clause-moments g c = λ first r schema. let D = g.D.Device in let k = c.args.self.now in
@@ -96,18 +96,18 @@ returns-in_default-place_of-clause-moments g c = λ first r schema. let D = g.D.
 
 pub returns-in_err-reply-clause-moments : goal.returns-in_err-reply-clause-moments
 returns-in_err-reply-clause-moments g c = λ first r schema. let D = g.D.Device in let k = c.args.self.now in
-    meanwhile D.seen D.may_leave k.relations k.counters first D.moment D.left_since g.met.D.Device.only_now k.core _ c.step-told.ensures.moments r schema
+    meanwhile D.seen D.may_leave k.relations k.counters first D.moment D.left_since g.met.D.Device.only_now k.core _ c.step-outcome.ensures.moments r schema
 
 pub returns-in-Ended-clause-moments : goal.returns-in-Ended-clause-moments
 returns-in-Ended-clause-moments g c = λ first r schema. let D = g.D.Device in let k = c.args.self.now in
-    meanwhile D.seen D.may_leave k.relations k.counters first D.moment D.left_since g.met.D.Device.only_now k.core _ c.step-told.ensures.moments r schema
+    meanwhile D.seen D.may_leave k.relations k.counters first D.moment D.left_since g.met.D.Device.only_now k.core _ c.step-outcome.ensures.moments r schema
 
 pub returns-in-Going-clause-moments : goal.returns-in-Going-clause-moments
 returns-in-Going-clause-moments g c = λ first r schema. let D = g.D.Device in let k = c.args.self.now in
-    meanwhile D.seen D.may_leave k.relations k.counters first D.moment D.left_since g.met.D.Device.only_now k.core _ c.step-told.ensures.moments r schema
+    meanwhile D.seen D.may_leave k.relations k.counters first D.moment D.left_since g.met.D.Device.only_now k.core _ c.step-outcome.ensures.moments r schema
 
 pub returns-in-Going-clause-locks : goal.returns-in-Going-clause-locks
-returns-in-Going-clause-locks g c = λ may. let k = c.args.self.now.core in let n = c.step-told.new.self in let place = c.in-Some-place_of.place in
+returns-in-Going-clause-locks g c = λ may. let k = c.args.self.now.core in let n = c.step-outcome.new.self in let place = c.in-Some-place_of.place in
     let seen = g.D.Device.seen in let may_leave = g.D.Device.may_leave in
     let was = c.in_ok-reply.was ∙ ap Ok c.in-Going.is in (
       place,
@@ -117,9 +117,9 @@ returns-in-Going-clause-locks g c = λ may. let k = c.args.self.now.core in let 
         step_locks seen may_leave c.args.self.now.relations c.args.self.now.counters k n c.args.txn place c.in-Going.going c.stepped.result r c.in-Some-place_of.ensures.place.1
             (record {
               within = c.in-Some-place_of.ensures.place.0;
-              states = c.step-told.ensures.states;
-              consistent = λ origin base safe. (subst (Steps seen may_leave origin base k n place) was (c.step-told.ensures.steps origin base safe)).consistent;
-              names = λ origin base safe. subst (λ (x : Result Stepping Refusal). AtPlace k.running.items place (λ q. NamesOther n.running.items q.scope.txn x)) was (c.step-told.ensures.other origin base safe);
-            }) c.args.self.now.well c.stepped.ensures (subst (KeepsPageLocks k n r) was (c.step-told.ensures.locks r at)),
+              states = c.step-outcome.ensures.states;
+              consistent = λ origin base safe. (subst (Steps seen may_leave origin base k n place) was (c.step-outcome.ensures.steps origin base safe)).consistent;
+              names = λ origin base safe. subst (λ (x : Result Stepping Refusal). AtPlace k.running.items place (λ q. NamesOther n.running.items q.scope.txn x)) was (c.step-outcome.ensures.other origin base safe);
+            }) c.args.self.now.well c.stepped.ensures (subst (KeepsPageLocks k n r) was (c.step-outcome.ensures.locks r at)),
       ),
     )

@@ -4,36 +4,36 @@ use Rattle.std.proofs.lemmas.List.{nil_from_length}
 use mathlib.Core.Logic.{∥∥₁_map}
 use Rattle.mt_live.specs.declared.live.Live.{Live}
 use Rattle.mt_txn.proofs.Showing.{led, sound_of, stays_led, well_led}
-use Rattle.mt_txn.proofs.Surveyed.{base_told, pages_told}
+use Rattle.mt_txn.proofs.Surveyed.{base_reported, pages_reported}
 use Rattle.mt_txn.proofs.Restarting.{meanwhile, no_call, restarts_on, stays_goes}
 use Rattle.mt_txn.proofs.kernel.Kernel.survey.Goals as goal
 
-pub survey-told-requires-clause-safe : goal.survey-told-requires-clause-safe
-survey-told-requires-clause-safe g c = let k = c.args.self.now in sound_of g.D.Device.seen g.D.Device.may_leave k.relations k.counters k.core k.well
+pub survey-outcome-requires-clause-safe : goal.survey-outcome-requires-clause-safe
+survey-outcome-requires-clause-safe g c = let k = c.args.self.now in sound_of g.D.Device.seen g.D.Device.may_leave k.relations k.counters k.core k.well
 
 pub invariant_of-self : goal.invariant_of-self
 invariant_of-self g c =
     let D = g.D.Device in let k = c.args.self.now in
-    record { well = well_led D.seen D.may_leave k.relations k.counters k.core c.survey-told.new.self (λ z. z) (stays_led D.seen D.may_leave k.relations k.counters k.core c.survey-told.new.self c.survey-told.ensures.state) k.well; starts = ∥∥₁_map c.args.self.now.starts (λ (first, r). let D = g.D.Device in let k = c.args.self.now in (first, restarts_on D.seen D.may_leave k.relations k.counters first k.core c.survey-told.new.self (stays_goes D.seen D.may_leave k.core c.survey-told.new.self c.survey-told.ensures.state) (c.survey-told.ensures.restartable) r)); schema = c.args.self.now.schema }
+    record { well = well_led D.seen D.may_leave k.relations k.counters k.core c.survey-outcome.new.self (λ z. z) (stays_led D.seen D.may_leave k.relations k.counters k.core c.survey-outcome.new.self c.survey-outcome.ensures.state) k.well; starts = ∥∥₁_map c.args.self.now.starts (λ (first, r). let D = g.D.Device in let k = c.args.self.now in (first, restarts_on D.seen D.may_leave k.relations k.counters first k.core c.survey-outcome.new.self (stays_goes D.seen D.may_leave k.core c.survey-outcome.new.self c.survey-outcome.ensures.state) (c.survey-outcome.ensures.restartable) r)); schema = c.args.self.now.schema }
 
 pub returns-clause-base : goal.returns-clause-base
 returns-clause-base g c = λ first s shows.
     let D = g.D.Device in let k = c.args.self.now in
-    base_told D.seen D.may_leave k.core k.relations k.counters first s c.survey-told.result c.survey-told.ensures.surveyed shows
+    base_reported D.seen D.may_leave k.core k.relations k.counters first s c.survey-outcome.result c.survey-outcome.ensures.surveyed shows
 
 pub returns-clause-pages : goal.returns-clause-pages
 returns-clause-pages g c =
     let D = g.D.Device in let k = c.args.self.now in
-    pages_told D.seen D.may_leave k c.survey-told.result (nil_from_length k.core.live.members (ap (λ (l : Live). length l.members) (sym c.live.ensures) ∙ sym c.count.ensures ∙ c.if-count-ne0.false)) c.survey-told.ensures.surveyed k.well
+    pages_reported D.seen D.may_leave k c.survey-outcome.result (nil_from_length k.core.live.members (ap (λ (l : Live). length l.members) (sym c.live.ensures) ∙ sym c.count.ensures ∙ c.if-count-ne0.false)) c.survey-outcome.ensures.surveyed k.well
 
 pub returns-clause-state : goal.returns-clause-state
 returns-clause-state g c = λ first s shows.
     let D = g.D.Device in let k = c.args.self.now in
-    led D.seen D.may_leave k.relations k.counters k.core c.survey-told.new.self (λ z. z) first s (stays_led D.seen D.may_leave k.relations k.counters k.core c.survey-told.new.self c.survey-told.ensures.state) shows
+    led D.seen D.may_leave k.relations k.counters k.core c.survey-outcome.new.self (λ z. z) first s (stays_led D.seen D.may_leave k.relations k.counters k.core c.survey-outcome.new.self c.survey-outcome.ensures.state) shows
 
 pub returns-clause-restarts : goal.returns-clause-restarts
 returns-clause-restarts g c = λ first r. let D = g.D.Device in let k = c.args.self.now in
-    restarts_on D.seen D.may_leave k.relations k.counters first k.core c.survey-told.new.self (stays_goes D.seen D.may_leave k.core c.survey-told.new.self c.survey-told.ensures.state) (c.survey-told.ensures.restartable) r
+    restarts_on D.seen D.may_leave k.relations k.counters first k.core c.survey-outcome.new.self (stays_goes D.seen D.may_leave k.core c.survey-outcome.new.self c.survey-outcome.ensures.state) (c.survey-outcome.ensures.restartable) r
 
 pub returns-then-has_failed-clause-moments : goal.returns-then-has_failed-clause-moments
 returns-then-has_failed-clause-moments g c = λ first r schema. let D = g.D.Device in let k = c.args.self.now in
@@ -45,4 +45,4 @@ returns-then-count-ne0-clause-moments g c = λ first r schema. let D = g.D.Devic
 
 pub returns-clause-moments : goal.returns-clause-moments
 returns-clause-moments g c = λ first r schema. let D = g.D.Device in let k = c.args.self.now in
-    meanwhile D.seen D.may_leave k.relations k.counters first D.moment D.left_since g.met.D.Device.only_now k.core _ c.survey-told.ensures.moments r schema
+    meanwhile D.seen D.may_leave k.relations k.counters first D.moment D.left_since g.met.D.Device.only_now k.core _ c.survey-outcome.ensures.moments r schema

@@ -19,26 +19,26 @@ use Rattle.mt_txn.specs.declared.answers.AbortStepped.{AbortStepped}
 use Rattle.mt_txn.proofs.Restarting.{meanwhile, restarts_on, undo_goes}
 use Rattle.mt_txn.proofs.kernel.Kernel.undo_step.Goals as goal
 
-pub undo_step-told-requires-clause-safe : goal.undo_step-told-requires-clause-safe
-undo_step-told-requires-clause-safe g c = sound_of g.D.Device.seen g.D.Device.may_leave c.args.self.now.relations c.args.self.now.counters c.args.self.now.core c.args.self.now.well
+pub undo_step-outcome-requires-clause-safe : goal.undo_step-outcome-requires-clause-safe
+undo_step-outcome-requires-clause-safe g c = sound_of g.D.Device.seen g.D.Device.may_leave c.args.self.now.relations c.args.self.now.counters c.args.self.now.core c.args.self.now.well
 
-pub undo_step-told-requires-clause-stage : goal.undo_step-told-requires-clause-stage
-undo_step-told-requires-clause-stage g c = inverse_stage g.D.Device.seen g.D.Device.may_leave c.args.self.now.relations c.args.self.now.counters c.args.self.now.core c.args.place c.args.self.now.well c.requires.within (λ r there. (c.requires.own r there).1)
+pub undo_step-outcome-requires-clause-stage : goal.undo_step-outcome-requires-clause-stage
+undo_step-outcome-requires-clause-stage g c = inverse_stage g.D.Device.seen g.D.Device.may_leave c.args.self.now.relations c.args.self.now.counters c.args.self.now.core c.args.place c.args.self.now.well c.requires.within (λ r there. (c.requires.own r there).1)
 
 pub invariant_of-self : goal.invariant_of-self
-invariant_of-self g c = record { well = undo_well g.D.Device.seen g.D.Device.may_leave c.args.self.now.relations c.args.self.now.counters c.args.self.now.core c.undo_step-told.new.self c.args.place c.undo_step-told.result c.requires.within c.undo_step-told.ensures.steps c.args.self.now.well; starts = ∥∥₁_map c.args.self.now.starts (λ (first, r). let D = g.D.Device in let k = c.args.self.now in (first, restarts_on D.seen D.may_leave k.relations k.counters first k.core c.undo_step-told.new.self (undo_goes D.seen D.may_leave k.core c.undo_step-told.new.self c.args.place c.undo_step-told.result c.requires.within c.undo_step-told.ensures.steps) (c.undo_step-told.ensures.restartable) r)); schema = c.args.self.now.schema }
+invariant_of-self g c = record { well = undo_well g.D.Device.seen g.D.Device.may_leave c.args.self.now.relations c.args.self.now.counters c.args.self.now.core c.undo_step-outcome.new.self c.args.place c.undo_step-outcome.result c.requires.within c.undo_step-outcome.ensures.steps c.args.self.now.well; starts = ∥∥₁_map c.args.self.now.starts (λ (first, r). let D = g.D.Device in let k = c.args.self.now in (first, restarts_on D.seen D.may_leave k.relations k.counters first k.core c.undo_step-outcome.new.self (undo_goes D.seen D.may_leave k.core c.undo_step-outcome.new.self c.args.place c.undo_step-outcome.result c.requires.within c.undo_step-outcome.ensures.steps) (c.undo_step-outcome.ensures.restartable) r)); schema = c.args.self.now.schema }
 
 pub returns-in-Going-clause-locks : goal.returns-in-Going-clause-locks
-returns-in-Going-clause-locks g c = λ r at. let k = c.args.self.now.core in let n = c.undo_step-told.new.self in let place = c.args.place in
+returns-in-Going-clause-locks g c = λ r at. let k = c.args.self.now.core in let n = c.undo_step-outcome.new.self in let place = c.args.place in
     let seen = g.D.Device.seen in let may_leave = g.D.Device.may_leave in
     let was = c.in_ok-reply.was ∙ ap Ok c.in-Going.is in
     abort_locks seen may_leave c.args.self.now.relations c.args.self.now.counters k n c.args.txn place c.in-Going.going c.going.result r (λ q there. (c.requires.own q there).0)
     (record {
       within = c.requires.within;
-      states = c.undo_step-told.ensures.states;
-      consistent = λ origin base safe. (subst (UndoSteps seen may_leave origin base k n place) was (c.undo_step-told.ensures.steps origin base safe)).consistent;
-      names = λ origin base safe. subst (λ (x : Result Stepping Refusal). AtPlace k.running.items place (λ q. NamesOther n.running.items q.scope.txn x)) was (c.undo_step-told.ensures.other origin base safe);
-    }) c.args.self.now.well c.going.ensures (subst (KeepsPageLocks k n r) was (c.undo_step-told.ensures.locks r at))
+      states = c.undo_step-outcome.ensures.states;
+      consistent = λ origin base safe. (subst (UndoSteps seen may_leave origin base k n place) was (c.undo_step-outcome.ensures.steps origin base safe)).consistent;
+      names = λ origin base safe. subst (λ (x : Result Stepping Refusal). AtPlace k.running.items place (λ q. NamesOther n.running.items q.scope.txn x)) was (c.undo_step-outcome.ensures.other origin base safe);
+    }) c.args.self.now.well c.going.ensures (subst (KeepsPageLocks k n r) was (c.undo_step-outcome.ensures.locks r at))
 
 pub returns-in_err-reply-clause-steps : goal.returns-in_err-reply-clause-steps
 returns-in_err-reply-clause-steps g c = record {
@@ -46,9 +46,9 @@ returns-in_err-reply-clause-steps g c = record {
   fails = search rules;
   quiet = search rules;
   states = search rules;
-  work = let k = c.args.self.now.core in let n = c.undo_step-told.new.self in let all = pages k.operations.store.pool in
+  work = let k = c.args.self.now.core in let n = c.undo_step-outcome.new.self in let all = pages k.operations.store.pool in
       let at = at_place k.running.items c.args.place c.requires.within in
-      let lowers = subst (λ t. LowersUndo all c.undo_step-told.result (undo_steps k t) (undo_steps n t)) (c.requires.own at.0 at.1).0 (c.undo_step-told.ensures.lowers at.0 at.1) in
+      let lowers = subst (λ t. LowersUndo all c.undo_step-outcome.result (undo_steps k t) (undo_steps n t)) (c.requires.own at.0 at.1).0 (c.undo_step-outcome.ensures.lowers at.0 at.1) in
       let few : undo_steps n c.args.txn ≤ undo_steps k c.args.txn = subst (λ (r : Result Stepping Refusal). LowersUndo all r (undo_steps k c.args.txn) (undo_steps n c.args.txn)) c.in_err-reply.was lowers in
       let p = err_from_is_err_and c.from_residual.result c.from_residual.ensures.1 in
       subst (λ (r : Result AbortStepped Refusal). LowersAbort all r (undo_steps k c.args.txn) (undo_steps n c.args.txn)) (sym p.1) few;
@@ -60,11 +60,11 @@ returns-in_err-reply-clause-steps g c = record {
   out = search rules;
   schema = search rules;
   restarts = λ first r. let D = g.D.Device in let k = c.args.self.now in
-      restarts_on D.seen D.may_leave k.relations k.counters first k.core c.undo_step-told.new.self (undo_goes D.seen D.may_leave k.core c.undo_step-told.new.self c.args.place c.undo_step-told.result c.requires.within c.undo_step-told.ensures.steps) (c.undo_step-told.ensures.restartable) r;
+      restarts_on D.seen D.may_leave k.relations k.counters first k.core c.undo_step-outcome.new.self (undo_goes D.seen D.may_leave k.core c.undo_step-outcome.new.self c.args.place c.undo_step-outcome.result c.requires.within c.undo_step-outcome.ensures.steps) (c.undo_step-outcome.ensures.restartable) r;
   moments = λ first r schema. let D = g.D.Device in let k = c.args.self.now in
-      meanwhile D.seen D.may_leave k.relations k.counters first D.moment D.left_since g.met.D.Device.only_now k.core _ c.undo_step-told.ensures.moments r schema;
+      meanwhile D.seen D.may_leave k.relations k.counters first D.moment D.left_since g.met.D.Device.only_now k.core _ c.undo_step-outcome.ensures.moments r schema;
   aborted = λ first s shows. let p = err_from_is_err_and c.from_residual.result c.from_residual.ensures.1 in
-      err_aborted g.D.Device.seen g.D.Device.may_leave first s c.args.txn _ c.from_residual.result p.0 p.1 (subst (UndoShown g.D.Device.seen g.D.Device.may_leave c.args.self.now.relations c.args.self.now.counters c.undo_step-told.new.self first s c.args.txn) (c.in_err-reply.was) (undo_shown g.D.Device.seen g.D.Device.may_leave c.args.self.now.relations c.args.self.now.counters c.args.self.now.core c.undo_step-told.new.self first s c.args.txn c.args.place c.undo_step-told.result c.requires.within (λ r there. (c.requires.own r there).0) c.undo_step-told.ensures.steps shows));
+      err_aborted g.D.Device.seen g.D.Device.may_leave first s c.args.txn _ c.from_residual.result p.0 p.1 (subst (UndoShown g.D.Device.seen g.D.Device.may_leave c.args.self.now.relations c.args.self.now.counters c.undo_step-outcome.new.self first s c.args.txn) (c.in_err-reply.was) (undo_shown g.D.Device.seen g.D.Device.may_leave c.args.self.now.relations c.args.self.now.counters c.args.self.now.core c.undo_step-outcome.new.self first s c.args.txn c.args.place c.undo_step-outcome.result c.requires.within (λ r there. (c.requires.own r there).0) c.undo_step-outcome.ensures.steps shows));
 }
 
 pub returns-in-Ended-clause-steps : goal.returns-in-Ended-clause-steps
@@ -73,9 +73,9 @@ returns-in-Ended-clause-steps g c = record {
   fails = search rules;
   quiet = search rules;
   states = search rules;
-  work = let k = c.args.self.now.core in let n = c.undo_step-told.new.self in let all = pages k.operations.store.pool in
+  work = let k = c.args.self.now.core in let n = c.undo_step-outcome.new.self in let all = pages k.operations.store.pool in
       let at = at_place k.running.items c.args.place c.requires.within in
-      let lowers = subst (λ t. LowersUndo all c.undo_step-told.result (undo_steps k t) (undo_steps n t)) (c.requires.own at.0 at.1).0 (c.undo_step-told.ensures.lowers at.0 at.1) in
+      let lowers = subst (λ t. LowersUndo all c.undo_step-outcome.result (undo_steps k t) (undo_steps n t)) (c.requires.own at.0 at.1).0 (c.undo_step-outcome.ensures.lowers at.0 at.1) in
       subst (λ (r : Result Stepping Refusal). LowersUndo all r (undo_steps k c.args.txn) (undo_steps n c.args.txn)) (c.in_ok-reply.was ∙ ap Ok c.in-Ended.is) lowers;
   other = search rules;
   full = search rules;
@@ -85,10 +85,10 @@ returns-in-Ended-clause-steps g c = record {
   out = search rules;
   schema = search rules;
   restarts = λ first r. let D = g.D.Device in let k = c.args.self.now in
-      restarts_on D.seen D.may_leave k.relations k.counters first k.core c.undo_step-told.new.self (undo_goes D.seen D.may_leave k.core c.undo_step-told.new.self c.args.place c.undo_step-told.result c.requires.within c.undo_step-told.ensures.steps) (c.undo_step-told.ensures.restartable) r;
+      restarts_on D.seen D.may_leave k.relations k.counters first k.core c.undo_step-outcome.new.self (undo_goes D.seen D.may_leave k.core c.undo_step-outcome.new.self c.args.place c.undo_step-outcome.result c.requires.within c.undo_step-outcome.ensures.steps) (c.undo_step-outcome.ensures.restartable) r;
   moments = λ first r schema. let D = g.D.Device in let k = c.args.self.now in
-      meanwhile D.seen D.may_leave k.relations k.counters first D.moment D.left_since g.met.D.Device.only_now k.core _ c.undo_step-told.ensures.moments r schema;
-  aborted = λ first s shows. subst (UndoShown g.D.Device.seen g.D.Device.may_leave c.args.self.now.relations c.args.self.now.counters c.undo_step-told.new.self first s c.args.txn) (c.in_ok-reply.was ∙ ap Ok c.in-Ended.is) (undo_shown g.D.Device.seen g.D.Device.may_leave c.args.self.now.relations c.args.self.now.counters c.args.self.now.core c.undo_step-told.new.self first s c.args.txn c.args.place c.undo_step-told.result c.requires.within (λ r there. (c.requires.own r there).0) c.undo_step-told.ensures.steps shows);
+      meanwhile D.seen D.may_leave k.relations k.counters first D.moment D.left_since g.met.D.Device.only_now k.core _ c.undo_step-outcome.ensures.moments r schema;
+  aborted = λ first s shows. subst (UndoShown g.D.Device.seen g.D.Device.may_leave c.args.self.now.relations c.args.self.now.counters c.undo_step-outcome.new.self first s c.args.txn) (c.in_ok-reply.was ∙ ap Ok c.in-Ended.is) (undo_shown g.D.Device.seen g.D.Device.may_leave c.args.self.now.relations c.args.self.now.counters c.args.self.now.core c.undo_step-outcome.new.self first s c.args.txn c.args.place c.undo_step-outcome.result c.requires.within (λ r there. (c.requires.own r there).0) c.undo_step-outcome.ensures.steps shows);
 }
 
 pub returns-in-Going-clause-steps : goal.returns-in-Going-clause-steps
@@ -97,19 +97,19 @@ returns-in-Going-clause-steps g c = record {
   fails = search rules;
   quiet = search rules;
   states = search rules;
-  work = let k = c.args.self.now.core in let n = c.undo_step-told.new.self in let all = pages k.operations.store.pool in
+  work = let k = c.args.self.now.core in let n = c.undo_step-outcome.new.self in let all = pages k.operations.store.pool in
       let at = at_place k.running.items c.args.place c.requires.within in
-      let lowers = subst (λ t. LowersUndo all c.undo_step-told.result (undo_steps k t) (undo_steps n t)) (c.requires.own at.0 at.1).0 (c.undo_step-told.ensures.lowers at.0 at.1) in
+      let lowers = subst (λ t. LowersUndo all c.undo_step-outcome.result (undo_steps k t) (undo_steps n t)) (c.requires.own at.0 at.1).0 (c.undo_step-outcome.ensures.lowers at.0 at.1) in
       going_left n.running.items all (undo_steps k c.args.txn) (undo_steps n c.args.txn) c.in-Going.going c.going.result c.going.ensures (subst (λ (r : Result Stepping Refusal). LowersUndo all r (undo_steps k c.args.txn) (undo_steps n c.args.txn)) (c.in_ok-reply.was ∙ ap Ok c.in-Going.is) lowers);
-  other = let k = c.args.self.now.core in let n = c.undo_step-told.new.self in let place = c.args.place in
+  other = let k = c.args.self.now.core in let n = c.undo_step-outcome.new.self in let place = c.args.place in
       let seen = g.D.Device.seen in let may_leave = g.D.Device.may_leave in
       let was = c.in_ok-reply.was ∙ ap Ok c.in-Going.is in
       abort_other seen may_leave c.args.self.now.relations c.args.self.now.counters k n c.args.txn place c.in-Going.going c.going.result (λ r there. (c.requires.own r there).0)
       (record {
         within = c.requires.within;
-        states = c.undo_step-told.ensures.states;
-        consistent = λ origin base safe. (subst (UndoSteps seen may_leave origin base k n place) was (c.undo_step-told.ensures.steps origin base safe)).consistent;
-        names = λ origin base safe. subst (λ (r : Result Stepping Refusal). AtPlace k.running.items place (λ q. NamesOther n.running.items q.scope.txn r)) was (c.undo_step-told.ensures.other origin base safe);
+        states = c.undo_step-outcome.ensures.states;
+        consistent = λ origin base safe. (subst (UndoSteps seen may_leave origin base k n place) was (c.undo_step-outcome.ensures.steps origin base safe)).consistent;
+        names = λ origin base safe. subst (λ (r : Result Stepping Refusal). AtPlace k.running.items place (λ q. NamesOther n.running.items q.scope.txn r)) was (c.undo_step-outcome.ensures.other origin base safe);
       }) c.args.self.now.well c.going.ensures;
   full = search rules;
   durable = search rules;
@@ -118,8 +118,8 @@ returns-in-Going-clause-steps g c = record {
   out = search rules;
   schema = search rules;
   restarts = λ first r. let D = g.D.Device in let k = c.args.self.now in
-      restarts_on D.seen D.may_leave k.relations k.counters first k.core c.undo_step-told.new.self (undo_goes D.seen D.may_leave k.core c.undo_step-told.new.self c.args.place c.undo_step-told.result c.requires.within c.undo_step-told.ensures.steps) (c.undo_step-told.ensures.restartable) r;
+      restarts_on D.seen D.may_leave k.relations k.counters first k.core c.undo_step-outcome.new.self (undo_goes D.seen D.may_leave k.core c.undo_step-outcome.new.self c.args.place c.undo_step-outcome.result c.requires.within c.undo_step-outcome.ensures.steps) (c.undo_step-outcome.ensures.restartable) r;
   moments = λ first r schema. let D = g.D.Device in let k = c.args.self.now in
-      meanwhile D.seen D.may_leave k.relations k.counters first D.moment D.left_since g.met.D.Device.only_now k.core _ c.undo_step-told.ensures.moments r schema;
-  aborted = λ first s shows. going_aborted g.D.Device.seen g.D.Device.may_leave first s c.args.txn _ c.going.result (abort_goes _ _ _ c.going.ensures) (subst (UndoShown g.D.Device.seen g.D.Device.may_leave c.args.self.now.relations c.args.self.now.counters c.undo_step-told.new.self first s c.args.txn) (c.in_ok-reply.was ∙ ap Ok c.in-Going.is) (undo_shown g.D.Device.seen g.D.Device.may_leave c.args.self.now.relations c.args.self.now.counters c.args.self.now.core c.undo_step-told.new.self first s c.args.txn c.args.place c.undo_step-told.result c.requires.within (λ r there. (c.requires.own r there).0) c.undo_step-told.ensures.steps shows));
+      meanwhile D.seen D.may_leave k.relations k.counters first D.moment D.left_since g.met.D.Device.only_now k.core _ c.undo_step-outcome.ensures.moments r schema;
+  aborted = λ first s shows. going_aborted g.D.Device.seen g.D.Device.may_leave first s c.args.txn _ c.going.result (abort_goes _ _ _ c.going.ensures) (subst (UndoShown g.D.Device.seen g.D.Device.may_leave c.args.self.now.relations c.args.self.now.counters c.undo_step-outcome.new.self first s c.args.txn) (c.in_ok-reply.was ∙ ap Ok c.in-Going.is) (undo_shown g.D.Device.seen g.D.Device.may_leave c.args.self.now.relations c.args.self.now.counters c.args.self.now.core c.undo_step-outcome.new.self first s c.args.txn c.args.place c.undo_step-outcome.result c.requires.within (λ r there. (c.requires.own r there).0) c.undo_step-outcome.ensures.steps shows));
 }

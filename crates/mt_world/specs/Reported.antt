@@ -13,37 +13,39 @@ use Rattle.mt_world.specs.declared.events.Event.{Event}
 use Rattle.mt_world.specs.declared.events.Event.TheVariants.{Begin, Call, Step, Commit}
 
 -- whose it is, what was last reported to it as started, and the operations that it had a reply to
-pub record Told : Type 0 where
+pub record Reported : Type 0 where
   pub session : ℕ
   pub started : Option Op
   pub calls : List Replied
 
-abbrev pub nothing_told : Told
-nothing_told = record { session = 0; started = None; calls = [] }
+abbrev pub nothing_reported : Reported
+nothing_reported = record { session = 0; started = None; calls = [] }
 
 abbrev pub replied : Option Op → Reply → List Replied
 replied None reply = []
 replied (Some op) reply = (op, reply) ∷ []
 
 -- what one more event with its answer says of transaction t
-abbrev pub tells : ℕ → Told → Event → Answer → Told
-tells t told (Begin session) (Begun u) = cond (t == u) (record { session = session; started = None; calls = [] }) told
-tells t told (Call u op) (Called call.Started) = cond (t == u) (record told { started = Some op }) told
-tells t told (Step u) (Stepped (step.Replied reply)) = cond (t == u) (record told { started = None; calls = told.calls ++ replied told.started reply }) told
-tells t told event answer = told
+abbrev pub tells : ℕ → Reported → Event → Answer → Reported
+tells t so_far (Begin session) (Begun u) =
+    cond (t == u) (record { session = session; started = None; calls = [] }) so_far
+tells t so_far (Call u op) (Called call.Started) = cond (t == u) (record so_far { started = Some op }) so_far
+tells t so_far (Step u) (Stepped (step.Replied reply)) = cond (t == u) (record so_far { started = None; calls = so_far.calls ++ replied so_far.started reply }) so_far
+tells t so_far event answer = so_far
 
 -- and what all of them do, one after the other
-abbrev pub told_from : ℕ → Told → List Event → List Answer → Told
-told_from t told [] answers = told
-told_from t told (event ∷ events) [] = told
-told_from t told (event ∷ events) (answer ∷ answers) = told_from t (tells t told event answer) events answers
+abbrev pub reported_from : ℕ → Reported → List Event → List Answer → Reported
+reported_from t so_far [] answers = so_far
+reported_from t so_far (event ∷ events) [] = so_far
+reported_from t so_far (event ∷ events) (answer ∷ answers) =
+    reported_from t (tells t so_far event answer) events answers
 
-abbrev pub told_of : List Event → List Answer → ℕ → Told
-told_of events answers t = told_from t nothing_told events answers
+abbrev pub reported_of : List Event → List Answer → ℕ → Reported
+reported_of events answers t = reported_from t nothing_reported events answers
 
 -- its session, with the operations that it had a reply to
-abbrev pub commit_of : Told → Committed
-commit_of told = record { session = told.session; calls = told.calls }
+abbrev pub commit_of : Reported → Committed
+commit_of reported = record { session = reported.session; calls = reported.calls }
 
 -- the transactions whose commits an answer names durable
 abbrev pub named : Answer → List ℕ
@@ -68,4 +70,4 @@ committing (event ∷ events) (answer ∷ answers) = started_by event answer ++ 
 
 -- these commits: each session's, with the operations that it had a reply to
 abbrev pub commit_order : List Event → List Answer → List Committed
-commit_order events answers = map (λ t. commit_of (told_of events answers t)) (committing events answers)
+commit_order events answers = map (λ t. commit_of (reported_of events answers t)) (committing events answers)

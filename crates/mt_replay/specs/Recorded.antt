@@ -68,7 +68,7 @@ abbrev pub calls_of : List Finished → List Call
 calls_of fs = map (λ (f : Finished). call_of f.done) fs
 
 -- those of transactions that have not ended, in the order of their ends, and those of each that has committed
-pub record Told : Type 0 where
+pub record Recorded : Type 0 where
   pub live : List Finished
   pub books : List (List Finished)
 
@@ -85,20 +85,20 @@ abbrev pub without : ℕ → ℕ → List Finished → List Finished
 without t o fs = filter (is_but t o) fs
 
 -- what a record adds: an end of its own, an inverse, a commit, the end of an abort
-abbrev pub told : Told → Record → Told
-told s (Page txn op page image start old new) = s
-told s (OpEnd txn op undoes done) =
+abbrev pub plus_record : Recorded → Record → Recorded
+plus_record s (Page txn op page image start old new) = s
+plus_record s (OpEnd txn op undoes done) =
     if undoes == 0 then record { live = s.live ++ record { txn = txn; op = op; done = done } ∷ []; books = s.books }
     else record { live = without txn undoes s.live; books = s.books }
-told s (OpDropped txn op) = s
-told s (Commit txn) = record { live = others txn s.live; books = s.books ++ its txn s.live ∷ [] }
-told s (AbortEnd txn) = record { live = others txn s.live; books = s.books }
+plus_record s (OpDropped txn op) = s
+plus_record s (Commit txn) = record { live = others txn s.live; books = s.books ++ its txn s.live ∷ [] }
+plus_record s (AbortEnd txn) = record { live = others txn s.live; books = s.books }
 
-abbrev pub tell : Told → List Record → Told
+abbrev pub tell : Recorded → List Record → Recorded
 tell s [] = s
-tell s (r ∷ rs) = tell (told s r) rs
+tell s (r ∷ rs) = tell (plus_record s r) rs
 
-abbrev pub tells : List Record → Told
+abbrev pub tells : List Record → Recorded
 tells rs = tell (record { live = []; books = [] }) rs
 
 -- the losers: the finished operations of transactions that have not ended

@@ -3,7 +3,7 @@ use Rattle.std.proofs.lemmas.Result.{err_from_is_err_and, on_err_weaker}
 use Rattle.mt_script.specs.Answers.{AppendsFront}
 use Rattle.mt_script.proofs.TextLemmas.{front_then, front_whole}
 use Rattle.mt_cli.specs.Advice.{about, advice_line, advice_of, fault_line}
-use Rattle.mt_cli.proofs.faults.write_told.Goals as goal
+use Rattle.mt_cli.proofs.faults.write_reported.Goals as goal
 
 pub returns-in_err-write_fault-clause-front : goal.returns-in_err-write_fault-clause-front
 returns-in_err-write_fault-clause-front g c =

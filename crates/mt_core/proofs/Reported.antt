@@ -22,7 +22,7 @@ use Rattle.mt_model.specs.declared.operations.Reply.TheVariants.{Done, Was}
 use Rattle.mt_op.specs.Records.{end_with}
 use Rattle.mt_pool.proofs.Logged.{no_records}
 use Rattle.mt_steps.specs.Logged.{logged_of}
-use Rattle.mt_core.specs.Consistent.{IsDue, IsTold, AreTold}
+use Rattle.mt_core.specs.Consistent.{IsDue, IsReported, AreReported}
 
 -- what did something is logged
 logged_effect : (op : Op) (reply : Reply) → is_some (inverse_of op reply) ≡ true → is_some (logged_of op reply) ≡ true
@@ -107,20 +107,20 @@ end_finishes txn number undoes op reply fore effect = go (logged_of op reply) (l
 -- ---- one transaction
 
 -- records more that take back no operation of it
-pub told_on_more : (last : ℕ) (records rs : List Record) (t : ℕ) (m : Member) → ((n : ℕ) → some_record (undoes_op t n) rs ≡ false) → IsTold last records t m → IsTold last (records ++ rs) t m
-told_on_more last records rs t m none k = record {
+pub reported_on_more : (last : ℕ) (records rs : List Record) (t : ℕ) (m : Member) → ((n : ℕ) → some_record (undoes_op t n) rs ≡ false) → IsReported last records t m → IsReported last (records ++ rs) t m
+reported_on_more last records rs t m none k = record {
   many = k.many;
   numbers = k.numbers;
   rising = k.rising;
   due = λ i c lt there has. due_more t (get_or m.operations i 0) records rs (none (get_or m.operations i 0)) (k.due i c lt there has);
 }
 
-pub told_fresh : (last : ℕ) (records : List Record) (t u session : ℕ) → IsTold last records t (fresh u session)
-told_fresh last records t u session = record { many = refl; numbers = λ i d lt. absurd (omega (arith, lt)); rising = λ i j d less lt. absurd (omega (arith, lt)); due = λ i c lt. absurd (omega (arith, lt)) }
+pub reported_fresh : (last : ℕ) (records : List Record) (t u session : ℕ) → IsReported last records t (fresh u session)
+reported_fresh last records t u session = record { many = refl; numbers = λ i d lt. absurd (omega (arith, lt)); rising = λ i j d less lt. absurd (omega (arith, lt)); due = λ i c lt. absurd (omega (arith, lt)) }
 
 -- a call more, of a number above the others
-pub told_call : (last : ℕ) (records : List Record) (t n : ℕ) (m : Member) (c : Call) → IsTold last records t m → All (λ x. x < n) m.operations → 1 ≤ n → n ≤ last → (has_inverse c ≡ true → IsDue records t n) → IsTold last records t (with_call m n c)
-told_call last records t n m c k below some low due =
+pub reported_call : (last : ℕ) (records : List Record) (t n : ℕ) (m : Member) (c : Call) → IsReported last records t m → All (λ x. x < n) m.operations → 1 ≤ n → n ≤ last → (has_inverse c ≡ true → IsDue records t n) → IsReported last records t (with_call m n c)
+reported_call last records t n m c k below some low due =
     let calls = length_push m.calls c in let numbers = length_push m.operations n in let many = k.many in
     record {
       many = omega arith;
@@ -140,9 +140,9 @@ told_call last records t n m c k below some low due =
     }
 
 -- the first calls alone, over records behind these that tell of them
-pub told_cut : (last : ℕ) (was records : List Record) (t n : ℕ) (m : Member) → IsTold last was t m → n < length m.calls → ((i : ℕ) → get_or m.operations i 0 < get_or m.operations n 0 → IsDue was t (get_or m.operations i 0) → IsDue records t (get_or m.operations i 0))
-    → IsTold last records t (cut_at m n)
-told_cut last was records t n m k within later =
+pub reported_cut : (last : ℕ) (was records : List Record) (t n : ℕ) (m : Member) → IsReported last was t m → n < length m.calls → ((i : ℕ) → get_or m.operations i 0 < get_or m.operations n 0 → IsDue was t (get_or m.operations i 0) → IsDue records t (get_or m.operations i 0))
+    → IsReported last records t (cut_at m n)
+reported_cut last was records t n m k within later =
     let calls = length-take-le n m.calls (omega (arith, within)) in
     let many = k.many in
     let numbers = length-take-le n m.operations (omega (arith, within)) in
@@ -163,16 +163,16 @@ told_cut last was records t n m k within later =
 -- ---- all of them
 
 -- records more that are no inverse, with room for numbers to come
-pub told_more : (last more : ℕ) (ms : List Member) (records rs : List Record) → last ≤ more → ((t n : ℕ) → n ≤ last → some_record (undoes_op t n) rs ≡ false) → AreTold last ms records → AreTold more ms (records ++ rs)
-told_more last more ms records rs less none told t m is = let k = told t m is in record {
+pub reported_more : (last more : ℕ) (ms : List Member) (records rs : List Record) → last ≤ more → ((t n : ℕ) → n ≤ last → some_record (undoes_op t n) rs ≡ false) → AreReported last ms records → AreReported more ms (records ++ rs)
+reported_more last more ms records rs less none outcome t m is = let k = outcome t m is in record {
   many = k.many;
   numbers = λ i d lt. let was = k.numbers i d lt in (was.0, omega (arith, less, was));
   rising = k.rising;
   due = λ i c lt there has. let many = k.many in let low = (k.numbers i 0 (omega arith)).1 in due_more t (get_or m.operations i 0) records rs (none t (get_or m.operations i 0) low) (k.due i c lt there has);
 }
 
-pub told_last : (last more : ℕ) (ms : List Member) (records : List Record) → last ≤ more → AreTold last ms records → AreTold more ms records
-told_last last more ms records less told t m is = let k = told t m is in record {
+pub reported_last : (last more : ℕ) (ms : List Member) (records : List Record) → last ≤ more → AreReported last ms records → AreReported more ms records
+reported_last last more ms records less outcome t m is = let k = outcome t m is in record {
   many = k.many;
   numbers = λ i d lt. let was = k.numbers i d lt in (was.0, omega (arith, less, was));
   rising = k.rising;
@@ -180,22 +180,22 @@ told_last last more ms records less told t m is = let k = told t m is in record 
 }
 
 -- one transaction has changed, and perhaps the records
-pub told_changed : (last : ℕ) (was records : List Record) (old new : List Member) (t : ℕ) (f : Member → Member) → ((m : Member) → member_of old t ≡ Some m → IsTold last was t m → IsTold last records t (f m)) → ((u : ℕ) (m : Member) → u ≢ t → IsTold last was u m → IsTold last records u m)
-    → IsChanged old new t f → AreTold last old was → AreTold last new records
-told_changed last was records old new t f own others changed told u m is = go (u == t) refl (sym (changed u) ∙ is)
+pub reported_changed : (last : ℕ) (was records : List Record) (old new : List Member) (t : ℕ) (f : Member → Member) → ((m : Member) → member_of old t ≡ Some m → IsReported last was t m → IsReported last records t (f m)) → ((u : ℕ) (m : Member) → u ≢ t → IsReported last was u m → IsReported last records u m)
+    → IsChanged old new t f → AreReported last old was → AreReported last new records
+reported_changed last was records old new t f own others changed outcome u m is = go (u == t) refl (sym (changed u) ∙ is)
   where
-    mine : (o : Option Member) → member_of old t ≡ o → option_map f o ≡ Some m → IsTold last records t m
+    mine : (o : Option Member) → member_of old t ≡ o → option_map f o ≡ Some m → IsReported last records t m
     mine None at k = absurd cc
-    mine (Some x) at k = let same : f x ≡ m = cc in subst (IsTold last records t) same (own x at (told t x at))
+    mine (Some x) at k = let same : f x ≡ m = cc in subst (IsReported last records t) same (own x at (outcome t x at))
 
-    go : (c : Bool) → (u == t) ≡ c → cond c (option_map f (member_of old t)) (member_of old u) ≡ Some m → IsTold last records u m
-    go true at k = subst (λ (v : ℕ). IsTold last records v m) (sym (eqb-true u t at)) (mine (member_of old t) refl k)
-    go false at k = others u m (λ e. let y : (u == t) ≡ true = eq-eqb u t e in cc) (told u m k)
+    go : (c : Bool) → (u == t) ≡ c → cond c (option_map f (member_of old t)) (member_of old u) ≡ Some m → IsReported last records u m
+    go true at k = subst (λ (v : ℕ). IsReported last records v m) (sym (eqb-true u t at)) (mine (member_of old t) refl k)
+    go false at k = others u m (λ e. let y : (u == t) ≡ true = eq-eqb u t e in cc) (outcome u m k)
 
 -- one has come or gone
-pub told_put : (last : ℕ) (records : List Record) (old new : List Member) (t : ℕ) (x : Option Member) → ((m : Member) → x ≡ Some m → IsTold last records t m) → ((u : ℕ) → member_of new u ≡ put (member_of old) t x u) → AreTold last old records → AreTold last new records
-told_put last records old new t x own put_there told u m is = go (u == t) refl (sym (put_there u) ∙ is)
+pub reported_put : (last : ℕ) (records : List Record) (old new : List Member) (t : ℕ) (x : Option Member) → ((m : Member) → x ≡ Some m → IsReported last records t m) → ((u : ℕ) → member_of new u ≡ put (member_of old) t x u) → AreReported last old records → AreReported last new records
+reported_put last records old new t x own put_there outcome u m is = go (u == t) refl (sym (put_there u) ∙ is)
   where
-    go : (c : Bool) → (u == t) ≡ c → cond c x (member_of old u) ≡ Some m → IsTold last records u m
-    go true at k = subst (λ (v : ℕ). IsTold last records v m) (sym (eqb-true u t at)) (own m k)
-    go false at k = told u m k
+    go : (c : Bool) → (u == t) ≡ c → cond c x (member_of old u) ≡ Some m → IsReported last records u m
+    go true at k = subst (λ (v : ℕ). IsReported last records v m) (sym (eqb-true u t at)) (own m k)
+    go false at k = outcome u m k

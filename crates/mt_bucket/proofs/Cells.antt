@@ -1,5 +1,5 @@
 -- The bytes of a cell.
-use Rattle.std.proofs.Common.{◌≡◌, ◌≢◌, ℕ, ◌+◌, ◌*◌, ◌<◌, ◌≤◌, ◌==◌, ◌&&◌, Bool, true, false, List, length, get_or, take, drop, min, bytes_eq, refl, ap, sym, ◌∙◌, arith, length-drop, length-take, ◌⊎◌, inl, inr}
+use Rattle.std.proofs.Common.{◌≡◌, ◌≢◌, ℕ, ◌+◌, ◌-◌, ◌*◌, ◌<◌, ◌≤◌, ◌==◌, ◌&&◌, Bool, true, false, List, length, get_or, take, drop, min, bytes_eq, refl, ap, sym, ◌∙◌, arith, length-drop, length-take, ◌⊎◌, inl, inr}
 use Rattle.std.proofs.lemmas.List.{get_or-take, get_or-drop, drop-take, drop-drop, take-take, length-take-le, ext_get_or, take_all}
 use Rattle.std.proofs.lemmas.Bool.{eq-eqb, ne_eqb, cases_lt}
 use Rattle.std.specs.Cmp.Lexicographic.{bytes_decides}
@@ -57,14 +57,14 @@ other_relation c k at r no_match =
     and_false_left (get_or (cell c at) 0 0 == r) (bytes_eq (take (get_or (cell c at) 1 0) (drop 2 (cell c at))) k)
     (ne_eqb (get_or (cell c at) 0 0) r (λ e. no_match (ap (λ (i : ℕ). get_or c i 0) (omega arith) ∙ sym (get_cell c at 0 (omega arith)) ∙ e)))
 
-other_text : (x k : List ℕ) → length x ≢ length k → (t : Bool) → bytes_eq x k ≡ t → t ≡ false
-other_text x k apart true e = absurd (apart (ap length ((bytes_decides x k).0 e)))
+other_text : (x k : List ℕ) → x ≢ k → (t : Bool) → bytes_eq x k ≡ t → t ≡ false
+other_text x k apart true e = absurd (apart ((bytes_decides x k).0 e))
 other_text x k apart false e = refl
 
 pub other_length : (c k : List ℕ) (at r : ℕ) → length c ≡ 4096 → at + 70 ≤ 4096 → length k ≤ 64 → get_or c (at + 1) 0 ≢ length k → is_at r k (entry_of (cell c at)) ≡ false
 other_length c k at r size within short no_match =
     and_false_right (get_or (cell c at) 0 0 == r) (bytes_eq (take (get_or (cell c at) 1 0) (drop 2 (cell c at))) k)
-    (other_text (take (get_or (cell c at) 1 0) (drop 2 (cell c at))) k apart (bytes_eq (take (get_or (cell c at) 1 0) (drop 2 (cell c at))) k) refl)
+    (other_text (take (get_or (cell c at) 1 0) (drop 2 (cell c at))) k (λ e. apart (ap length e)) (bytes_eq (take (get_or (cell c at) 1 0) (drop 2 (cell c at))) k) refl)
   where
     whole : length (drop 2 (cell c at)) ≡ 68
     whole = omega (arith, length-drop 2 (cell c at), length-take 70 (drop at c), length-drop at c, size, within)
@@ -83,6 +83,18 @@ same_text c k at r short rel len =
     (eq-eqb (get_or (cell c at) 0 0) r (get_cell c at 0 (omega arith) ∙ ap (λ (i : ℕ). get_or c i 0) (omega arith) ∙ rel))
     ∙ ap (λ (n : ℕ). bytes_eq (take n (drop 2 (cell c at))) k) (get_cell c at 1 (omega arith) ∙ len)
     ∙ ap (λ x. bytes_eq x k) (key_cell c at (length k) (omega (arith, short)))
+
+-- a cell whose key ends in another byte is not one of the key
+pub other_last : (c k : List ℕ) (at r : ℕ) → length k ≤ 64 → get_or c at 0 ≡ r → get_or c (at + 1) 0 ≡ length k → 0 < length k
+    → get_or c (at + 1 + length k) 0 ≢ get_or k (length k - 1) 0 → is_at r k (entry_of (cell c at)) ≡ false
+other_last c k at r short rel len some no_match =
+    same_text c k at r short rel len ∙ (other_text (take (length k) (drop (at + 2) c)) k apart (bytes_eq (take (length k) (drop (at + 2) c)) k) refl)
+  where
+    there : get_or (take (length k) (drop (at + 2) c)) (length k - 1) 0 ≡ get_or c (at + 1 + length k) 0
+    there = get_or-take (length k) (drop (at + 2) c) (length k - 1) 0 (omega arith) ∙ get_or-drop (at + 2) c (length k - 1) 0 ∙ ap (λ (i : ℕ). get_or c i 0) (omega arith)
+
+    apart : take (length k) (drop (at + 2) c) ≢ k
+    apart e = no_match (sym there ∙ ap (λ (x : List ℕ). get_or x (length k - 1) 0) e)
 
 -- more bytes than there are is all of them
 pub key_clamped : (b : List ℕ) (n m : ℕ) → length b ≡ 70 → n ≡ min (get_or b 1 0) m → m ≡ 68 → take n (drop 2 b) ≡ take (get_or b 1 0) (drop 2 b)

@@ -77,6 +77,10 @@ fn holds(page: &[u8], at: usize, relation: RelNo, key: &[u8]) -> bool
     if usize::from(page[at + 1]) != key.len() {
         return false;
     }
+    // keys often begin alike, so the last byte is looked at first
+    if !key.is_empty() && page[at + 1 + key.len()] != key[key.len() - 1] {
+        return false;
+    }
     part_of(page, at + 2, key.len()) == key
 }
 

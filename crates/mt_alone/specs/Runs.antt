@@ -24,7 +24,7 @@ abbrev pub last_line : Option (List Call) → List Answer
 last_line None = []
 last_line (Some calls) = Aborted ∷ []
 
--- and that the device failed is reported by one
+-- and one of them says that the device failed
 abbrev pub failure_line : Refusal → List Answer
 failure_line refusal.DeviceFailed = Refused refusal.DeviceFailed ∷ []
 failure_line _ = []

@@ -1,4 +1,4 @@
--- What a writer was reported, whole or in part.
+-- What a writer was given, whole or in part.
 use Rattle.std.proofs.Common.{[], ◌≡◌, List, ℕ, Option, Result, Ok, Err, OnOk, OnErr, append-nil, subst, sym}
 use Rattle.std.specs.Io.KnownBytes.{Appends}
 use Rattle.std.specs.Result.{MatchResult}

@@ -185,7 +185,7 @@ module _ {D : Type 0} (seen : D → List ℕ) (may_leave : D → List ℕ → Ty
         known = subst (λ (m : ℕ). m ≤ k.last) (sym same.number) known;
       }
 
-  -- the records reported of each call, and none of those more is an inverse
+  -- the records had each call, and none of those more is an inverse
   pub reported_on : (k n : Core D) → IsConsistent seen may_leave origin base k → (a : AddsNoInverse (appended k.operations.store.log) (appended n.operations.store.log)) → AreReported k.last k.live.members (appended n.operations.store.log)
   reported_on k n safe a = subst (AreReported k.last k.live.members) (sym a.is) (reported_more k.last k.last k.live.members (appended k.operations.store.log) a.more (omega arith) (λ t m low. a.none t m) safe.outcome)
 

@@ -251,7 +251,7 @@ module _ {D : Type 0} (seen : D → List ℕ) (may_leave : D → List ℕ → Ty
         aborts = λ back. ap (option_map (λ (m : Member). m.state)) same ∙ o.aborts back;
       }
 
-  -- the calls that are left were reported of before the inverse's end, and it takes none of them back
+  -- the calls that are left were recorded before the inverse's end, and it takes none of them back
   undone_reported : (last : ℕ) (was more : List Record) (t undoes : ℕ) (m : Member) → last_operation (Some m) ≡ Some undoes → ((n : ℕ) → undoes ≢ n → some_record (undoes_op t n) more ≡ false) → IsReported last was t m → IsReported last (was ++ more) t (taken_back m)
   undone_reported last was more t undoes m named none outcome = go (last_place m.calls) refl named
     where

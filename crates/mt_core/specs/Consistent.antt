@@ -236,7 +236,7 @@ pub record IsAlone {D : Type 0} (seen : D → List ℕ) (origin : Origin) (k : C
   pub known : r.scope.number ≤ k.last
   pub others : (i : ℕ) (d : Running) → i < length k.running.items → i ≢ place → IsRunning origin.relations origin.counters (world seen origin.pages k.operations) k.last (slice_index_or k.running.items i d)
 
--- before its end, the records reported each call; none takes it back
+-- before its end, the records had each call; none takes it back
 pub record IsReportedBefore (last : ℕ) (ms : List Member) (records : List Record) (s : OpScope) (reply : Reply) : Type 0 where
   pub was : List Record
   pub ended : records ≡ was ++ end_of s reply

@@ -1,4 +1,4 @@
--- A page of records is well formed where it is so in some way: of two records which one lies before the other can be reported.
+-- A page of records is well formed where it is so in some way: of two records it is known which one lies before the other.
 use Rattle.std.proofs.Common.{◌⊎◌, inl, inr, ◌<◌, ◌≤◌, ◌+◌, ℕ, List, arith}
 use Rattle.std.proofs.Props.{props}
 use Rattle.std.proofs.lemmas.Bool.{cases_lt}

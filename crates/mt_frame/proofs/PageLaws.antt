@@ -95,7 +95,7 @@ pub reads_page : Reads parts_text PartsFit page_at
 unfolding page_at
 reads_page = reads_then reads_head (λ h _. reads_then (reads_image h.1.1.1.0) (λ _ _. reads_range h.1.1.1.1.1))
 
--- the flag and the length are reported by what follows
+-- what follows says the flag and the length
 pub page_text_is : (p : PageParts) → PartsFit p → record_text (page_of p) ≡ 1 ∷ parts_text p
 page_text_is p f =
     let text = λ (flag : Bool) (n : ℕ). 1 ∷ (head_text (p.0.0, (p.0.1.0, (p.0.1.1.0, (flag, (p.0.1.1.1.1.0, n))))) ++ (image_text p.1.0 ++ (p.1.1.0 ++ p.1.1.1))) in

@@ -370,7 +370,7 @@ misplaced_unsettled pages homes done b p marked real home wrong =
     let member = met (nodes pages) (IsMember pages homes b) b wrong.0.front p m.chain wrong.0.walk wrong.0.real m.linked m.each in
     (member.kind, λ settled. wrong.1 (subst (λ (c : ℕ). AreAlone pages c p) member.home settled.each))
 
--- where this is reported of each page, all are settled
+-- if this holds of each page, all are settled
 pub all_settled : (total : ℕ) (pages : PageBytes) (homes : List ℕ) (done : ℕ) → AreKinds total pages → AreMarked pages homes done → ((p : ℕ) → p < total → Settles pages homes p)
     → (p : ℕ) → kind pages p ≡ 2 → IsSettled pages homes p
 all_settled total pages homes done kinds marked outcome p two =

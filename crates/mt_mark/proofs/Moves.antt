@@ -231,7 +231,7 @@ enters k slots id v at pre e sees known own long seen sure s h homes there range
       (refl, refl, word, (pre, e, known, (p.holds.0, p.holds.1 ∙ sym parts.0, p.holds.2))),
     )
 
--- a pass has seen just what it was reported
+-- a pass has seen just what it heard of
 pub settles : (k : About) (slots id : ℕ) (v : Me Entry View) → v.0.sees ≡ true → IsPrefix v.0.list v.0.known → length v.0.known ≤ v.0.sure → Allows (Kept k) slots id v 0 (λ n. n) (Settles (step slots 0 0 0 none) v)
 settles k slots id v sees longer sure s h homes at range =
     let b = k.base.value in

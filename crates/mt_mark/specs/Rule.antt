@@ -90,7 +90,7 @@ LooksTo v found w =
 abbrev pub Looks : Step Entry → Me Entry View → ℕ → Me Entry View → Type 0
 Looks s v found w = (w.1 ≡ v.1) × LooksTo v.0 found w.0
 
--- what was reported goes on from what the pass has seen, by others' entries and one more
+-- what the end knows goes on from what the pass has seen, by others' entries and one more
 abbrev pub OthersThen : View → Type 0
 OthersThen v = (pre : List Entry) × (e : Entry) × (v.known ≡ pre ++ e ∷ []) × Holds v.number v.list pre
 

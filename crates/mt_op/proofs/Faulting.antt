@@ -18,7 +18,7 @@ no_fault before now r only same = record { later = omega arith; failed = λ is. 
 pub no_fault_ok : {T : Type 0} (before now : ℕ) (x : T) → now ≡ before → TellsFaults before now (Ok x)
 no_fault_ok before now x same = record { later = omega arith; failed = λ is. absurd cc; quiet = λ other. same }
 
--- an answer tells what the one that it was made of reported
+-- an answer says what the one said that it was made of
 pub reported_ok : {T U : Type 0} (before now : ℕ) (r : Result T Refusal) (x : T) (y : U) → r ≡ Ok x → TellsFaults before now r → TellsFaults before now (Ok y)
 reported_ok before now r x y is f = no_fault_ok before now y (f.quiet (λ e. absurd cc))
 

@@ -25,7 +25,7 @@ use Rattle.mt_replay.specs.Stands.{HasArea}
 use Rattle.mt_replay.specs.Recorded.{losers}
 use Rattle.mt_replay.specs.declared.losers.Loser.{Loser}
 
--- what a scan is refused with, reported of other words for the area
+-- what a scan is refused with, by other words for the area
 pub scan_cause : {T : Type 0} (r : Result T Refusal) (F : Type 0) (P Q : ℕ → Type 0) → ((at : ℕ) → P at → Q at) → IfErr r (λ why. (at : ℕ) → why ≡ BadFormat at → P at)
     → IfErr r (λ why. (why ≡ NoMemory) ⊎ (((why ≡ DeviceFailed) × F) ⊎ ((at : ℕ) × (why ≡ BadFormat at))))
     → IfErr r (λ why. (why ≡ NoMemory) ⊎ (((why ≡ DeviceFailed) × F) ⊎ ((at : ℕ) × (why ≡ BadFormat at) × Q at)))

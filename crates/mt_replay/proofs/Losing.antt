@@ -126,7 +126,7 @@ pub all_reverse : (P : Loser → Type 0) (list : List Loser) → AllByRecursion 
 all_reverse P [] all = tt
 all_reverse P (l ∷ list) all = subst (AllByRecursion P) (sym (reverse-append (l ∷ []) list)) (all_push P (reverse list) l (all_reverse P list all.1) all.0)
 
--- ---- one record before those that were reported
+-- ---- one record before those that were read
 
 -- an end of its own, whose transaction has ended behind it, or which is undone there
 pub tells_over : (batch : Batch) (txn op : ℕ) (done : LoggedOp) (x : Telling) → (contains nat_cmp x.ended txn || contains pair_cmp x.undone (txn, op)) ≡ true → Tells batch (OpEnd txn op 0 done ∷ []) x x

@@ -21,7 +21,7 @@ use Rattle.mt_restart.specs.declared.restart_writes.Marks.{Marks}
 use Rattle.mt_restart.proofs.NextArea.{are_imaged}
 use Rattle.mt_restart.proofs.Read.{read_other_area, read_slots}
 
--- the same torn bytes, reported otherwise
+-- the same torn bytes, in other words
 pub torn_at : (may : List ℕ → Type 0) (at n at2 n2 : ℕ) (c : List ℕ) → at ≡ at2 → n ≡ n2 → TornFrom may at n c → TornFrom may at2 n2 c
 torn_at may at n at2 n2 c same size left = subst (λ (k : ℕ). TornFrom may at2 k c) size (subst (λ (k : ℕ). TornFrom may k n c) same left)
 

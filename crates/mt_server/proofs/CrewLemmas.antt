@@ -22,7 +22,7 @@ use Rattle.mt_locked.specs.Whole.{all_own}
 
 -- ---- transcripts
 
--- what is reported of a book is reported of a longer one
+-- what holds of a book holds of a longer one
 reported_of_on : (scripts : List (List Line)) (book more : List Committed) (t : Reported) (booked : List (ℕ × List Call)) → IsPrefix book more → IsReportedOf scripts book t booked → IsReportedOf scripts more t booked
 reported_of_on scripts book more t booked grown outcome = record { lines = outcome.lines; within = outcome.within; lines_are = outcome.lines_are; outcome = reported_on t.has_failed (t.at + 1) outcome.lines t.text booked book more grown outcome.outcome }
 
@@ -146,7 +146,7 @@ placed scripts old new book t booked count free texts filled failed outcome b =
         (subst (λ (x : List ℕ × List (ℕ × List Call)). IsReported old.has_failed (i + 1) lines x.0 x.1 book) (λ j. (words j, commits j))
         (b.each i lines lt is (sym (get_or-set_other old.filled.items t.at i true false other) ∙ (ap (λ fs. get_or fs i false) (sym filled) ∙ there))))
 
--- nothing more is reported where none is left
+-- nothing more is reported if none is left
 pub none_left : (scripts : List (List Line)) (book : List Committed) (xs : List Reported) (count : ℕ) → length xs ≡ 0 → AreReportedOf scripts book xs count → count ≡ 0
 none_left scripts book _ _ none nothing_reported = refl
 none_left scripts book _ _ none (one_more outcome count t booked before this) = absurd (omega (arith, none, length-append outcome (t ∷ [])))

@@ -32,7 +32,7 @@ stands_on session book more place calls (rest, grown) s =
 all_stand_on : (session : ℕ) (book more : List Committed) (booked : List (ℕ × List Call)) → IsPrefix book more → All (λ (c : ℕ × List Call). StandsAt session book c.0 c.1) booked → All (λ (c : ℕ × List Call). StandsAt session more c.0 c.1) booked
 all_stand_on session book more booked grown all = All-weaker (λ (c : ℕ × List Call). StandsAt session book c.0 c.1) (λ (c : ℕ × List Call). StandsAt session more c.0 c.1) (λ c s. stands_on session book more c.0 c.1 grown s) booked all
 
--- what is reported of a book is reported of a longer one
+-- what holds of a book holds of a longer one
 pub reported_on : (failed : Bool) (session : ℕ) (lines : List Line) (text : List ℕ) (booked : List (ℕ × List Call)) (book more : List Committed) → IsPrefix book more → IsReported failed session lines text booked book → IsReported failed session lines text booked more
 reported_on failed session lines text booked book more grown t = record {
   before = t.before;
@@ -180,7 +180,7 @@ heard_of : (b : Base) (session : ℕ) (s e : Place) (ls : List Line) (as' : List
 heard_of b session s _ _ _ starts = starts
 heard_of b session s _ _ _ (goes_on lines answers mid end line answer before turn) = goes_on lines answers mid.heard end.heard line answer (heard_of b session s mid lines answers before) turn.hears
 
--- what a session was reported holds in each book that begins with what its pass has seen
+-- what a session was answered holds in each book that begins with what its pass has seen
 pub session_reported : (failed : Bool) (b : Base) (session : ℕ) (lines : List Line) (text : List ℕ) (old new : PassSeen) (book : List Committed) → (s : IsSession failed b session lines text old new) → IsPrefix (dones new.seen) book → IsReported failed session lines text s.end.heard.booked book
 session_reported failed b session lines text old new book s front =
     let start : Place = record { heard = silence; pass = old } in

@@ -76,7 +76,7 @@ rows_same pages pages2 b same h = record {
   there = λ r k v t. h.there r k v (t.0, t.1, sym (same t.0 t.1) ∙ t.2);
 }
 
--- the same base, reported otherwise
+-- the same base, in other words
 pub base_same : (pages : PageBytes) (b c : Base) → ((r : ℕ) (k : List ℕ) → b.rows r k ≡ c.rows r k) → HoldsRows pages b → HoldsRows pages c
 base_same pages b c same h = record {
   found = λ r k v is. h.found r k v (same r k ∙ is);
@@ -145,7 +145,7 @@ stays_index total pages last m p s row a three stays = record {
     not_here : (q : ℕ) → kind pages q ≢ 3 → q ≢ p
     not_here q ne e = ne (ap (λ (x : ℕ). kind pages x) e ∙ three)
 
--- what the names are, reported otherwise
+-- what the names are, in other words
 pub same_map : (pages : PageBytes) (x y : Map) → ((q : ℕ) (l : List ℕ) → x q l ≡ y q l) → AreNamed pages x → AreNamed pages y
 same_map pages x y e a = subst (AreNamed pages) (λ i q l. e q l i) a
 

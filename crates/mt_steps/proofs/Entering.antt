@@ -44,7 +44,7 @@ placed_map relations total pages m changes name row rows placed = index_stays to
 pub placed_form : (relations total : ℕ) (pages : PageBytes) (m : Map) (changes : List PageChange) (name : RecordName) (row : Row) → AreRows relations total pages m → IsPlaced total pages changes name row → AreFormed relations total (after changes pages)
 placed_form relations total pages m changes name row rows placed = form_stays relations total pages (after changes pages) m rows.index rows.formed (placed_leaves relations total pages m changes name row rows placed)
 
--- what is reported of an answer that is known
+-- what holds of an answer that is known
 pub added_is : (P : List PageChange → Type 0) (a : Add) (changes : Changes) → a ≡ add.Changes changes → IfAdded a P → P changes.list.items
 added_is P a changes is outcome = subst (λ (x : Add). IfAdded x P) is outcome
 

@@ -30,7 +30,7 @@ use Rattle.mt_steps.proofs.Rows.{none_held, deleted_again}
 use Rattle.mt_steps.proofs.Apart.{StaysFile}
 use Rattle.mt_steps.proofs.Acting.{touches_index, amends_file, deletes_good, deletes_base, base_same, value_held}
 
--- what is reported of an answer that is known
+-- what holds of an answer that is known
 pub amended_is : (P : List PageChange → Type 0) (a : Amend) (changes : Changes) → a ≡ amend.Changes changes → IfAmended a P → P changes.list.items
 amended_is P a changes is outcome = subst (λ (x : Amend). IfAmended x P) is outcome
 

@@ -313,7 +313,7 @@ each_among : (ts : List ℕ) → Each (λ u. is_among u ts ≡ true) ts
 each_among [] = tt
 each_among (t ∷ ts) = (ap (λ (c : Bool). c || is_among t ts) (eq_self t), among_more t ts (each_among ts))
 
--- they are in the book, each with what was reported of it, and are no more
+-- they are in the book, each with what was answered to it, and are no more
 pub reported_booked : (b : Base) (s : State) (ts : List ℕ) (phase next : ℕ → Option TxnState) (outcome : ℕ → Reported) (names : List ℕ) → IsKept b s → AreDistinct ts → Each (λ t. phase t ≡ Some Committing) ts
     → ((u : ℕ) → phase u ≢ Some Committing → next u ≡ phase u) → ((u : ℕ) → is_live (booked_each s ts) u ≡ false → is_forward (next u) ≡ false)
     → AreReported s phase outcome names → AreReported (booked_each s ts) next outcome (names ++ ts)

@@ -298,7 +298,7 @@ module _ {D : Type 0} {g : Ghosts D} (seen : D → List ℕ) (may_leave : D → 
       ∙ ap (λ (ts : List ℕ). ts ++ started_by event answer) was
       ∙ sym (committing_more events answers event answer (makes_same events answers acts s k before)))
 
-  -- each with what its session was reported
+  -- each with what its session was answered
   order_of : (events : List Event) (answers : List Answer) (s : State) (n : Kernel D g) → AreReported s (Phase n) (λ t. reported_of events answers t) (acknowledged answers) → Shows seen may_leave first s n
       → acknowledged answers ++ txns_of n.core.commits.items ≡ committing events answers → ∥ all_commits n.core ≡ commit_order events answers ∥₁
   order_of events answers s n are shows queue = ∥∥₁_map shows (λ (origin, base, is, x).

@@ -17,7 +17,7 @@ use Rattle.mt_pool.proofs.store.parts.Goals as goal
 bytes : (start end s n : ℕ) → start ≡ s → end ≡ s + n → end - start ≡ n
 bytes start end s n first last = omega (arith, first, last)
 
--- a fact of the area, reported of the one that the slot names
+-- a fact of the area, of the one that the slot names
 reported_of_area : (s n t m : ℕ) (P : ℕ → ℕ → Type 0) → s ≡ t → n ≡ m → P s n → P t m
 reported_of_area s n t m P first size is = subst (λ (k : ℕ). P t k) size (subst (λ (k : ℕ). P k n) first is)
 

@@ -4,7 +4,7 @@ use Rattle.std.proofs.lemmas.List.Elements.{All-push}
 use Rattle.mt_base.specs.Limits.{IsCounter}
 use Rattle.mt_restart.proofs.schema.counters_fit.Goals as goal
 
--- a counter as it is reported
+-- a counter as it is printed
 IsReported : ℤ × ℤ × ℤ → Type 0
 IsReported t = IsCounter t.0 t.1 t.2
 

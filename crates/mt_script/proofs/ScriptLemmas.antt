@@ -1,10 +1,9 @@
 -- A line put behind others, and a byte behind the line under way.
-use Rattle.std.proofs.Common.{suc, drop, get_or, take-append-drop, rules, arith, ◌≡◌, ◌≢◌, ◌<◌, ◌≤◌, ◌+◌, ◌⊎◌, inl, inr, ℕ, List, Option, Some, None, [], ◌∷◌, ◌++◌, length, take, refl, ap, sym, subst, IfSome, ◌∙◌, length-append}
+use Rattle.std.proofs.Common.{rules, arith, ◌≡◌, ◌≢◌, ◌<◌, ◌≤◌, ◌+◌, ◌⊎◌, inl, inr, ℕ, List, Option, Some, None, [], ◌∷◌, ◌++◌, length, take, refl, ap, sym, subst, IfSome, ◌∙◌, length-append}
 use Rattle.std.specs.List.{All}
 use Rattle.std.specs.Io.KnownBytes.{Consumes, IsAtEnd}
 use Rattle.std.proofs.lemmas.List.{append_assoc}
-use Rattle.std.proofs.Math.Seq.{drop-cons}
-use Rattle.std.proofs.lemmas.List.Elements.{All-nil, All-push}
+use Rattle.std.proofs.lemmas.List.Elements.{All-nil, All-append, All-push}
 use Rattle.mt_script.specs.Grammars.{lines_text, SpellsIn, IsShort, Gathered, AreLines, BeginsWithLine, IsFirstBad}
 use Rattle.mt_script.proofs.LineLemmas.{same_cut, cut_within, no_cut}
 
@@ -22,12 +21,12 @@ module _ {L : Type 0} (text : L → List ℕ) (IsIn : L → Type 0) where
   unfolding lines_text
   gathered_nothing = record { spelled = refl; grammar = All-nil IsIn; short = All-nil (IsShort text IsIn); unbroken = All-nil (λ b. b ≢ 10) }
 
-  pub gathered_byte : (bytes : List ℕ) (lines : List L) (line : List ℕ) (b : ℕ) → b ≢ 10 → Gathered text IsIn bytes lines line → Gathered text IsIn (bytes ++ b ∷ []) lines (line ++ b ∷ [])
-  gathered_byte bytes lines line b other g = record {
-    spelled = ap (λ t. t ++ b ∷ []) g.spelled ∙ append_assoc (lines_text text lines) line (b ∷ []);
+  pub gathered_part : (bytes : List ℕ) (lines : List L) (line part : List ℕ) → All (λ b. b ≢ 10) part → Gathered text IsIn bytes lines line → Gathered text IsIn (bytes ++ part) lines (line ++ part)
+  gathered_part bytes lines line part whole g = record {
+    spelled = ap (λ t. t ++ part) g.spelled ∙ append_assoc (lines_text text lines) line part;
     grammar = g.grammar;
     short = g.short;
-    unbroken = All-push (λ x. x ≢ 10) line b g.unbroken other;
+    unbroken = All-append (λ b. b ≢ 10) line part g.unbroken whole;
   }
 
   pub gathered_line : (bytes : List ℕ) (lines : List L) (line : List ℕ) (l : L) → length line ≤ 4096 → Gathered text IsIn bytes lines line → SpellsIn text IsIn line l → Gathered text IsIn (bytes ++ 10 ∷ []) (lines ++ l ∷ []) []
@@ -70,16 +69,26 @@ module _ {L : Type 0} (text : L → List ℕ) (IsIn : L → Type 0) where
   pub too_many : (front more : List ℕ) (lines : List L) (line : List ℕ) (b : ℕ) → length lines ≡ 100000 → Gathered text IsIn front lines line → IsFirstBad text IsIn (front ++ b ∷ more) (length lines + 1)
   too_many front more lines line b full g = bad_after front more lines line b g (omega arith) (inr full)
 
-  -- a byte behind 4096 of one line
-  pub too_long : (front more : List ℕ) (lines : List L) (line : List ℕ) (b : ℕ) → length lines ≤ 100000 → 4096 ≤ length line → b ≢ 10 → Gathered text IsIn front lines line → IsFirstBad text IsIn (front ++ b ∷ more) (length lines + 1)
-  too_long front more lines line b few long other g =
-      bad_after front more lines line b g few (inl (λ begins.
+  part_after : (front more : List ℕ) (lines : List L) (line part : List ℕ) → Gathered text IsIn front lines line → length lines ≤ 100000 → part ≢ []
+      → (BeginsWithLine text IsIn (line ++ (part ++ more)) → ⊥) ⊎ (length lines ≡ 100000) → IsFirstBad text IsIn ((front ++ part) ++ more) (length lines + 1)
+  part_after front more lines line [] g few some why = absurd (some refl)
+  part_after front more lines line (b ∷ part) g few some why =
+      subst (λ t. IsFirstBad text IsIn t (length lines + 1)) (sym (append_assoc front (b ∷ part) more)) (bad_after front (part ++ more) lines line b g few why)
+
+  -- bytes after 100,000 lines
+  pub part_too_many : (front more : List ℕ) (lines : List L) (line part : List ℕ) → length lines ≡ 100000 → part ≢ [] → Gathered text IsIn front lines line → IsFirstBad text IsIn ((front ++ part) ++ more) (length lines + 1)
+  part_too_many front more lines line part full some g = part_after front more lines line part g (omega arith) some (inr full)
+
+  -- bytes that make a line longer than 4096 of them
+  pub part_too_long : (front more : List ℕ) (lines : List L) (line part : List ℕ) → length lines ≤ 100000 → 4096 < length line + length part → All (λ b. b ≢ 10) part → part ≢ [] → Gathered text IsIn front lines line → IsFirstBad text IsIn ((front ++ part) ++ more) (length lines + 1)
+  part_too_long front more lines line part few long whole some g =
+      part_after front more lines line part g few some (inl (λ begins.
       let l = begins.0 in
-      let all : All (λ x. x ≢ 10) (line ++ b ∷ []) = All-push (λ x. x ≢ 10) line b g.unbroken other in
+      let all : All (λ x. x ≢ 10) (line ++ part) = All-append (λ x. x ≢ 10) line part g.unbroken whole in
       let short : length (text l) ≤ 4096 = begins.4 in
-      let less : length (text l) < length (line ++ b ∷ []) = simp length-append (omega arith) in
-      let same : (line ++ b ∷ []) ++ more ≡ text l ++ 10 ∷ begins.1 = append_assoc line (b ∷ []) more ∙ begins.2 in
-      no_cut 10 (line ++ b ∷ []) more (text l) begins.1 all less same))
+      let less : length (text l) < length (line ++ part) = simp length-append (omega arith) in
+      let same : (line ++ part) ++ more ≡ text l ++ 10 ∷ begins.1 = append_assoc line part more ∙ begins.2 in
+      no_cut 10 (line ++ part) more (text l) begins.1 all less same))
 
   -- a line without its end
   pub unended : (front : List ℕ) (lines : List L) (line : List ℕ) → length lines ≤ 100000 → line ≢ [] → Gathered text IsIn front lines line → IsFirstBad text IsIn front (length lines + 1)
@@ -115,11 +124,6 @@ pub if_some : (o : Option (List ℕ)) (P : List ℕ → Type 0) → ((x : List �
 if_some None P h = tt
 if_some (Some x) P h = h x refl
 
--- bytes before a place, the byte there, and those behind it
-pub bytes_about : (front bytes more : List ℕ) (i : ℕ) → i < length bytes → (front ++ take i bytes) ++ (get_or bytes i 0 ∷ (drop (suc i) bytes ++ more)) ≡ (front ++ bytes) ++ more
-bytes_about front bytes more i lt =
-    let rest : drop i bytes ≡ get_or bytes i 0 ∷ drop (suc i) bytes = drop-cons bytes i 0 lt in
-    let whole : take i bytes ++ drop i bytes ≡ bytes = take-append-drop i bytes in
-    let inner : take i bytes ++ (get_or bytes i 0 ∷ (drop (suc i) bytes ++ more)) ≡ bytes ++ more =
-    ap (λ t. take i bytes ++ (t ++ more)) (sym rest) ∙ sym (append_assoc (take i bytes) (drop i bytes) more) ∙ ap (λ t. t ++ more) whole in
-    append_assoc front (take i bytes) _ ∙ ap (λ t. front ++ t) inner ∙ sym (append_assoc front bytes more)
+-- bytes that were taken, more of a line with its end, and those after them
+pub part_about : (front taken part next more : List ℕ) → ((front ++ taken) ++ part) ++ (10 ∷ (next ++ more)) ≡ (front ++ (taken ++ (part ++ 10 ∷ next))) ++ more
+part_about front taken part next more = simp append_assoc

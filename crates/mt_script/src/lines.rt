@@ -34,17 +34,25 @@ pub enum Line {
     Abort,
 }
 
+/// What stands before the first byte of this value, and what stands after it; `None` if there is none.
+pub(crate) fn split_at(bytes: &[u8], byte: u8) -> Option<(&[u8], &[u8])>
+    ensures found { IfSome result (λ p. (bytes.now ≡ p.0.now ++ byte ∷ p.1.now) × All (λ b. b ≢ byte) p.0.now) }
+    ensures none { IfNone result (All (λ b. b ≢ byte) bytes.now) }
+{
+    for (place, one) in bytes.iter().enumerate() {
+        if *one == byte {
+            return Some((&bytes[..place], &bytes[place + 1..]));
+        }
+    }
+    None
+}
+
 /// What stands before the first space, and what stands after it; `None` if there is no space.
 pub fn split_at_space(bytes: &[u8]) -> Option<(&[u8], &[u8])>
     ensures found { IfSome result (λ p. (bytes.now ≡ p.0.now ++ 32 ∷ p.1.now) × IsUnspaced p.0.now) }
     ensures none { IfNone result (IsUnspaced bytes.now) }
 {
-    for (place, byte) in bytes.iter().enumerate() {
-        if *byte == b' ' {
-            return Some((&bytes[..place], &bytes[place + 1..]));
-        }
-    }
-    None
+    split_at(bytes, b' ')
 }
 
 /// The number that a word spells in decimal without leading zeros. A number is spelled so exactly

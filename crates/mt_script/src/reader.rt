@@ -1,12 +1,12 @@
 // A text, read line by line by a grammar of its lines; scripts are such texts.
-ghost use Rattle.std.specs.Prelude.{◌≡◌, ◌≤◌, ◌+◌, ℕ, List, [], ◌∷◌, ◌++◌, length, vec_len, IfOk, IfErr, IfSome, OnOk};
+ghost use Rattle.std.specs.Prelude.{◌≡◌, ◌≢◌, ◌≤◌, ◌+◌, ℕ, List, [], ◌∷◌, ◌++◌, All, length, vec_len, IfOk, IfErr, IfSome, OnOk};
 ghost use Rattle.mt_base.specs.declared.limits.TheConstants.{MAX_LINES, MAX_LINE_BYTES};
 ghost use Rattle.mt_base.specs.declared.refusal.Refusal.{Refusal};
 ghost use Rattle.mt_script.specs.Grammars.{AreLines, AreRefusedFor, Gathered};
 ghost use Rattle.mt_script.specs.Scripts.{AreFaultyFor, IsScript, IsFaultOf};
 
 use crate::grammar::Grammar;
-use crate::lines::{Line, ScriptGrammar};
+use crate::lines::{Line, ScriptGrammar, split_at};
 use mt_base::Refusal;
 use mt_base::limits::{MAX_LINE_BYTES, MAX_LINES};
 use std::alloc::Global;
@@ -77,24 +77,27 @@ impl<G: Grammar> Reading<G> {
         Refusal::BadLine(self.lines.len() as u64 + 1)
     }
 
-    /// Takes the next byte.
-    #[tactic(auto, using(crate::proofs::ScriptLemmas::gathered_byte))]
-    fn take(&mut self, byte: u8) -> Result<(), Refusal>
+    /// Takes more bytes of the line under way, which none of them ends.
+    fn take(&mut self, part: &[u8]) -> Result<(), Refusal>
+        requires { All (λ b. b ≢ 10) part.now }
         ensures cause { IfErr result (λ why. (front more : List ℕ)
             → Gathered G.text G.IsIn front self.old.lines.items self.old.line.items
-            → AreRefusedFor G.text G.IsIn (front ++ byte ∷ more) why) }
+            → AreRefusedFor G.text G.IsIn (front ++ part.now ++ more) why) }
         ensures taken { OnOk result ((front : List ℕ)
             → Gathered G.text G.IsIn front self.old.lines.items self.old.line.items
-            → Gathered G.text G.IsIn (front ++ byte ∷ []) self.new.lines.items self.new.line.items) }
+            → Gathered G.text G.IsIn (front ++ part.now) self.new.lines.items self.new.line.items) }
     {
-        if byte == b'\n' {
-            self.end_line()
-        } else if self.lines.len() < MAX_LINES && self.line.len() < MAX_LINE_BYTES {
-            self.line.push(byte)?;
-            Ok(())
-        } else {
-            Err(self.bad_line())
+        if part.is_empty() {
+            return Ok(());
         }
+        if self.lines.len() >= MAX_LINES {
+            return Err(self.bad_line());
+        }
+        if part.len() > MAX_LINE_BYTES - self.line.len() {
+            return Err(self.bad_line());
+        }
+        self.line.extend_from_slice(part)?;
+        Ok(())
     }
 
     /// Takes the end of the line under way.
@@ -117,7 +120,7 @@ impl<G: Grammar> Reading<G> {
         Ok(())
     }
 
-    /// Takes the next bytes.
+    /// Takes the next bytes, as much of a line as is there at once.
     fn take_all(&mut self, bytes: &[u8]) -> Result<(), Refusal>
         ensures cause { IfErr result (λ why. (front more : List ℕ)
             → Gathered G.text G.IsIn front self.old.lines.items self.old.line.items
@@ -126,10 +129,13 @@ impl<G: Grammar> Reading<G> {
             → Gathered G.text G.IsIn front self.old.lines.items self.old.line.items
             → Gathered G.text G.IsIn (front ++ bytes.now) self.new.lines.items self.new.line.items) }
     {
-        for byte in bytes {
-            self.take(*byte)?;
+        let mut rest = bytes;
+        while let Some((part, next)) = split_at(rest, b'\n') {
+            self.take(part)?;
+            self.end_line()?;
+            rest = next;
         }
-        Ok(())
+        self.take(rest)
     }
 
     /// The lines, if none is under way.

@@ -1,21 +1,24 @@
-use Rattle.std.proofs.Common.{arith, ◌≡◌, ◌≢◌, ◌≤◌, ◌∷◌, ◌++◌, length, sym, subst}
+use Rattle.std.proofs.Common.{rules, arith, ◌≡◌, ◌≢◌, ◌≤◌, ◌<◌, ◌+◌, [], ◌++◌, length, sym, subst}
+use Rattle.std.proofs.lemmas.Grind.{common_steps}
 use Rattle.mt_script.specs.Grammars.{AreRefusedFor}
-use Rattle.mt_script.proofs.ScriptLemmas.{too_many, too_long}
+use Rattle.mt_script.proofs.ScriptLemmas.{part_too_many, part_too_long}
 use Rattle.mt_script.proofs.reader.Reading.take.Goals as goal
-use Rattle.mt_script.proofs.reader.Reading.take.Goals.{else-len-lt-MAX_LINES-via-then-len-lt-MAX_LINES+else-len-lt-MAX_LINE_BYTES, else-len-lt-MAX_LINES-via-else-len-lt-MAX_LINES}
 
-pub returns-else-len-lt-MAX_LINES-clause-cause : goal.returns-else-len-lt-MAX_LINES-clause-cause
-returns-else-len-lt-MAX_LINES-clause-cause g c = λ front more h.
+pub returns-then-len-ge-MAX_LINES-clause-cause : goal.returns-then-len-ge-MAX_LINES-clause-cause
+returns-then-len-ge-MAX_LINES-clause-cause g c = λ front more h.
     let lines = c.args.self.now.lines.items in
     let line = c.args.self.now.line.items in
+    let part = c.args.part.now in
+    let full : length lines ≡ 100000 = search rules in
+    let some : part ≢ [] = grind (arith, common_steps) in
+    subst (AreRefusedFor g.G.Grammar.text g.G.Grammar.IsIn ((front ++ part) ++ more)) (sym c.bad_line.ensures) (part_too_many g.G.Grammar.text g.G.Grammar.IsIn front more lines line part full some h)
+
+pub returns-then-part-len-clause-cause : goal.returns-then-part-len-clause-cause
+returns-then-part-len-clause-cause g c = λ front more h.
+    let lines = c.args.self.now.lines.items in
+    let line = c.args.self.now.line.items in
+    let part = c.args.part.now in
     let few : length lines ≤ 100000 = omega (arith, c.args.self.now.lines_fit, c.args.self.now.lines.ok.0) in
-    let byte = c.args.byte in
-    let other : byte ≢ 10 = c.if-byte-eq10.false in
-    subst (AreRefusedFor g.G.Grammar.text g.G.Grammar.IsIn (front ++ byte ∷ more)) (sym c.bad_line.ensures) (elim c.else-len-lt-MAX_LINES.branch [
-      | else-len-lt-MAX_LINES-via-then-len-lt-MAX_LINES+else-len-lt-MAX_LINE_BYTES w ↦
-          let long : 4096 ≤ length line = omega (arith, w.if-len-lt-MAX_LINE_BYTES.false, w.len-then-len-lt-MAX_LINES.ensures, c.args.self.now.line.ok.0) in
-          too_long g.G.Grammar.text g.G.Grammar.IsIn front more lines line byte few long other h
-      | else-len-lt-MAX_LINES-via-else-len-lt-MAX_LINES w ↦
-          let full : length lines ≡ 100000 = omega (arith, w.if-len-lt-MAX_LINES.false, c.len.ensures, few, c.args.self.now.lines.ok.0) in
-          too_many g.G.Grammar.text g.G.Grammar.IsIn front more lines line byte full h
-    ])
+    let long : 4096 < length line + length part = omega (arith, c.if-part-len.true, c.len-2.ensures, c.args.self.now.line_fits, c.args.self.now.line.ok.0) in
+    let some : part ≢ [] = grind (arith, common_steps) in
+    subst (AreRefusedFor g.G.Grammar.text g.G.Grammar.IsIn ((front ++ part) ++ more)) (sym c.bad_line-then-part-len.ensures) (part_too_long g.G.Grammar.text g.G.Grammar.IsIn front more lines line part few long c.requires some h)

@@ -1,10 +1,9 @@
 // Bytes of keys, values and pages, in memory of their own.
-ghost use Rattle.std.specs.Prelude.{◌≡◌, ◌==◌, length, IfOk, bytes_eq, Some, refl, nat_eq};
+ghost use Rattle.std.specs.Prelude.{◌≡◌, ◌==◌, [], ◌∷◌, length, IfOk, bytes_eq, Some, refl, nat_eq};
 ghost use Rattle.std.specs.Ordering.{nat_cmp};
 ghost use Rattle.std.specs.Cmp as order;
 ghost use Rattle.std.specs.Cmp.Lexicographic.{slice_cmp, nat_list_eq_equiv, nat_list_cmp_total, texts_po, texts_ties};
 ghost use Rattle.std.specs.Cmp.Rules.{hashing};
-ghost use Rattle.std.specs.Hash as fed;
 ghost use Rattle.std.proofs.Common.{rules};
 
 use std::alloc::{AllocError, Global};
@@ -118,12 +117,13 @@ impl Ord for Bytes {
     }
 }
 
+// Fed in one write: a hasher takes words of it at a time, and a slice's own hash is fed byte by byte.
 impl Hash for Bytes {
-    ghost hash_input = { λ bytes. fed.slice fed.u8 bytes };
+    ghost hash_input = { λ bytes. bytes ∷ [] };
 
     ghost respects_eq = { Prim.search (hashing, rules) };
 
     fn hash<H: Hasher>(&self, state: &mut H) {
-        self.as_slice().hash(state);
+        state.write(self.as_slice());
     }
 }

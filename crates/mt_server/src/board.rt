@@ -76,7 +76,7 @@ impl Board {
             → IsBoard scripts self.new book (count + more) }
     {
         let mut outcome = outcome;
-        'reported: while outcome.len() > 0 {
+        'outcome: while outcome.len() > 0 {
             if let Some(last) = outcome.pop() {
                 if !self.place(last) {
                     return false;

@@ -36,6 +36,15 @@ impl<T> History<T> {
     pub fn and(&self, last: &T) -> History<T>
         ensures { result.items ≡ self.now.items ++ last.now ∷ [] }
     {
+        self.and_as(last)
+    }
+
+    /// This history, and after it the value that `last` represents. The caller's proof says which one that is, and no
+    /// code has to make it.
+    pub fn and_as<L>(&self, last: &L) -> History<T>
+        ghost value_of: { L → T }
+        ensures { result.items ≡ self.now.items ++ value_of last.now ∷ [] }
+    {
         Self { of: PhantomData }
     }
 }

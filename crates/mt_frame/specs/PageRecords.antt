@@ -1,8 +1,10 @@
 -- The records of a change of one page, and what they make of its bytes.
-use Rattle.std.specs.Prelude.{ℕ, List, [], ◌∷◌, length, Option, None, ◌==◌, if◌then◌else◌}
+use Rattle.std.specs.Prelude.{ℕ, List, [], ◌∷◌, length, Option, None, Some, ◌==◌, if◌then◌else◌}
+use Rattle.std.specs.Borrow.{Bor}
 use Rattle.mt_base.specs.Edits.{splice}
 use Rattle.mt_base.specs.Ranges.{part}
 use Rattle.mt_base.specs.declared.edits.Edit.{Edit}
+use Rattle.mt_frame.specs.declared.records.PageRecord.{PageRecord}
 use Rattle.mt_frame.specs.declared.records.Record.{Record}
 use Rattle.mt_frame.specs.declared.records.Record.TheVariants.{Page, OpEnd, OpDropped, Commit, AbortEnd}
 
@@ -26,3 +28,12 @@ with_record p (AbortEnd txn) bytes = bytes
 abbrev pub redone : ℕ → List Record → List ℕ → List ℕ
 redone p [] bytes = bytes
 redone p (r ∷ rs) bytes = redone p rs (with_record p r bytes)
+
+-- the image that lent bytes are, if there are any
+abbrev pub lent_image : Option (Bor (List ℕ)) → Option (List ℕ)
+lent_image None = None
+lent_image (Some image) = Some image.now
+
+-- the record that a page's record with lent bytes represents
+abbrev pub represented : PageRecord → Record
+represented r = Page r.txn r.op r.page (lent_image r.image) r.start r.old.now r.new.now

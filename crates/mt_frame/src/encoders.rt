@@ -7,9 +7,10 @@ ghost use Rattle.mt_base.specs.Limits.{IsKey, IsValue};
 ghost use Rattle.mt_base.specs.declared.refusal.Refusal.{Refusal};
 ghost use Rattle.mt_frame.specs.Grammar.{counted, operation_text, flag_number, image_text, head_text, record_text, body_text, batch_text, IsOfPage, IsOperation, IsRelation, IsRecord, IsBatchable};
 ghost use Rattle.mt_frame.specs.Lengths.{operation_length, image_length, record_length};
+ghost use Rattle.mt_frame.specs.PageRecords.{lent_image, represented};
 
 use crate::OPEN_GATE;
-use crate::records::{LoggedOp, PageHead, Record};
+use crate::records::{LoggedOp, PageHead, PageRecord, Record};
 use byteorder::{BigEndian, ByteOrder};
 use mt_base::{Bytes, OpNo, Refusal, RelNo, TxnNo};
 use std::alloc::{AllocError, Global};
@@ -183,21 +184,42 @@ fn put_head(out: &mut Vec<u8>, head: &PageHead)
 }
 
 // The bytes of a page record: the image, if there is one, and the range's old and new bytes.
-fn put_range(out: &mut Vec<u8>, image: &Option<Bytes>, old: &Bytes, new: &Bytes)
-    requires { vec_len out.old + (image_length image.now + length old.now + length new.now) ≤ vec_capacity out.old }
-    ensures items { out.new.items ≡ out.old.items ++ (image_text image.now ++ (old.now ++ new.now)) }
-    ensures len { vec_len out.new ≡ vec_len out.old + (image_length image.now + length old.now + length new.now) }
+fn put_range(out: &mut Vec<u8>, entry: &PageRecord<'_>)
+    requires { vec_len out.old + (image_length (lent_image entry.now.image) + length entry.now.old.now
+        + length entry.now.new.now) ≤ vec_capacity out.old }
+    ensures items { out.new.items ≡ out.old.items ++ (image_text (lent_image entry.now.image)
+        ++ (entry.now.old.now ++ entry.now.new.now)) }
     ensures capacity { vec_capacity out.old ≤ vec_capacity out.new }
 {
-    if let Some(image) = image {
-        put_bytes(out, image.as_slice());
+    if let Some(image) = entry.image {
+        put_bytes(out, image);
     }
-    put_bytes(out, old.as_slice());
-    put_bytes(out, new.as_slice())
+    put_bytes(out, entry.old);
+    put_bytes(out, entry.new)
 }
 
 // A page's record.
-fn put_page(out: &mut Vec<u8>, entry: &Record)
+fn put_page(out: &mut Vec<u8>, entry: &PageRecord<'_>)
+    requires fits { IsRecord (represented entry.now) }
+    requires room { vec_len out.old + record_length (represented entry.now) ≤ vec_capacity out.old }
+    ensures items { out.new.items ≡ out.old.items ++ record_text (represented entry.now) }
+    ensures capacity { vec_capacity out.old ≤ vec_capacity out.new }
+{
+    let head = PageHead {
+        txn: entry.txn.get(),
+        op: entry.op.get(),
+        page: entry.page.get(),
+        has_image: entry.image.is_some(),
+        start: entry.start,
+        length: entry.old.len() as u16,
+    };
+    put_byte(out, 1);
+    put_head(out, &head);
+    put_range(out, entry)
+}
+
+// A page's record that has its bytes, which are lent for it.
+fn put_owned_page(out: &mut Vec<u8>, entry: &Record)
     requires page { IsOfPage entry.now }
     requires fits { IsRecord entry.now }
     requires room { vec_len out.old + record_length entry.now ≤ vec_capacity out.old }
@@ -214,17 +236,20 @@ fn put_page(out: &mut Vec<u8>, entry: &Record)
             old,
             new,
         } => {
-            let head = PageHead {
-                txn: txn.get(),
-                op: op.get(),
-                page: page.get(),
-                has_image: image.is_some(),
-                start: *start,
-                length: old.len() as u16,
+            let image = match image {
+                Some(image) => Some(image.as_slice()),
+                None => None,
             };
-            put_byte(out, 1);
-            put_head(out, &head);
-            put_range(out, image, old, new)
+            let lent = PageRecord {
+                txn: *txn,
+                op: *op,
+                page: *page,
+                image,
+                start: *start,
+                old: old.as_slice(),
+                new: new.as_slice(),
+            };
+            put_page(out, &lent)
         }
         _ => unreachable!(),
     }
@@ -237,7 +262,7 @@ fn put_record(out: &mut Vec<u8>, entry: &Record)
     ensures capacity { vec_capacity out.old ≤ vec_capacity out.new }
 {
     match entry {
-        Record::Page { .. } => put_page(out, entry),
+        Record::Page { .. } => put_owned_page(out, entry),
         Record::OpEnd {
             txn,
             op,
@@ -281,6 +306,22 @@ pub fn push_record(buffer: &mut Vec<u8>, entry: &Record) -> Result<(), AllocErro
         }
         Err(error) => Err(error),
     }
+}
+
+/// Appends the text of the record that the entry represents, as [`push_record`] does: all of it or none. The only error
+/// is want of memory, and the buffer then has the bytes that it had; there is none if the buffer has room.
+pub fn push_page_record(buffer: &mut Vec<u8>, entry: &PageRecord<'_>) -> Result<(), AllocError>
+    requires { IsRecord (represented entry.now) }
+    ensures ok { OnOk result (buffer.new.items ≡ buffer.old.items ++ record_text (represented entry.now)) }
+    ensures err { OnErr result (buffer.new.items ≡ buffer.old.items) }
+    ensures room { vec_len buffer.old + record_length (represented entry.now) ≤ vec_capacity buffer.old → IsOk result }
+    ensures full { OnErr result (vec_capacity buffer.old < vec_len buffer.old
+        + record_length (represented entry.now)) }
+    ensures capacity { vec_capacity buffer.old ≤ vec_capacity buffer.new }
+{
+    buffer.reserve(entry.length())?;
+    put_page(buffer, entry);
+    Ok(())
 }
 
 // ---- batches

@@ -13,9 +13,9 @@ mod slots;
 
 pub use area_rules::AreaRules;
 pub use decoders::{decode_batch, decode_body};
-pub use encoders::{encode_batch, push_record};
+pub use encoders::{encode_batch, push_page_record, push_record};
 pub use laws::{batches_are_read_back, lengths_are_of_texts, slots_are_read_back};
-pub use records::{LoggedOp, Record};
+pub use records::{LoggedOp, PageRecord, Record};
 pub use slots::{MasterSlot, SlotRead, decode_slot, encode_slot};
 
 /// The gate of what is there to be read. A gate of any other value is closed.

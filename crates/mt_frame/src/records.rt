@@ -5,6 +5,7 @@ ghost use Rattle.mt_frame.specs.Grammar.{IsRecord, IsOfPage, IsOperation};
 ghost use Rattle.mt_frame.specs.Kinds.{IsOfInsert, IsOfUpdate};
 ghost use Rattle.mt_frame.specs.History.{txn_of};
 ghost use Rattle.mt_frame.specs.Lengths.{record_length, operation_length};
+ghost use Rattle.mt_frame.specs.PageRecords.{represented};
 
 use mt_base::{Bytes, CtrNo, OpNo, PageNo, RelNo, TxnNo};
 use std::alloc::AllocError;
@@ -75,6 +76,19 @@ pub enum Record {
     AbortEnd {
         txn: TxnNo,
     },
+}
+
+/// A page's record whose bytes are lent. It represents the [`Record::Page`] that has copies of them, and goes into a
+/// log without them.
+#[derive(Clone, Copy)]
+pub struct PageRecord<'a> {
+    pub txn: TxnNo,
+    pub op: OpNo,
+    pub page: PageNo,
+    pub image: Option<&'a [u8]>,
+    pub start: u16,
+    pub old: &'a [u8],
+    pub new: &'a [u8],
 }
 
 // What stands before the bytes of a page record.
@@ -413,5 +427,19 @@ impl Record {
             Record::Commit { .. } => 9,
             Record::AbortEnd { .. } => 9,
         }
+    }
+}
+
+impl PageRecord<'_> {
+    /// How many bytes its text takes in a batch's body: 24 and its bytes.
+    pub fn length(&self) -> usize
+        requires { IsRecord (represented self.now) }
+        ensures { result ≡ record_length (represented self.now) }
+    {
+        let image_bytes = match self.image {
+            Some(image) => image.len(),
+            None => 0,
+        };
+        24 + image_bytes + self.old.len() + self.new.len()
     }
 }

@@ -6,6 +6,7 @@ ghost use Rattle.mt_base.specs.declared.refusal.Refusal.{Refusal};
 ghost use Rattle.mt_frame.specs.Grammar.{IsRecord, body_text};
 ghost use Rattle.mt_frame.specs.Lengths.{record_length};
 ghost use Rattle.mt_frame.specs.History.{may_stand};
+ghost use Rattle.mt_frame.specs.PageRecords.{represented};
 ghost use Rattle.mt_log.specs.Batch.{joined};
 ghost use Rattle.mt_log.specs.Holds.{HasItsPage};
 ghost use Rattle.mt_log.specs.Texts.{IsAtRest, IsUnderWay, PushesText};
@@ -15,7 +16,7 @@ use crate::area::AreaPlace;
 use crate::stage::Stage;
 use mt_base::limits::BATCH_HEAD_BYTES;
 use mt_base::{History, LogPos, Refusal};
-use mt_frame::{Record, push_record};
+use mt_frame::{PageRecord, Record, push_page_record, push_record};
 use std::alloc::{AllocError, Global};
 
 /// What a step of a force did.
@@ -80,6 +81,15 @@ pub(crate) fn push_text(text: &mut Vec<u8>, entry: &Record) -> Result<(), AllocE
 {
     text.reserve(entry.length() + 1)?;
     push_record(text, entry)
+}
+
+// Puts a page record's text there, as `push_text` does.
+fn push_page_text(text: &mut Vec<u8>, entry: &PageRecord<'_>) -> Result<(), AllocError>
+    requires { IsRecord (represented entry.now) }
+    ensures { PushesText text.old text.new (represented entry.now) result }
+{
+    text.reserve(entry.length() + 1)?;
+    push_page_record(text, entry)
 }
 
 #[tactic(auto, unfolding(crate::specs::Words::durable_batches, crate::specs::Words::durable, crate::specs::Words::in_flight, crate::specs::Words::waiting, crate::specs::Words::area_start, crate::specs::Words::area_end, crate::specs::Words::used, crate::specs::Words::area_size, crate::specs::Words::room, crate::specs::Words::calls_left, crate::specs::Words::has_failed, crate::specs::Words::stands_at))]
@@ -196,6 +206,34 @@ impl Log {
     {
         push_text(&mut self.pending, &entry)?;
         self.waiting = self.waiting.and(&entry);
+        self.waiting_count += 1;
+        Ok(LogPos::new(self.batched + self.waiting_count))
+    }
+
+    /// Appends the record that the entry represents, as [`Log::append`] does. It takes no memory beyond what the
+    /// record's text needs.
+    pub fn append_page(&mut self, entry: &PageRecord<'_>) -> Result<LogPos, Refusal>
+        requires grammar { IsRecord (represented entry.now) }
+        requires fits { used self.old + 5 + record_length (represented entry.now) < area_size self.old }
+        ensures durable { durable self.new ≡ durable self.old }
+        ensures in_flight { in_flight self.new ≡ in_flight self.old }
+        ensures waiting { OnOk result (waiting self.new ≡ waiting self.old ++ represented entry.now ∷ []) }
+        ensures used { OnOk result (used self.new ≡ used self.old + 5 + record_length (represented entry.now)) }
+        ensures place { IfOk result (λ place. place ≡ length (appended self.new)) }
+        ensures area { area_size self.new ≡ area_size self.old }
+        ensures calls { calls_left self.new ≡ calls_left self.old }
+        ensures failed { has_failed self.new ≡ has_failed self.old }
+        ensures stands { stands_at self.new ≡ stands_at self.old }
+        ensures sound { (pages : ℕ) → IsSound pages self.old → HasItsPage pages (represented entry.now)
+            → may_stand false (appended self.old) (represented entry.now) ≡ true → IsSound pages self.new }
+        ensures room { record_length (represented entry.now) ≤ room self.old → IsOk result }
+        ensures room_left { room self.old ≤ room self.new + record_length (represented entry.now) }
+        ensures err_waiting { OnErr result (waiting self.new ≡ waiting self.old) }
+        ensures err_used { OnErr result (used self.new ≡ used self.old) }
+        ensures only_memory { IfErr result (λ why. why ≡ Refusal.NoMemory) }
+    {
+        push_page_text(&mut self.pending, entry)?;
+        self.waiting = self.waiting.and_as(entry);
         self.waiting_count += 1;
         Ok(LogPos::new(self.batched + self.waiting_count))
     }

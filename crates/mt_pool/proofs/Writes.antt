@@ -22,7 +22,8 @@ use Rattle.mt_space.specs.declared.changes.PageChange.{PageChange}
 use Rattle.mt_pool.specs.Kept.{carried}
 use Rattle.mt_pool.specs.declared.store.Store.{Store}
 use Rattle.mt_frame.specs.PageRecords.{range_record, change_records}
-use Rattle.mt_pool.specs.Writes.{due_image, records_size, IsUnfinished}
+use Rattle.mt_frame.proofs.Redone.{patched_length, shortest_within}
+use Rattle.mt_pool.specs.Writes.{due_image, due_records, records_size, IsUnfinished}
 use Rattle.std.proofs.lemmas.List.Elements.{recursion_from_All, All-weaker}
 use Rattle.mt_pool.proofs.Safe.{bool_cases, has_all}
 use Rattle.mt_pool.proofs.Logged.{AreImagesFirst, no_records}
@@ -210,18 +211,25 @@ pub edits_within : (old : List ℕ) (c : PageChange) → length old ≡ 4096 →
 edits_within old c whole short = All-weaker (IsShortest old (patched c.edits.items old)) (λ (e : Edit). e.start + length e.bytes ≤ 4096) (λ e range. let within = range.within in omega (arith, whole)) c.edits.items short.ranges
 
 module _ {D : Type 0} (seen : D → List ℕ) (may : D → List ℕ → Type 0) (s : Store D) (k : IsSteady seen may s) (txn op : ℕ) (change : PageChange)
-    (there : IsThere s.pool change.page) (inside : change.page < pages s.pool) (short : IsShort (view s.pool (seen s.device) change.page) change) (numbers : IsTxn txn × IsOp op) (new_size : length (patched change.edits.items (view s.pool (seen s.device) change.page)) ≡ 4096) where
+    (there : IsThere s.pool change.page) (inside : change.page < pages s.pool) (short : IsShort (view s.pool (seen s.device) change.page) change) (numbers : IsTxn txn × IsOp op) where
   abbrev pub page_now : List ℕ
   page_now = view s.pool (seen s.device) change.page
 
   abbrev pub records_now : List Record
-  records_now = change_records txn op change.page (due_image s.pool change.page page_now) page_now (patched change.edits.items page_now) change.edits.items
+  records_now = due_records s.pool txn op change page_now
+
+  -- whatever its slot has
+  pub now_any : (other : List ℕ) → due_records s.pool txn op change (view s.pool other change.page) ≡ records_now
+  now_any other = ap (due_records s.pool txn op change) (view_any s.pool other (seen s.device) change.page there)
 
   whole : length page_now ≡ 4096
   whole = view_whole s.pool (seen s.device) change.page k.frames there
 
   each : AllByRecursion (IsShortest page_now (patched change.edits.items page_now)) change.edits.items
   each = recursion_from_All (IsShortest page_now (patched change.edits.items page_now)) change.edits.items short.ranges
+
+  new_size : length (patched change.edits.items page_now) ≡ 4096
+  new_size = patched_length change.edits.items page_now (shortest_within page_now (patched change.edits.items page_now) change.edits.items each) ∙ whole
 
   image_whole : (due : Option (List ℕ)) → ((waits_for s.pool change.page ≡ 0) × (due ≡ Some page_now)) ⊎ ((waits_for s.pool change.page ≢ 0) × (due ≡ None)) → IsImage due × (image_length due ≤ 4096)
   image_whole due (inl is) = (subst IsImage (sym is.1) whole, omega (arith, ap image_length is.1, whole))

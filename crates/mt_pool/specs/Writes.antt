@@ -5,6 +5,7 @@ use Rattle.mt_base.specs.declared.refusal.Refusal.{Refusal}
 use Rattle.mt_frame.specs.declared.records.Record.{Record}
 use Rattle.mt_frame.specs.History.{MayFollow, some_record, ends_txn, ends_op}
 use Rattle.mt_frame.specs.Lengths.{record_length}
+use Rattle.mt_frame.specs.PageRecords.{change_records, lent_image}
 use Rattle.mt_log.specs.Holds.{HasItsPage}
 use Rattle.mt_log.specs.Sound.{IsSound}
 use Rattle.mt_log.specs.Words as words
@@ -12,12 +13,23 @@ use Rattle.mt_log.specs.Words.{appended, area_size, durable, in_flight, waiting,
 use Rattle.mt_log.specs.declared.log.Log.{Log}
 use Rattle.mt_base.specs.Edits.{patched}
 use Rattle.mt_base.specs.declared.edits.Edit.{Edit}
+use Rattle.mt_space.specs.declared.changes.PageChange.{PageChange}
+use Rattle.mt_pool.specs.declared.page_changes.Change.{Change}
 use Rattle.mt_pool.specs.Views.{IsPool, Shows, view, waits_for}
 use Rattle.mt_pool.specs.declared.pool.Pool.{Pool}
 
 -- the image that the first record of a page carries
 abbrev pub due_image : Pool → ℕ → List ℕ → Option (List ℕ)
 due_image pool page bytes = if waits_for pool page == 0 then Some bytes else None
+
+-- what is to be logged of a change of a page with these bytes
+abbrev pub due_records : Pool → ℕ → ℕ → PageChange → List ℕ → List Record
+due_records pool txn op change page = let edits = change.edits.items in
+    change_records txn op change.page (due_image pool change.page page) page (patched edits page) edits
+
+-- the records of a change with lent bytes, one for each of these edits
+abbrev pub lent_records : Change → List Edit → List Record
+lent_records c edits = change_records c.txn c.op c.page (lent_image c.image) c.old.now c.new.now edits
 
 -- what the records take of an area, each with a head of its own
 abbrev pub records_size : List Record → ℕ

@@ -15,7 +15,6 @@ ghost use Rattle.mt_log.specs.declared.log.Forced.{Forced};
 ghost use Rattle.mt_log.specs.declared.log.Forced.TheVariants as forced;
 ghost use Rattle.mt_pool.specs.Images.{slot};
 
-use crate::page_changes::append_all;
 use crate::{Fetched, Flushed, Pool};
 use mt_base::limits::MASTER_BYTES;
 use mt_base::{LogPos, OpNo, PageNo, Refusal, TxnNo};
@@ -297,7 +296,7 @@ impl<D: Device> Store<D> {
     /// The only refusal is [`Refusal::NoMemory`], and nothing is appended or written then.
     pub fn write(
         &mut self,
-        alloc: Global,
+        _alloc: Global,
         txn: TxnNo,
         op: OpNo,
         change: &PageChange,
@@ -341,8 +340,7 @@ impl<D: Device> Store<D> {
         ensures device { self.new.device ≡ self.old.device }
         ensures only_memory { IfErr result (λ why. why ≡ Refusal.NoMemory) }
     {
-        let records = self.pool.prepare(alloc, txn, op, change)?;
-        let place = append_all(&mut self.log, records)?;
+        let place = self.pool.append_change(&mut self.log, txn, op, change)?;
         self.pool.change_all(change.page, &change.edits, place);
         Ok(())
     }

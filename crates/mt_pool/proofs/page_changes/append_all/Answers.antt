@@ -1,13 +1,26 @@
-use Rattle.std.proofs.Common.{rules, ◌≡◌, ◌∙◌, ◌++◌, ◌∷◌, [], List, refl, sym, ap, subst, arith, append_assoc, append-nil, false}
+use Rattle.std.proofs.Common.{rules, ◌≡◌, ◌+◌, ◌∙◌, ◌++◌, ◌∷◌, [], ℕ, List, Option, None, drop, refl, sym, ap, subst, arith, append_assoc, append-nil, false}
 use Rattle.std.specs.List.{AllByRecursion}
+use Rattle.std.proofs.lemmas.List.{drop_more}
+use Rattle.mt_base.specs.declared.edits.Edit.{Edit}
 use Rattle.mt_frame.specs.Grammar.{IsRecord}
-use Rattle.mt_log.specs.Holds.{HasItsPage}
+use Rattle.mt_frame.specs.declared.records.PageRecord.{PageRecord}
 use Rattle.mt_frame.specs.declared.records.Record.{Record}
 use Rattle.mt_frame.specs.History.{may_stand, MayFollow}
+use Rattle.mt_frame.specs.PageRecords.{change_records, lent_image, range_record, represented}
+use Rattle.mt_log.specs.Holds.{HasItsPage}
 use Rattle.mt_log.specs.Words.{appended}
 use Rattle.mt_pool.specs.Writes.{records_size, IsLonger}
+use Rattle.mt_pool.specs.declared.page_changes.Change.{Change}
 use Rattle.mt_pool.proofs.Logged.{longer_appended, longer_more, size_append, next_may, next_page}
 use Rattle.mt_pool.proofs.page_changes.append_all.Goals as goal
+
+-- the records that are left, this one first
+first_of : (ch : Change) (image : Option (List ℕ)) (es : List Edit) (i : ℕ) (e : Edit) (entry : PageRecord) → drop i es ≡ e ∷ drop (i + 1) es
+    → represented entry ≡ range_record ch.txn ch.op ch.page image ch.old.now ch.new.now e
+    → change_records ch.txn ch.op ch.page image ch.old.now ch.new.now (drop i es) ≡ represented entry ∷ change_records ch.txn ch.op ch.page None ch.old.now ch.new.now (drop (i + 1) es)
+first_of ch image es i e entry next is =
+    ap (λ (l : List Edit). change_records ch.txn ch.op ch.page image ch.old.now ch.new.now l) next
+    ∙ ap (λ (r : Record). r ∷ change_records ch.txn ch.op ch.page None ch.old.now ch.new.now (drop (i + 1) es)) (sym is)
 
 pub returns-in_err-reserve : goal.returns-in_err-reserve
 returns-in_err-reserve c = record {
@@ -21,37 +34,50 @@ returns-in_err-reserve c = record {
   only_memory = search rules;
 }
 
-pub loop-entry-init : goal.loop-entry-init
-loop-entry-init c = let e = c.reserve.ensures in record {
-  done = ([], refl, record { stands = e.stands; durable_same = e.durable; flying_same = e.in_flight; waiting_more = e.waiting ∙ sym (append-nil _) }, omega (arith, e.used), λ lt. absurd (omega arith));
+pub loop-edit-init : goal.loop-edit-init
+loop-edit-init c = let e = c.reserve.ensures in record {
+  done = ([], refl, record { stands = e.stands; durable_same = e.durable; flying_same = e.in_flight; waiting_more = e.waiting ∙ sym (append-nil _) }, omega (arith, e.used));
+  place = λ lt. absurd (omega arith);
   area = e.area;
   each = c.requires.grammar;
   room = let room = c.in_ok-reserve.ensures.room in omega (arith, c.requires.short, room);
   sound = λ pages sound each may. e.sound pages sound;
 }
 
-pub append-requires-clause-fits : goal.append-requires-clause-fits
-append-requires-clause-fits c =
-    let i = c.loop-entry.invariant in
-    let d = i.done in
-    omega (arith, c.requires.fits, i.area, d.3, ap records_size d.1, size_append d.0 c.loop-entry.records.items, ap records_size c.in-Some.ensures.items)
+pub append_page-requires-clause-fits : goal.append_page-requires-clause-fits
+append_page-requires-clause-fits c =
+    let v = c.loop-edit.invariant in
+    let d = v.done in
+    let i = c.loop-edit.edit-index in
+    let es = c.args.edits.now in
+    let e = c.edit-item.result in
+    let next = drop_more es i e c.loop-edit-test.true ∙ ap (λ (x : Edit). x ∷ drop (i + 1) es) (sym c.edit-item.is) in
+    let first = first_of c.args.change.now (lent_image c.loop-edit.image) es i e c.record_of.result next c.record_of.ensures in
+    omega (arith, c.requires.fits, v.area, d.3, ap records_size d.1, size_append d.0 (change_records c.args.change.now.txn c.args.change.now.op c.args.change.now.page (lent_image c.loop-edit.image) c.args.change.now.old.now c.args.change.now.new.now (drop i es)), ap records_size first)
 
-pub loop-entry-preserved : goal.loop-entry-preserved
-loop-entry-preserved c =
-    let i = c.loop-entry.invariant in
-    let d = i.done in
-    let r = c.in-Some.entry in
-    let rest = c.pop_front.new.self.items in
-    let e = c.append.ensures in
+pub loop-edit-preserved : goal.loop-edit-preserved
+loop-edit-preserved c =
+    let v = c.loop-edit.invariant in
+    let d = v.done in
+    let ch = c.args.change.now in
+    let i = c.loop-edit.edit-index in
+    let es = c.args.edits.now in
+    let e = c.edit-item.result in
+    let r = represented c.record_of.result in
+    let rest = change_records ch.txn ch.op ch.page None ch.old.now ch.new.now (drop (i + 1) es) in
+    let next = drop_more es i e c.loop-edit-test.true ∙ ap (λ (x : Edit). x ∷ drop (i + 1) es) (sym c.edit-item.is) in
+    let first = first_of ch (lent_image c.loop-edit.image) es i e c.record_of.result next c.record_of.ensures in
+    let whole = d.1 ∙ ap (λ (l : List Record). d.0 ++ l) first in
+    let f = c.append_page.ensures in
     let o = c.in_ok-place.ensures in
-    let whole : c.args.records.items ≡ d.0 ++ r ∷ rest = d.1 ∙ ap (λ (l : List Record). d.0 ++ l) c.in-Some.ensures.items in
-    let one : IsLonger c.loop-entry.log c.append.new.self (r ∷ []) = record { stands = e.stands; durable_same = e.durable; flying_same = e.in_flight; waiting_more = o.waiting } in
-    let more = longer_more c.args.log.now c.loop-entry.log c.append.new.self d.0 (r ∷ []) d.2 one in
+    let one : IsLonger c.loop-edit.log c.append_page.new.self (r ∷ []) = record { stands = f.stands; durable_same = f.durable; flying_same = f.in_flight; waiting_more = o.waiting } in
+    let more = longer_more c.args.log.now c.loop-edit.log c.append_page.new.self d.0 (r ∷ []) d.2 one in
     record {
-      done = (d.0 ++ r ∷ [], whole ∙ sym (append_assoc d.0 (r ∷ []) rest), more, omega (arith, d.3, o.used, size_append d.0 (r ∷ [])), λ lt. o.place);
-      area = e.area ∙ i.area;
-      each = (subst (AllByRecursion IsRecord) c.in-Some.ensures.items i.each).1;
-      room = omega (arith, i.room, ap records_size c.in-Some.ensures.items, e.room_left);
-      sound = λ pages sound each may. e.sound pages (i.sound pages sound each may) (next_page pages d.0 rest r (subst (AllByRecursion (HasItsPage pages)) whole each))
-          (ap (λ (l : List Record). may_stand false l r) (longer_appended c.args.log.now c.loop-entry.log d.0 d.2) ∙ next_may (appended c.args.log.now) d.0 rest r (subst (MayFollow false (appended c.args.log.now)) whole may));
+      done = (d.0 ++ r ∷ [], whole ∙ sym (append_assoc d.0 (r ∷ []) rest), more, omega (arith, d.3, o.used, size_append d.0 (r ∷ [])));
+      place = λ lt. o.place;
+      area = f.area ∙ v.area;
+      each = (subst (AllByRecursion IsRecord) first v.each).1;
+      room = omega (arith, v.room, ap records_size first, f.room_left);
+      sound = λ pages sound each may. f.sound pages (v.sound pages sound each may) (next_page pages d.0 rest r (subst (AllByRecursion (HasItsPage pages)) whole each))
+          (ap (λ (l : List Record). may_stand false l r) (longer_appended c.args.log.now c.loop-edit.log d.0 d.2) ∙ next_may (appended c.args.log.now) d.0 rest r (subst (MayFollow false (appended c.args.log.now)) whole may));
     }

@@ -22,24 +22,24 @@ use types.Part.{agg}
 use types.Run.{enter, returns, and_then, no_more}
 use Rattle.mt_base.proofs.Fieldless.{inside, marked}
 use Rattle.mt_base.specs.contracts.history.History as History
-use Rattle.mt_base.specs.contracts.history.History.and as f
-use Rattle.mt_base.specs.contracts.history.History.and.Key.{name as key}
-use Rattle.mt_base.proofs.history.History.and.Statement.{statement}
-use Rattle.mt_base.proofs.history.History.and.Code as code
+use Rattle.mt_base.specs.contracts.history.History.and_as as f
+use Rattle.mt_base.specs.contracts.history.History.and_as.Key.{name as key}
+use Rattle.mt_base.proofs.history.History.and_as.Statement.{statement}
+use Rattle.mt_base.proofs.history.History.and_as.Code as code
 
-pub and_spec : {M : Type 1} → statement M
-and_spec 𝓤 𝓛 𝓜 𝓡 wired T laws =
-    let E = f.ended T in let c = f.clauses T 𝓛 𝓜.mem 𝓡.returns in let 𝓣 = tables 𝓤 𝓛.H 𝓜 𝓡 𝓡.env in
-    let inst = layouts (a_type ∷ []) (T, tt) in let fn = inst_fn inst code.function in
-    let R : RattleType = param 0 T in let S : RattleType = History.the_row R in
-    let self = RefOf (0 ∷ []) tt (plain (λ _. S)) (λ _. tt) in let last = RefOf (1 ∷ []) tt (plain (λ _. R)) (λ _. tt) in
+pub and_as_spec : {M : Type 1} → statement M
+and_as_spec 𝓤 𝓛 𝓜 𝓡 wired T B laws others =
+    let E = f.ended T B in let c = f.clauses T B 𝓛 𝓜.mem 𝓡.returns in let 𝓣 = tables 𝓤 𝓛.H 𝓜 𝓡 𝓡.env in
+    let inst = layouts (a_type ∷ a_type ∷ []) (T, (B, tt)) in let fn = inst_fn inst code.function in
+    let R : RattleType = param 0 T in let Q : RattleType = param 1 B in let S : RattleType = History.the_row R in
+    let self = RefOf (0 ∷ []) tt (plain (λ _. S)) (λ _. tt) in let last = RefOf (1 ∷ []) tt (plain (λ _. Q)) (λ _. tt) in
     let stayed : Stays E.signature.params E.kept = (stay_dropped self yes, (stay_dropped last yes, tt)) in
-    proved 𝓛 E stayed c 𝓜 𝓡 (Goes-dropped 𝓛 3 self yes (λ κs x w. refl), (Goes-dropped 𝓛 3 last yes (λ κs x w. refl), tt)) (key inst) fn (code.unfolded 𝓤 𝓛.H 𝓜 𝓡 wired (T, tt))
-    (λ κs. (shr_vals, (shr_vals, tt))) (λ κs. (shr_Tells (named 0) κs.0 S, (shr_Tells (named 1) κs.1.0 R, tt))) (λ κs qs bounds a g are.
+    proved 𝓛 E stayed c 𝓜 𝓡 (Goes-dropped 𝓛 4 self yes (λ κs x w. refl), (Goes-dropped 𝓛 4 last yes (λ κs x w. refl), tt)) (key inst) fn (code.unfolded 𝓤 𝓛.H 𝓜 𝓡 wired (T, (B, tt)))
+    (λ κs. (shr_vals, (shr_vals, tt))) (λ κs. (shr_Tells (named 0) κs.0 S, (shr_Tells (named 1) κs.1.0 Q, tt))) (λ κs qs bounds a g are.
     let p : Val = vptr a.0.ref_ptr.0 a.0.ref_ptr.1 in let q : Val = vptr a.1.0.ref_ptr.0 a.1.0.ref_ptr.1 in
     let y : (walk_of 𝓛 E stayed c).Ghost = ((κs, qs, bounds, a, (p ∷ [], (q ∷ [], tt))), g) in
     let Post : Val → SProp 𝓤 = (walk_of 𝓛 E stayed c).post y in
-    let longer : S.Denot = record { of = record {}; items = a.0.now.items ++ a.1.0.now ∷ [] } in
+    let longer : S.Denot = record { of = record {}; items = a.0.now.items ++ g a.1.0.now ∷ [] } in
     qed 𝓛 ((raw (alive 𝓛 E.signature κs qs) ⊛ ‵ (owns (types_at E.signature.params κs) a y.0.4)) ∷ raw ((c κs a).requires g) ∷ []) ∵ split ! $ keep ! (0 ∷ []) $
     enter ! 𝓣.C 𝓣.Λ fn (p ∷ q ∷ []) Post $ alloc_all ! (λ l. pass_all ! refl ((tt, tt), ((tt, tt), tt)) $
     sets ! (agg ! (no_more !)) refl (tt, tt) $

@@ -1,0 +1,38 @@
+use Rattle.std.proofs.Common.{◌≡◌, ◌∙◌, ◌+◌, ◌≤◌, ◌<◌, [], ℕ, List, Option, sym, ap, subst}
+use Rattle.std.specs.List.{AllByRecursion}
+use Rattle.mt_base.specs.Edits.{patched}
+use Rattle.mt_base.specs.declared.edits.Edit.{Edit}
+use Rattle.mt_frame.specs.Grammar.{IsRecord}
+use Rattle.mt_frame.specs.declared.records.Record.{Record}
+use Rattle.mt_frame.specs.PageRecords.{change_records}
+use Rattle.mt_log.specs.Words.{used, area_size}
+use Rattle.mt_pool.specs.Views.{view}
+use Rattle.mt_pool.specs.Writes.{due_image, due_records, records_size}
+use Rattle.mt_pool.specs.declared.pool.Pool.{Pool}
+use Rattle.mt_space.specs.declared.changes.PageChange.{PageChange}
+use Rattle.mt_pool.proofs.pool.Pool.append_change.Goals as goal
+
+-- what is lent is what is due
+lent_is_due : (pool : Pool) (txn op : ℕ) (change : PageChange) (page : List ℕ) (image : Option (List ℕ)) (old new : List ℕ) (made edits : List Edit)
+    → image ≡ due_image pool change.page page → old ≡ page → new ≡ patched made old → made ≡ change.edits.items → edits ≡ change.edits.items
+    → change_records txn op change.page image old new edits ≡ due_records pool txn op change page
+lent_is_due pool txn op change page image old new made edits is_image is_old is_new is_made is_edits =
+    ap (λ (i : Option (List ℕ)). change_records txn op change.page i old new edits) is_image
+    ∙ ap (λ (l : List ℕ). change_records txn op change.page (due_image pool change.page page) old l edits) (is_new ∙ ap (λ (es : List Edit). patched es old) is_made)
+    ∙ ap (λ (l : List ℕ). change_records txn op change.page (due_image pool change.page page) l (patched change.edits.items l) edits) is_old
+    ∙ ap (λ (es : List Edit). change_records txn op change.page (due_image pool change.page page) page (patched change.edits.items page) es) is_edits
+
+pub append_all-requires-clause-grammar : goal.append_all-requires-clause-grammar
+append_all-requires-clause-grammar c =
+    let is = lent_is_due c.args.self.now c.args.txn c.args.op c.args.change.now (view c.args.self.now [] c.args.change.now.page) _ _ _ _ _ (c.due_image.ensures []) (c.view-old.ensures []) c.patch.ensures.made c.deref.ensures.value c.deref-2.ensures.value in
+    subst (AllByRecursion IsRecord) (sym is) (c.requires.grammar [])
+
+pub append_all-requires-clause-fits : goal.append_all-requires-clause-fits
+append_all-requires-clause-fits c =
+    let is = lent_is_due c.args.self.now c.args.txn c.args.op c.args.change.now (view c.args.self.now [] c.args.change.now.page) _ _ _ _ _ (c.due_image.ensures []) (c.view-old.ensures []) c.patch.ensures.made c.deref.ensures.value c.deref-2.ensures.value in
+    subst (λ (rs : List Record). used c.args.log.now + records_size rs < area_size c.args.log.now) (sym is) (c.requires.fits [])
+
+pub append_all-requires-clause-short : goal.append_all-requires-clause-short
+append_all-requires-clause-short c =
+    let is = lent_is_due c.args.self.now c.args.txn c.args.op c.args.change.now (view c.args.self.now [] c.args.change.now.page) _ _ _ _ _ (c.due_image.ensures []) (c.view-old.ensures []) c.patch.ensures.made c.deref.ensures.value c.deref-2.ensures.value in
+    subst (λ (rs : List Record). records_size rs ≤ 12317) (sym is) (c.requires.short [])

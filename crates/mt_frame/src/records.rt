@@ -82,12 +82,19 @@ pub enum Record {
 /// log without them.
 #[derive(Clone, Copy)]
 pub struct PageRecord<'a> {
+    /// The transaction whose change it is.
     pub txn: TxnNo,
+    /// The operation that makes the change.
     pub op: OpNo,
+    /// The page.
     pub page: PageNo,
+    /// The whole page as it was before, if the area has no image of it yet.
     pub image: Option<&'a [u8]>,
+    /// The offset of the first byte that changes.
     pub start: u16,
+    /// The bytes from there on before the change.
     pub old: &'a [u8],
+    /// The bytes there after it, as many.
     pub new: &'a [u8],
 }
 

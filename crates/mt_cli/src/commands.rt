@@ -1,5 +1,5 @@
 // The commands, done.
-ghost use Rattle.std.specs.Prelude.{◌≡◌, ◌≢◌, ◌≤◌, IfOk, IfErr, IfSome, IsOk, MatchResult, None, codes, OnOk, OnErr, length, map, option_map};
+ghost use Rattle.std.specs.Prelude.{◌≡◌, ◌≢◌, ◌≤◌, IfOk, IfErr, IfSome, IsOk, MatchResult, None, codes, OnOk, OnErr, length, map, option_map, string_bytes};
 ghost use Rattle.mt_disk.specs.Memory.{content};
 ghost use Rattle.mt_script.specs.Answers.{AppendsFront};
 ghost use Rattle.mt_args.specs.CommandLines.{IsMistaken};
@@ -265,6 +265,16 @@ fn show<O: Write>(text: &str, out: &mut O) -> Result<(), Fault>
     }
 }
 
+/// The name that a command has, if it has one.
+fn name_of(name: &Option<String>) -> Option<&str>
+    ensures { option_map (λ n. n.now) result ≡ option_map string_bytes name.now }
+{
+    match name {
+        Some(name) => Some(name.as_str()),
+        None => None,
+    }
+}
+
 /// Does a command.
 fn do_command<
     F: Folder,
@@ -290,15 +300,10 @@ fn do_command<
 {
     let patience = Patience::of(rt, command);
     match command {
-        Command::Try {
-            script: Some(name),
-            stop,
-        } => perform_try(alloc, folder, Some(name.as_str()), *stop, input, out),
-        Command::Try { script: None, stop } => perform_try(alloc, folder, None, *stop, input, out),
-        Command::Schedule { file: Some(name) } => {
-            perform_schedule(alloc, folder, Some(name.as_str()), input, out)
+        Command::Try { script, stop } => {
+            perform_try(alloc, folder, name_of(script), *stop, input, out)
         }
-        Command::Schedule { file: None } => perform_schedule(alloc, folder, None, input, out),
+        Command::Schedule { file } => perform_schedule(alloc, folder, name_of(file), input, out),
         Command::Check { file, pages, .. } => {
             perform_check(alloc, &patience, folder, file.as_str(), *pages, out)
         }

@@ -16,6 +16,7 @@ use crate::operations::Operations;
 use crate::scope::OpScope;
 use mt_base::{Mode, PageNo, Refusal};
 use mt_disk::Device;
+use mt_index::Search;
 use mt_plock::Asked;
 use mt_pool::Fetched;
 use std::mem::replace;
@@ -67,6 +68,7 @@ impl<D: Device> Operations<D> {
         page: PageNo,
         mode: Mode,
         room: Option<PageNo>,
+        search: Search,
     ) -> Result<Stepped, Refusal>
         requires right { IsOneOf D.seen D.may_leave self.old scope.old }
         requires planning { scope.old.stage ≡ Planning }
@@ -80,7 +82,7 @@ impl<D: Device> Operations<D> {
         if !self.bring(page)? {
             return Ok(Stepped::Flush);
         }
-        self.look(scope, page, mode, room)
+        self.look(scope, page, mode, room, search)
     }
 
     // Locks and copies a page that is in a frame.
@@ -90,6 +92,7 @@ impl<D: Device> Operations<D> {
         page: PageNo,
         mode: Mode,
         room: Option<PageNo>,
+        search: Search,
     ) -> Result<Stepped, Refusal>
         requires right { IsOneOf D.seen D.may_leave self.old scope.old }
         requires planning { scope.old.stage ≡ Planning }
@@ -105,6 +108,7 @@ impl<D: Device> Operations<D> {
             Stepped::Went => {
                 scope.seen.put(page, self.store.pool.view(page));
                 scope.room = room;
+                scope.search = search;
                 Ok(Stepped::Went)
             }
             other => Ok(other),
@@ -130,6 +134,7 @@ impl<D: Device> Operations<D> {
         let guards = replace(&mut scope.guards, none);
         self.locks.release_all(guards);
         scope.seen.clear();
+        scope.search = Search::Start;
         scope.room = None;
     }
 }

@@ -28,6 +28,7 @@ use crate::operations::Operations;
 use crate::scope::{OpScope, Stage};
 use mt_base::{Mode, OpNo, PageNo, Refusal};
 use mt_disk::Device;
+use mt_index::Search;
 use mt_model::{Op, Reply};
 use mt_plock::{PageGuard, PageLock};
 use mt_space::pages::MAP;
@@ -131,9 +132,10 @@ impl<D: Device> Operations<D> {
         ensures { PlansOn D.seen D.may_leave D.moment D.left_since D.faults self.old self.new scope.old scope.new
             result }
     {
-        match plan(alloc, &scope.seen, scope.room, &scope.op, scope.split)? {
+        let mut search = scope.search;
+        match plan(alloc, &scope.seen, scope.room, &scope.op, scope.split, &mut search)? {
             Act::Lock(page, mode) => {
-                let stepped = self.lock_next(scope, page, mode)?;
+                let stepped = self.lock_next(scope, page, mode, search)?;
                 Ok(Some(stepped))
             }
             Act::Made(changes, reply) => self.keep_plan(scope, changes, reply),
@@ -153,6 +155,7 @@ impl<D: Device> Operations<D> {
         scope: &mut OpScope,
         page: PageNo,
         mode: Mode,
+        search: Search,
     ) -> Result<Stepped, Refusal>
         requires right { IsOneOf D.seen D.may_leave self.old scope.old }
         requires planning { scope.old.stage ≡ Planning }
@@ -162,11 +165,11 @@ impl<D: Device> Operations<D> {
             result }
     {
         if page.get() != MAP {
-            return self.lock(scope, page, mode, scope.room);
+            return self.lock(scope, page, mode, scope.room, search);
         }
         match self.room_for(scope) {
-            Some(room) => self.lock(scope, room, Mode::Write, Some(room)),
-            None => self.lock(scope, page, mode, scope.room),
+            Some(room) => self.lock(scope, room, Mode::Write, Some(room), search),
+            None => self.lock(scope, page, mode, scope.room, search),
         }
     }
 

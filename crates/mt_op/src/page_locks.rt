@@ -5,6 +5,8 @@ ghost use Rattle.mt_base.specs.declared.refusal.Refusal.{Refusal};
 ghost use Rattle.mt_pool.specs.Views.{IsThere, pages};
 ghost use Rattle.mt_base.specs.declared.modes.Mode.TheVariants.{Write};
 ghost use Rattle.mt_pool.specs.Kept.{HasOpening};
+ghost use Rattle.mt_steps.specs.Asks.{HasSearched};
+ghost use Rattle.mt_op.specs.World.{looked};
 ghost use Rattle.mt_op.specs.Operations.{IsOneOf};
 ghost use Rattle.mt_op.specs.declared.scope.Stage.TheVariants.{Planning};
 ghost use Rattle.mt_plock.specs.Releasing.{locks_of};
@@ -61,7 +63,7 @@ impl<D: Device> Operations<D> {
     }
 
     // Locks a page that the operation has not looked at, and copies it. From then on the operation is led to
-    // the page `room`, if that is another than before.
+    // the page `room`, if that is another than before, and its search for the key has come so far.
     pub(crate) fn lock(
         &mut self,
         scope: &mut OpScope,
@@ -76,6 +78,7 @@ impl<D: Device> Operations<D> {
         requires led { (room ≡ scope.old.room)
             ⊎ ((room ≡ Some page) × (mode ≡ Write) × (get_or self.old.map.kinds.value page 0 ≡ 3)) }
         requires unled { (room ≡ scope.old.room) ⊎ (scope.old.room ≡ None) }
+        requires searched { HasSearched (looked scope.old) scope.old.seen.total scope.old.op search }
         ensures { LocksPage D.seen D.may_leave D.moment D.left_since D.faults self.old self.new scope.old scope.new
             result }
     {
@@ -100,6 +103,7 @@ impl<D: Device> Operations<D> {
         requires led { (room ≡ scope.old.room)
             ⊎ ((room ≡ Some page) × (mode ≡ Write) × (get_or self.old.map.kinds.value page 0 ≡ 3)) }
         requires unled { (room ≡ scope.old.room) ⊎ (scope.old.room ≡ None) }
+        requires searched { HasSearched (looked scope.old) scope.old.seen.total scope.old.op search }
         requires there { IsThere self.old.store.pool page }
         ensures { TakesLock D.seen D.may_leave self.old self.new scope.old scope.new result }
     {

@@ -2,6 +2,7 @@
 // Locks are got in `page_locks`, and pages written in `page_writes`.
 ghost use Rattle.std.specs.Prelude.{◌≡◌, ◌≢◌, ◌⊎◌, ◌<◌, ◌≤◌, ◌+◌, ◌^◌, ℕ, List, length, All, Contains, [], None, Some, Ok, true, false, MatchOption, IfErr, IsTrue, ◌↔◌};
 ghost use Rattle.mt_base.specs.declared.limits.TheConstants.{MAX_COUNTERS, MAX_PAGES, MAX_RELATIONS, MAX_WRITTEN_PAGES};
+ghost use Rattle.mt_steps.specs.Asks.{HasSearched};
 ghost use Rattle.mt_steps.specs.Overlays.{AreAtHand};
 ghost use Rattle.mt_steps.specs.Logged.{logged_of};
 ghost use Rattle.mt_base.specs.declared.modes.Mode.TheVariants.{Write};
@@ -161,6 +162,7 @@ impl<D: Device> Operations<D> {
         requires planning { scope.old.stage ≡ Planning }
         requires unseen { IsUnseen scope.old page mode }
         requires asked { IsAsked scope.old page mode }
+        requires searched { HasSearched (looked scope.old) scope.old.seen.total scope.old.op search }
         ensures { LocksPage D.seen D.may_leave D.moment D.left_since D.faults self.old self.new scope.old scope.new
             result }
     {

@@ -1,9 +1,8 @@
 -- How far a search has come is known, once it is known that it has come so far.
 use mathlib.Core.Logic.{∥∥₁_elim}
 use Rattle.std.proofs.Props.{props}
-use Rattle.std.proofs.Common.{◌≡◌, ◌≢◌, ◌⊎◌, ℕ, List, [], ◌∷◌, ◌++◌, length, Some, None, refl, ap, sym, ◌∙◌, subst, inl, inr, ⊎_elim}
+use Rattle.std.proofs.Common.{◌≡◌, ◌≢◌, ◌⊎◌, ℕ, List, [], ◌∷◌, ◌++◌, length, refl, ap, sym, ◌∙◌, subst, inl, inr, ⊎_elim}
 use Rattle.std.proofs.lemmas.Bool.{cases_eq}
-use Rattle.mt_base.specs.declared.numbers.RecordName.{RecordName}
 use Rattle.mt_bucket.specs.Hash.{hash}
 use Rattle.mt_space.specs.Changes.{PageBytes}
 use Rattle.mt_index.specs.Maps.{Map, Each}
@@ -32,15 +31,15 @@ cut node q [] p a = inr none
 cut node q (n ∷ ns) p a = ⊎_elim
     (λ (is : n ≡ p). inl (record { front = []; walk = a.0 ∙ is; apart = tt; back = ns; is = ap (λ (x : ℕ). x ∷ ns) is }))
     (λ (ne : n ≢ p). ⊎_elim
-        (λ (rest : Cut node (node n).next ns p). inl (record {
-          front = n ∷ rest.front;
-          walk = (a.0, a.1, rest.walk);
-          apart = (ne, rest.apart);
-          back = rest.back;
-          is = ap (λ (x : List ℕ). n ∷ x) rest.is;
-        }))
-        (λ (absent : (front back : List ℕ) → ns ≡ front ++ p ∷ back → ⊥). inr (none ne absent))
-        (cut node (node n).next ns p a.2))
+    (λ (rest : Cut node (node n).next ns p). inl (record {
+      front = n ∷ rest.front;
+      walk = (a.0, a.1, rest.walk);
+      apart = (ne, rest.apart);
+      back = rest.back;
+      is = ap (λ (x : List ℕ). n ∷ x) rest.is;
+    }))
+    (λ (absent : (front back : List ℕ) → ns ≡ front ++ p ∷ back → ⊥). inr (none ne absent))
+    (cut node (node n).next ns p a.2))
     (cases_eq n p)
   where
     none : n ≢ p → ((front back : List ℕ) → ns ≡ front ++ p ∷ back → ⊥) → (front back : List ℕ) → n ∷ ns ≡ front ++ p ∷ back → ⊥
@@ -65,13 +64,16 @@ lacks_prop r k pages (n ∷ ns) = hlevel (props, lacks_prop r k pages ns)
 pub passed_of : (r total : ℕ) (k : List ℕ) (pages : PageBytes) (m : Map) (p : ℕ) → AreMap total pages m → ∥ ((steps : ℕ) × Passed (Lacks r k pages) pages k p steps) ∥₁
     → (steps : ℕ) × Passed (Lacks r k pages) pages k p steps
 passed_of r total k pages m p a known = ⊎_elim
-    (λ (c : Cut node first chain p). (length c.front, record {
-      front = c.front;
-      walk = c.walk;
-      real = ∥∥₁_elim known (hlevel props) (λ (steps, w). w.real);
-      each = ∥∥₁_elim known (lacks_prop r k pages c.front) (λ (steps, w). subst (Each (Lacks r k pages)) (sym (same c steps w)) w.each);
-      long = refl;
-    }))
+    (λ (c : Cut node first chain p). (
+      length c.front,
+      record {
+        front = c.front;
+        walk = c.walk;
+        real = ∥∥₁_elim known (hlevel props) (λ (steps, w). w.real);
+        each = ∥∥₁_elim known (lacks_prop r k pages c.front) (λ (steps, w). subst (Each (Lacks r k pages)) (sym (same c steps w)) w.each);
+        long = refl;
+      },
+    ))
     (λ (none : (front back : List ℕ) → chain ≡ front ++ p ∷ back → ⊥). absurd (∥∥₁_elim known (hlevel props) (λ (steps, w). none w.front (parts steps w).0 (parts steps w).1)))
     (cut node first chain p (a.index.tree.linked (hash k)))
   where

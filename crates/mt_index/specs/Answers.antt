@@ -73,7 +73,8 @@ pub record Holds (r : ℕ) (k : List ℕ) (pages : PageBytes) (p : ℕ) (name : 
 
 -- the key's bucket has this page, and those before it have no entry of the key
 abbrev pub IsSearchedTo : (ℕ → Option (List ℕ)) → ℕ → ℕ → List ℕ → ℕ → Type 0
-IsSearchedTo at_hand total r k p = InMaps at_hand total (λ pages m. ∥ ((steps : ℕ) × Passed (Lacks r k pages) pages k p steps) ∥₁)
+IsSearchedTo at_hand total r k p =
+    InMaps at_hand total (λ pages m. ∥ ((steps : ℕ) × Passed (Lacks r k pages) pages k p steps) ∥₁)
 
 -- how far the search for a key has come is so in all maps that agree with what is at hand
 abbrev pub IsSearched : (ℕ → Option (List ℕ)) → ℕ → ℕ → List ℕ → Search → Type 0

@@ -134,7 +134,14 @@ impl<D: Device> Operations<D> {
             result }
     {
         let mut search = scope.search;
-        match plan(alloc, &scope.seen, scope.room, &scope.op, scope.split, &mut search)? {
+        match plan(
+            alloc,
+            &scope.seen,
+            scope.room,
+            &scope.op,
+            scope.split,
+            &mut search,
+        )? {
             Act::Lock(page, mode) => {
                 let stepped = self.lock_next(scope, page, mode, search)?;
                 Ok(Some(stepped))

@@ -1,4 +1,4 @@
-use Rattle.std.proofs.Common.{◌≡◌, ℕ, ◌+◌, ◌≤◌, sym, ◌∙◌, arith, refl, inr}
+use Rattle.std.proofs.Common.{◌+◌, ◌≤◌, sym, ◌∙◌, arith, refl, inr}
 use Rattle.mt_index.specs.Answers.{Lacks}
 use Rattle.mt_index.proofs.Passing.{passed_on, passed_more, passed_kind, passed_ends, nowhere_map}
 use Rattle.mt_index.proofs.Searching.{passed_of}
@@ -46,9 +46,12 @@ loop-step-preserved g c pages agree m a =
     let here = agree c.loop-step.at c.in-Some.page.now c.in-Some.ensures.some in
     let p = c.loop-step.invariant pages agree m a in
     let far : c.loop-step._step ≤ p.0 = p.1 in
-    let further : c.loop-step._step + 1 ≤ p.0 + 1 = omega (arith, far) in
-    (p.0 + 1, further, passed_more (Lacks c.args.relation c.args.key.now pages) pages c.args.key.now c.loop-step.at c.next-behind.result p.0 c.in-Some.page.now p.2
-    here (rw here (sym c.in_default-find.ensures)) c.next-behind.ensures (λ e. c.if-get-eq0.false (c.get.ensures ∙ e)))
+    let further : c.loop-step._step + 1 ≤ p.0 + 1 = omega (arith, far) in (
+      p.0 + 1,
+      further,
+      passed_more (Lacks c.args.relation c.args.key.now pages) pages c.args.key.now c.loop-step.at c.next-behind.result p.0 c.in-Some.page.now p.2
+          here (rw here (sym c.in_default-find.ensures)) c.next-behind.ensures (λ e. c.if-get-eq0.false (c.get.ensures ∙ e)),
+    )
 
 pub returns : goal.returns
 returns g c = record {

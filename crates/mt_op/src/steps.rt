@@ -98,16 +98,16 @@ impl<D: Device> Operations<D> {
         ensures faults { TellsFaults (D.faults self.old.store.device) (D.faults self.new.store.device) result }
     {
         if scope.stage == Stage::Writing {
-            return self.go_on(alloc, scope);
+            return self.go_on(scope);
         }
         match self.plan_step(alloc, scope)? {
             Some(stepped) => Ok(stepped),
-            None => self.go_on(alloc, scope),
+            None => self.go_on(scope),
         }
     }
 
     // Writes the next page of the plan, or ends the operation.
-    fn go_on(&mut self, alloc: Global, scope: &mut OpScope) -> Result<Stepped, Refusal>
+    fn go_on(&mut self, scope: &mut OpScope) -> Result<Stepped, Refusal>
         requires right { IsOneWithin D.seen D.may_leave self.old scope.old }
         requires claims { own_needs scope.old.op scope.old.split ≤ claimed self.old }
         requires writing { scope.old.stage ≡ Writing }
@@ -117,7 +117,7 @@ impl<D: Device> Operations<D> {
             result }
     {
         if scope.written < scope.changes.list.len() {
-            self.write_next(alloc, scope)
+            self.write_next(scope)
         } else {
             self.finish(scope)
         }

@@ -2,7 +2,6 @@
 use Rattle.std.proofs.Common.{◌≡◌, ◌≢◌, ℕ, ◌<◌, ◌≤◌, ◌^◌, List, length, get_or, ap, sym, ◌∙◌, subst, arith, ◌⊎◌, inl, inr}
 use Rattle.mt_bucket.specs.Page.{depth_of}
 use Rattle.mt_space.specs.Changes.{PageBytes}
-use Rattle.mt_space.specs.Kinds.{kind}
 use Rattle.mt_index.specs.Maps.{Each}
 use Rattle.mt_index.specs.Index.{Node}
 use Rattle.mt_index.specs.Pages.{depth_in, pointer_at, node_of, IsOn}

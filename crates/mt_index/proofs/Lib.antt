@@ -14,6 +14,7 @@ pub mod Pigeons
 pub mod Witness
 pub mod Pointers
 pub mod Passing
+pub mod Searching
 pub mod Chaining
 pub mod OnePage
 mod Listing

@@ -25,6 +25,8 @@ use Rattle.mt_index.specs.declared.answers.Add.{Add}
 use Rattle.mt_index.specs.declared.answers.Add.TheVariants as add
 use Rattle.mt_index.specs.declared.answers.Held.{Held}
 use Rattle.mt_index.specs.declared.answers.Held.TheVariants as held
+use Rattle.mt_index.specs.declared.answers.Search.{Search}
+use Rattle.mt_index.specs.declared.answers.Search.TheVariants as search
 
 -- it holds of all pages that agree with those at hand and are a map
 abbrev pub InMaps : (ℕ → Option (List ℕ)) → ℕ → (PageBytes → Map → Type 0) → Type 0
@@ -69,6 +71,17 @@ pub record Holds (r : ℕ) (k : List ℕ) (pages : PageBytes) (p : ℕ) (name : 
   pub passed : Passed (Lacks r k pages) pages k p steps
   pub here : look r k (entries (pages p)) ≡ Some name
 
+-- the key's bucket has this page, and those before it have no entry of the key
+abbrev pub IsSearchedTo : (ℕ → Option (List ℕ)) → ℕ → ℕ → List ℕ → ℕ → Type 0
+IsSearchedTo at_hand total r k p =
+    InMaps at_hand total (λ pages m. ∥ ((steps : ℕ) × Passed (Lacks r k pages) pages k p steps) ∥₁)
+
+-- how far the search for a key has come is so in all maps that agree with what is at hand
+abbrev pub IsSearched : (ℕ → Option (List ℕ)) → ℕ → ℕ → List ℕ → Search → Type 0
+IsSearched at_hand total r k search.Start = Unit {0}
+IsSearched at_hand total r k (search.At p) = IsSearchedTo at_hand total r k p
+IsSearched at_hand total r k (search.Found name) = InMaps at_hand total (λ pages m. m r k ≡ Some name)
+
 -- what the walk along a key's bucket comes to: a page that is needed, the page that has the key's entry, or that none
 -- has it
 abbrev pub FindsHolder : (ℕ → Option (List ℕ)) → ℕ → ℕ → List ℕ → Mode → Held → Type 0
@@ -76,6 +89,17 @@ FindsHolder at_hand total r k in_bucket (held.Need p mode) = Asks at_hand total 
 FindsHolder at_hand total r k in_bucket (held.In p name) = (at_hand p ≡ None → ⊥) × InMaps at_hand total (λ pages m. Holds r k pages p name)
 FindsHolder at_hand total r k in_bucket held.Nowhere = InMaps at_hand total (λ pages m. m r k ≡ None)
 FindsHolder at_hand total r k in_bucket held.Endless = InMaps at_hand total (λ pages m. ⊥)
+
+abbrev pub HeldNeeds : Held → (ℕ → Type 0) → Type 0
+HeldNeeds (held.Need p mode) P = P p
+HeldNeeds _ P = Unit {0}
+
+-- what a find comes to: a page that is needed, the name under the key, or that there is none
+abbrev pub FindsName : (ℕ → Option (List ℕ)) → ℕ → ℕ → List ℕ → Find → Type 0
+FindsName at_hand total r k (find.Need p mode) = Asks at_hand total (IsInBucket k Read) p mode
+FindsName at_hand total r k (find.Found name) = InMaps at_hand total (λ pages m. m r k ≡ Some name)
+FindsName at_hand total r k find.Missing = InMaps at_hand total (λ pages m. m r k ≡ None)
+FindsName at_hand total r k find.Endless = InMaps at_hand total (λ pages m. ⊥)
 
 -- ---- a change of one entry
 

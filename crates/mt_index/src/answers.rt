@@ -1,5 +1,5 @@
 // What the plans of the index answer: a page that they need and in which mode, what they found, or what changes.
-// `Held` and `Spot` are answers within this crate.
+// `Held` and `Spot` are answers within this crate. And how far the search for a key has come.
 use mt_base::{Mode, PageNo, RecordName};
 use mt_space::Changes;
 
@@ -16,7 +16,19 @@ pub enum Find {
     Endless,
 }
 
+/// How far the search for a key's entry has come. As more pages come to hand it goes on from there.
+#[derive(Clone, Copy, Debug)]
+pub enum Search {
+    /// It begins.
+    Start,
+    /// It is at this page of the key's bucket; those before it have no entry of the key.
+    At(PageNo),
+    /// The record under the key has this name.
+    Found(RecordName),
+}
+
 // Where a key's entry is.
+#[derive(Clone, Copy)]
 pub(crate) enum Held {
     Need(PageNo, Mode),
     In(PageNo, RecordName),

@@ -1,7 +1,7 @@
 // The walk along the pages of a key's bucket: to the page with the key's entry, or to one that takes an entry more.
 ghost use Rattle.std.specs.Prelude.{◌≤◌, length};
 ghost use Rattle.mt_base.specs.declared.limits.TheConstants.{MAX_KEY_BYTES};
-ghost use Rattle.mt_index.specs.Answers.{FindsHolder, FindsSpot};
+ghost use Rattle.mt_index.specs.Answers.{FindsHolder, FindsSpot, HeldNeeds, IsSearchedTo};
 
 use crate::answers::{Held, Spot};
 use crate::directory::pointer;
@@ -19,7 +19,24 @@ pub(crate) fn holder_of<V: Pages>(views: &V, relation: RelNo, key: &[u8], mode: 
     let Some(directory) = views.page(PageNo::new(DIRECTORY)) else {
         return Held::Need(PageNo::new(DIRECTORY), Mode::Read);
     };
-    let mut at = pointer(directory, hash(key));
+    holder_from(views, pointer(directory, hash(key)), relation, key, mode)
+}
+
+// The same from a page of the bucket on, if those before it have no entry of the key.
+pub(crate) fn holder_from<V: Pages>(
+    views: &V,
+    from: PageNo,
+    relation: RelNo,
+    key: &[u8],
+    mode: Mode,
+) -> Held
+    requires sound { V.is_sound views.now }
+    requires short { length key.now ≤ MAX_KEY_BYTES }
+    requires lacks { IsSearchedTo (V.at_hand views.now) (V.total views.now) relation key.now from }
+    ensures holder { FindsHolder (V.at_hand views.now) (V.total views.now) relation key.now mode result }
+    ensures lacks { HeldNeeds result (IsSearchedTo (V.at_hand views.now) (V.total views.now) relation key.now) }
+{
+    let mut at = from;
     for _step in 0..views.count() {
         let Some(page) = views.page(at) else {
             return Held::Need(at, mode);

@@ -20,7 +20,7 @@ mod lookup;
 mod page_change;
 mod pointer_rules;
 
-pub use answers::{Add, Amend, Find};
+pub use answers::{Add, Amend, Find, Search};
 pub use directory::{DIRECTORY_HEAD_BYTES, MAX_DEPTH, depth};
 pub use directory_rules::check_directory;
 pub use entry_changes::{plan_drop, plan_set};

@@ -138,6 +138,7 @@ unled_goes relations counters w s planning k =
       sees = record { saw = at.sees.saw; named = λ p is. absurd cc };
       unended = open_same w s t op at.unended;
       nothing = at.nothing;
+      searched = at.searched;
       none_written = at.none_written;
       none_standing = at.none_standing;
     } in

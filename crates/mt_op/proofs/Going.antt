@@ -8,6 +8,7 @@ use Rattle.std.proofs.Math.ListN.{get_or}
 use Rattle.mt_pool.specs.Images.{slot}
 use Rattle.mt_pool.specs.Views.{IsPool, IsThere, view, held, framed, frame_whole}
 use Rattle.mt_pool.specs.declared.pool.Pool.{Pool}
+use Rattle.mt_steps.specs.Asks.{HasSearched}
 use Rattle.mt_steps.specs.Repeated.{by}
 use Rattle.mt_steps.specs.declared.overlay.PageCopy.{PageCopy}
 use Rattle.mt_op.specs.World.{World, held_in, unfinished_in, looked, HasNothing, IsWorld, IsUnderWay, IsAt, IsPlanning}
@@ -21,6 +22,7 @@ use Rattle.mt_op.specs.declared.answers.Stepped.{Stepped}
 use Rattle.mt_op.specs.declared.answers.Stepped.TheVariants as stepped
 use Rattle.mt_op.proofs.Staying.{own_kept, sees_same, open_same, rests_own, rests_held, world_rests}
 use Rattle.mt_op.proofs.Locking.{world_locks, others_lock, own_locks, own_upgrades, locks_held}
+use Rattle.mt_op.proofs.Searching.{searched_same, searched_gained}
 use Rattle.mt_op.proofs.Leaving.{world_leaves, others_leave, begins_anew, leaves_held}
 
 module _ (relations counters : ℕ) where
@@ -34,6 +36,7 @@ module _ (relations counters : ℕ) where
         sees = sees_same w s t m.plan.op m.plan.room m.plan.guards m.plan.seen at.sees;
         unended = open_same w s t m.plan.op at.unended;
         nothing = subst (λ (n : ℕ). by n (unfinished_in w) ≡ []) (sym m.plan.op.number) at.nothing;
+        searched = searched_same s t s.search t.search m.plan.op m.plan.seen m.search at.searched;
         none_written = m.written ∙ at.none_written;
         none_standing = m.standing ∙ at.none_standing;
       } in
@@ -51,7 +54,7 @@ module _ (relations counters : ℕ) where
   leaves_goes w z s t m planning anew k =
       let at = planning_of w s planning k in
       record {
-        own = begins_anew relations counters w z s t m k planning anew.op (anew.stage ∙ planning) anew.guards anew.seen anew.room (anew.written ∙ at.none_written) (anew.standing ∙ at.none_standing);
+        own = begins_anew relations counters w z s t m k planning anew.op (anew.stage ∙ planning) anew.guards anew.seen anew.search anew.room (anew.written ∙ at.none_written) (anew.standing ∙ at.none_standing);
         others = λ u ku other. others_leave relations counters w z s u m ku other.number;
         held = leaves_held w z s m;
         same = anew.op;
@@ -59,24 +62,29 @@ module _ (relations counters : ℕ) where
 
   -- a guard more, and copies of so many pages more
   gains : (w : World) (s t z : OpScope) (p : ℕ) (mode : Mode) (copies : List PageCopy) → s.stage ≡ Planning → Holds s t p mode → SameOp t z → z.stage ≡ t.stage → z.guards.items ≡ t.guards.items
-      → z.seen.list.items ≡ s.seen.list.items ++ copies → z.written ≡ t.written → z.standing ≡ t.standing → IsLed w (lock_of s.number p mode) s z → Gains w s z (lock_of s.number p mode) copies
-  gains w s t z p mode copies planning h op stage guards seen written standing led = record {
-    op = record { txn = op.txn ∙ h.op.txn; number = op.number ∙ h.op.number; op = op.op ∙ h.op.op; undoes = op.undoes ∙ h.op.undoes; split = op.split ∙ h.op.split; total = op.total ∙ h.op.total };
+      → z.seen.list.items ≡ s.seen.list.items ++ copies → z.written ≡ t.written → z.standing ≡ t.standing → IsLed w (lock_of s.number p mode) s z
+      → HasSearched (looked s) s.seen.total s.op z.search → Gains w s z (lock_of s.number p mode) copies
+  gains w s t z p mode copies planning h op stage guards seen written standing led searched = record {
+    op = same;
     planning = planning;
     stage = stage ∙ h.stage ∙ planning;
     own = refl;
     room = led;
     guards = guards ∙ h.guards;
     seen = seen;
+    searched = searched_gained s z copies z.search same seen searched;
     written = written ∙ h.written;
     standing = standing ∙ h.standing;
   }
+    where
+      same : SameOp s z
+      same = record { txn = op.txn ∙ h.op.txn; number = op.number ∙ h.op.number; op = op.op ∙ h.op.op; undoes = op.undoes ∙ h.op.undoes; split = op.split ∙ h.op.split; total = op.total ∙ h.op.total }
 
   pub locks_goes : (w z : World) (s t u : OpScope) (p : ℕ) (mode : Mode) → Locks w z (lock_of s.number p mode) → s.stage ≡ Planning → Holds s t p mode → SameOp t u → u.stage ≡ t.stage → u.guards.items ≡ t.guards.items
       → u.seen.list.items ≡ t.seen.list.items ++ record { page = p; bytes = w.present p } ∷ [] → u.written ≡ t.written → u.standing ≡ t.standing → IsLed w (lock_of s.number p mode) s u
-      → length (w.present p) ≡ 4096 → looked s p ≡ None → p < w.total → IsWorld relations counters w → IsUnderWay relations counters w s → Goes relations counters w z s u
-  locks_goes w z s t u p mode m planning h op stage guards seen written standing led size new inside kw k =
-      let g = gains w s t u p mode (record { page = p; bytes = w.present p } ∷ []) planning h op stage guards (seen ∙ ap (λ (cs : List PageCopy). cs ++ record { page = p; bytes = w.present p } ∷ []) h.seen) written standing led in
+      → HasSearched (looked s) s.seen.total s.op u.search → length (w.present p) ≡ 4096 → looked s p ≡ None → p < w.total → IsWorld relations counters w → IsUnderWay relations counters w s → Goes relations counters w z s u
+  locks_goes w z s t u p mode m planning h op stage guards seen written standing led searched size new inside kw k =
+      let g = gains w s t u p mode (record { page = p; bytes = w.present p } ∷ []) planning h op stage guards (seen ∙ ap (λ (cs : List PageCopy). cs ++ record { page = p; bytes = w.present p } ∷ []) h.seen) written standing led searched in
       record {
         own = own_locks relations counters w z (lock_of s.number p mode) m s u (record { page = p; bytes = w.present p }) kw k g refl refl size inside;
         others = λ v kv other. others_lock relations counters w z (lock_of s.number p mode) m v kv other.number;
@@ -86,7 +94,8 @@ module _ (relations counters : ℕ) where
 
   upgrades_goes : (w z : World) (s t : OpScope) (p : ℕ) (mode : Mode) → Locks w z (lock_of s.number p mode) → s.stage ≡ Planning → Holds s t p mode → IsSome (looked s p) → IsUnderWay relations counters w s → Goes relations counters w z s t
   upgrades_goes w z s t p mode m planning h some k =
-      let g = gains w s t t p mode [] planning h (record { txn = refl; number = refl; op = refl; undoes = refl; split = refl; total = refl }) refl refl (h.seen ∙ sym (append-nil s.seen.list.items)) refl refl (inl h.room) in
+      let g = gains w s t t p mode [] planning h (record { txn = refl; number = refl; op = refl; undoes = refl; split = refl; total = refl }) refl refl (h.seen ∙ sym (append-nil s.seen.list.items)) refl refl (inl h.room)
+      (subst (HasSearched (looked s) s.seen.total s.op) (sym h.search) (planning_of w s planning k).searched) in
       record {
         own = own_upgrades relations counters w z (lock_of s.number p mode) m s t k g some;
         others = λ v kv other. others_lock relations counters w z (lock_of s.number p mode) m v kv other.number;
@@ -165,6 +174,7 @@ same_op s = record { txn = refl; number = refl; op = refl; undoes = refl; split 
 pub stays_roomy : (s : OpScope) (seen : Copies) → seen.total ≡ s.seen.total → seen.list.items ≡ s.seen.list.items → Stays s (record s { seen = seen })
 stays_roomy s seen total items = record {
   plan = record { op = record { txn = refl; number = refl; op = refl; undoes = refl; split = refl; total = total }; room = refl; guards = refl; seen = items; changes = refl; reply = refl };
+  search = refl;
   stage = refl;
   written = refl;
   standing = refl;

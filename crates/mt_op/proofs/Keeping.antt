@@ -41,6 +41,7 @@ err_keeps_on op Next old new r why is same = subst (KeepsLocksOn op Next old new
 pub stays_same : (s : OpScope) → Stays s s
 stays_same s = record {
   plan = record { op = record { txn = refl; number = refl; op = refl; undoes = refl; split = refl; total = refl }; room = refl; guards = refl; seen = refl; changes = refl; reply = refl };
+  search = refl;
   stage = refl;
   written = refl;
   standing = refl;
@@ -61,6 +62,7 @@ stays_then s m t f g = record {
     changes = g.plan.changes ∙ f.plan.changes;
     reply = g.plan.reply ∙ f.plan.reply;
   };
+  search = g.search ∙ f.search;
   stage = g.stage ∙ f.stage;
   written = g.written ∙ f.written;
   standing = g.standing ∙ f.standing;
@@ -74,6 +76,7 @@ anew_then s m t f changes g = record {
   room = g.room;
   guards = g.guards;
   seen = g.seen;
+  search = g.search;
   changes = g.changes ∙ changes;
   reply = g.reply ∙ f.plan.reply;
   written = g.written ∙ f.written;

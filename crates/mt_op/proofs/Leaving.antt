@@ -6,10 +6,12 @@ use Rattle.std.proofs.lemmas.List.Elements.{All-nil, All-cons, All-head, All-tai
 use Rattle.std.proofs.lemmas.List.Kept.{AllPairs-filter}
 use Rattle.mt_base.specs.declared.modes.Mode.TheVariants.{Write}
 use Rattle.mt_frame.specs.Grammar.{IsTxn, IsOp}
+use Rattle.mt_index.specs.declared.answers.Search.TheVariants.{Start}
 use Rattle.mt_model.specs.Model.{IsWithin}
 use Rattle.mt_plock.specs.declared.guards.PageLock.{PageLock}
 use Rattle.mt_plock.specs.Holding.{lock_of, DoAgree, AreTogether}
 use Rattle.mt_plock.specs.Releasing.{locks_of, locks_without}
+use Rattle.mt_steps.specs.Asks.{HasSearched}
 use Rattle.mt_steps.specs.Overlays.{copied}
 use Rattle.mt_steps.specs.Repeated.{Change, held, by}
 use Rattle.mt_steps.specs.declared.overlay.PageCopy.{PageCopy}
@@ -18,6 +20,7 @@ use Rattle.mt_op.specs.Moves.{Leaves, SameOp}
 use Rattle.mt_op.specs.declared.scope.OpScope.{OpScope}
 use Rattle.mt_op.specs.declared.scope.Stage.TheVariants.{Planning}
 use Rattle.mt_op.proofs.Alone.{stays_in}
+use Rattle.mt_op.proofs.Searching.{searched_start}
 use Rattle.mt_op.proofs.Staying.{repeated_same, world_locked, way_quiet, open_records, open_same}
 
 -- ---- lists of locks
@@ -61,6 +64,7 @@ pub record IsAnew (relations counters : ℕ) (w : World) (s : OpScope) : Type 0 
   pub stage : s.stage ≡ Planning
   pub guards : s.guards.items ≡ []
   pub seen : s.seen.list.items ≡ []
+  pub search : s.search ≡ Start
   pub room : s.room ≡ None
   pub written : s.written ≡ 0
   pub standing : s.standing ≡ 0
@@ -95,6 +99,7 @@ module _ (relations counters : ℕ) where
       };
       unended = k.unended;
       nothing = k.nothing;
+      searched = subst (HasSearched (looked s) s.seen.total s.op) (sym k.search) (searched_start (looked s) s.seen.total s.op);
       none_written = k.written;
       none_standing = k.standing;
     });
@@ -104,9 +109,9 @@ module _ (relations counters : ℕ) where
       unseen p = ap (λ (cs : List PageCopy). copied cs p) k.seen
 
   -- or begins anew
-  pub begins_anew : (w z : World) (s t : OpScope) → Leaves w z s → IsUnderWay relations counters w s → s.stage ≡ Planning → SameOp s t → t.stage ≡ Planning → t.guards.items ≡ [] → t.seen.list.items ≡ [] → t.room ≡ None
+  pub begins_anew : (w z : World) (s t : OpScope) → Leaves w z s → IsUnderWay relations counters w s → s.stage ≡ Planning → SameOp s t → t.stage ≡ Planning → t.guards.items ≡ [] → t.seen.list.items ≡ [] → t.search ≡ Start → t.room ≡ None
       → t.written ≡ 0 → t.standing ≡ 0 → IsUnderWay relations counters z t
-  begins_anew w z s t m k planning op stage guards seen room written standing =
+  begins_anew w z s t m k planning op stage guards seen search room written standing =
       let was : IsPlanning w s = subst (IsAt relations counters w s) planning k.at in
       begins z t (record {
         txn = subst IsTxn (sym op.txn) k.txn;
@@ -119,6 +124,7 @@ module _ (relations counters : ℕ) where
         stage = stage;
         guards = guards;
         seen = seen;
+        search = search;
         room = room;
         written = written;
         standing = standing;

@@ -1,6 +1,7 @@
 pub mod Alone
 pub mod Staying
 pub mod Locking
+pub mod Searching
 pub mod Leaving
 pub mod Writing
 pub mod Ending

@@ -95,6 +95,7 @@ module _ (relations counters : ℕ) (w z : World) (l : PageLock) (m : Locks w z 
       };
       unended = open_same z s t g.op (open_records w z s m.records was.unended);
       nothing = (λ i. by (g.op.number i) (same i).unfinished) ∙ was.nothing;
+      searched = g.searched;
       none_written = g.written ∙ was.none_written;
       none_standing = g.standing ∙ was.none_standing;
     });

@@ -100,6 +100,7 @@ module _ (relations counters : ℕ) (w z : World) (s : OpScope) (t : StaysFor w 
     sees = sees_stays w z s t k.sees;
     unended = t.unended k.unended;
     nothing = t.own ∙ k.nothing;
+    searched = k.searched;
     none_written = k.none_written;
     none_standing = k.none_standing;
   }

@@ -4,6 +4,7 @@ use Rattle.mt_base.specs.declared.limits.TheConstants.{MAX_RELATIONS}
 use Rattle.mt_base.specs.declared.modes.Mode.{Mode}
 use Rattle.mt_base.specs.declared.modes.Mode.TheVariants.{Read, Write}
 use Rattle.mt_base.specs.declared.refusal.Refusal.{Refusal}
+use Rattle.mt_index.specs.declared.answers.Search.TheVariants.{Start}
 use Rattle.mt_model.specs.Model.{IsWithin}
 use Rattle.mt_model.specs.declared.operations.Op.{Op}
 use Rattle.mt_model.specs.declared.operations.Reply.{Reply}
@@ -26,6 +27,7 @@ use Rattle.mt_op.specs.declared.answers.Stepped.TheVariants as stepped
 -- as before, in whatever room its lists have
 pub record Stays (s t : OpScope) : Type 0 where
   pub plan : SamePlan s t
+  pub search : t.search ≡ s.search
   pub stage : t.stage ≡ s.stage
   pub written : t.written ≡ s.written
   pub standing : t.standing ≡ s.standing
@@ -38,6 +40,7 @@ pub record Holds (s t : OpScope) (p : ℕ) (mode : Mode) : Type 0 where
   pub room : t.room ≡ s.room
   pub guards : t.guards.items ≡ s.guards.items ++ lock_of s.number p mode ∷ []
   pub seen : t.seen.list.items ≡ s.seen.list.items
+  pub search : t.search ≡ s.search
   pub changes : t.changes ≡ s.changes
   pub reply : t.reply ≡ s.reply
   pub written : t.written ≡ s.written
@@ -51,6 +54,7 @@ pub record IsAnew (s t : OpScope) : Type 0 where
   pub room : t.room ≡ None
   pub guards : t.guards.items ≡ []
   pub seen : t.seen.list.items ≡ []
+  pub search : t.search ≡ Start
   pub changes : t.changes ≡ s.changes
   pub reply : t.reply ≡ s.reply
   pub written : t.written ≡ s.written

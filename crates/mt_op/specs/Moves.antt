@@ -10,8 +10,9 @@ use Rattle.mt_plock.specs.Releasing.{locks_without}
 use Rattle.mt_frame.specs.PageRecords.{change_records}
 use Rattle.mt_space.specs.declared.changes.PageChange.{PageChange}
 use Rattle.mt_space.specs.Kinds.{kind}
+use Rattle.mt_steps.specs.Asks.{HasSearched}
 use Rattle.mt_steps.specs.declared.overlay.PageCopy.{PageCopy}
-use Rattle.mt_op.specs.World.{World, held_in, looked_bytes, changes_in}
+use Rattle.mt_op.specs.World.{World, held_in, looked, looked_bytes, changes_in}
 use Rattle.mt_op.specs.declared.scope.OpScope.{OpScope}
 use Rattle.mt_op.specs.declared.scope.Stage.TheVariants.{Planning}
 
@@ -108,6 +109,7 @@ pub record Gains (w : World) (s z : OpScope) (l : PageLock) (copies : List PageC
   pub room : IsLed w l s z
   pub guards : z.guards.items ≡ s.guards.items ++ l ∷ []
   pub seen : z.seen.list.items ≡ s.seen.list.items ++ copies
+  pub searched : HasSearched (looked z) z.seen.total z.op z.search
   pub written : z.written ≡ s.written
   pub standing : z.standing ≡ s.standing
 

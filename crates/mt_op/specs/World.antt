@@ -17,6 +17,7 @@ use Rattle.mt_pool.specs.Writes.{IsUnfinished}
 use Rattle.mt_space.specs.declared.changes.PageChange.{PageChange}
 use Rattle.mt_space.specs.Kinds.{kind}
 use Rattle.mt_file.specs.Plans.{IsNamed}
+use Rattle.mt_steps.specs.Asks.{HasSearched}
 use Rattle.mt_steps.specs.Overlays.{copied, or_bytes, AreAtHand}
 use Rattle.mt_steps.specs.Logged.{logged_of}
 use Rattle.mt_steps.specs.Plans.{IsGood, IsPlanned, TakesPages}
@@ -113,6 +114,7 @@ pub record IsPlanning (w : World) (s : OpScope) : Type 0 where
   pub sees : Sees w s
   pub unended : IsOpen w s
   pub nothing : HasNothing w s
+  pub searched : HasSearched (looked s) s.seen.total s.op s.search
   pub none_written : s.written ≡ 0
   pub none_standing : s.standing ≡ 0
 

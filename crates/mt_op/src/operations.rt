@@ -29,6 +29,7 @@ use mt_base::{LogPos, OpNo, PageNo, Refusal, TxnNo};
 use mt_disk::{Device, DeviceFault};
 use mt_file::{Rooms, fits};
 use mt_frame::Record;
+use mt_index::Search;
 use mt_log::{Forced, Log};
 use mt_model::Op;
 use mt_plock::PageLocks;
@@ -186,6 +187,7 @@ impl<D: Device> Operations<D> {
             room: None,
             guards,
             seen: Copies::new(alloc, self.store.pool.count()),
+            search: Search::Start,
             stage: Stage::Planning,
             changes: Changes::new(alloc),
             reply: None,

@@ -5,6 +5,8 @@ ghost use Rattle.mt_base.specs.declared.refusal.Refusal.{Refusal};
 ghost use Rattle.mt_pool.specs.Views.{IsThere, pages};
 ghost use Rattle.mt_base.specs.declared.modes.Mode.TheVariants.{Write};
 ghost use Rattle.mt_pool.specs.Kept.{HasOpening};
+ghost use Rattle.mt_steps.specs.Asks.{HasSearched};
+ghost use Rattle.mt_op.specs.World.{looked};
 ghost use Rattle.mt_op.specs.Operations.{IsOneOf};
 ghost use Rattle.mt_op.specs.declared.scope.Stage.TheVariants.{Planning};
 ghost use Rattle.mt_plock.specs.Releasing.{locks_of};
@@ -16,6 +18,7 @@ use crate::operations::Operations;
 use crate::scope::OpScope;
 use mt_base::{Mode, PageNo, Refusal};
 use mt_disk::Device;
+use mt_index::Search;
 use mt_plock::Asked;
 use mt_pool::Fetched;
 use std::mem::replace;
@@ -60,13 +63,14 @@ impl<D: Device> Operations<D> {
     }
 
     // Locks a page that the operation has not looked at, and copies it. From then on the operation is led to
-    // the page `room`, if that is another than before.
+    // the page `room`, if that is another than before, and its search for the key has come so far.
     pub(crate) fn lock(
         &mut self,
         scope: &mut OpScope,
         page: PageNo,
         mode: Mode,
         room: Option<PageNo>,
+        search: Search,
     ) -> Result<Stepped, Refusal>
         requires right { IsOneOf D.seen D.may_leave self.old scope.old }
         requires planning { scope.old.stage ≡ Planning }
@@ -74,13 +78,14 @@ impl<D: Device> Operations<D> {
         requires led { (room ≡ scope.old.room)
             ⊎ ((room ≡ Some page) × (mode ≡ Write) × (get_or self.old.map.kinds.value page 0 ≡ 3)) }
         requires unled { (room ≡ scope.old.room) ⊎ (scope.old.room ≡ None) }
+        requires searched { HasSearched (looked scope.old) scope.old.seen.total scope.old.op search }
         ensures { LocksPage D.seen D.may_leave D.moment D.left_since D.faults self.old self.new scope.old scope.new
             result }
     {
         if !self.bring(page)? {
             return Ok(Stepped::Flush);
         }
-        self.look(scope, page, mode, room)
+        self.look(scope, page, mode, room, search)
     }
 
     // Locks and copies a page that is in a frame.
@@ -90,6 +95,7 @@ impl<D: Device> Operations<D> {
         page: PageNo,
         mode: Mode,
         room: Option<PageNo>,
+        search: Search,
     ) -> Result<Stepped, Refusal>
         requires right { IsOneOf D.seen D.may_leave self.old scope.old }
         requires planning { scope.old.stage ≡ Planning }
@@ -97,6 +103,7 @@ impl<D: Device> Operations<D> {
         requires led { (room ≡ scope.old.room)
             ⊎ ((room ≡ Some page) × (mode ≡ Write) × (get_or self.old.map.kinds.value page 0 ≡ 3)) }
         requires unled { (room ≡ scope.old.room) ⊎ (scope.old.room ≡ None) }
+        requires searched { HasSearched (looked scope.old) scope.old.seen.total scope.old.op search }
         requires there { IsThere self.old.store.pool page }
         ensures { TakesLock D.seen D.may_leave self.old self.new scope.old scope.new result }
     {
@@ -105,6 +112,7 @@ impl<D: Device> Operations<D> {
             Stepped::Went => {
                 scope.seen.put(page, self.store.pool.view(page));
                 scope.room = room;
+                scope.search = search;
                 Ok(Stepped::Went)
             }
             other => Ok(other),
@@ -130,6 +138,7 @@ impl<D: Device> Operations<D> {
         let guards = replace(&mut scope.guards, none);
         self.locks.release_all(guards);
         scope.seen.clear();
+        scope.search = Search::Start;
         scope.room = None;
     }
 }

@@ -32,15 +32,10 @@ use mt_model::Reply;
 use mt_space::pages::RECORDS;
 use mt_space::{Changes, Pages, patch};
 use mt_steps::{logged, pages_for};
-use std::alloc::Global;
 
 impl<D: Device> Operations<D> {
     // Writes the next page of the plan, with its log records.
-    pub(crate) fn write_next(
-        &mut self,
-        alloc: Global,
-        scope: &mut OpScope,
-    ) -> Result<Stepped, Refusal>
+    pub(crate) fn write_next(&mut self, scope: &mut OpScope) -> Result<Stepped, Refusal>
         requires right { IsOneOf D.seen D.may_leave self.old scope.old }
         requires writing { scope.old.stage ≡ Writing }
         requires more { scope.old.written < length (changes_in scope.old) }
@@ -55,11 +50,11 @@ impl<D: Device> Operations<D> {
         if !self.bring(page)? {
             return Ok(Stepped::Flush);
         }
-        self.write_there(alloc, scope)
+        self.write_there(scope)
     }
 
     // Writes a page that is in a frame. If memory is refused nothing has changed.
-    fn write_there(&mut self, alloc: Global, scope: &mut OpScope) -> Result<Stepped, Refusal>
+    fn write_there(&mut self, scope: &mut OpScope) -> Result<Stepped, Refusal>
         requires right { IsOneOf D.seen D.may_leave self.old scope.old }
         requires writing { scope.old.stage ≡ Writing }
         requires more { scope.old.written < length (changes_in scope.old) }
@@ -72,7 +67,7 @@ impl<D: Device> Operations<D> {
     {
         let before = self.store.log.used();
         let change = &scope.changes.list[scope.written];
-        self.store.write(alloc, scope.txn, scope.number, change)?;
+        self.store.write(scope.txn, scope.number, change)?;
         scope.left = scope.left + before - self.store.log.used();
         scope.written += 1;
         scope.standing += 1;

@@ -3,6 +3,7 @@
 ghost use Rattle.std.specs.Prelude.{◌≡◌};
 
 use mt_base::{OpNo, PageNo, TxnNo};
+use mt_index::Search;
 use mt_model::{Op, Reply};
 use mt_plock::PageGuard;
 use mt_space::Changes;
@@ -41,6 +42,8 @@ pub struct OpScope {
     pub(crate) room: Option<PageNo>,
     pub(crate) guards: Vec<PageGuard>,
     pub(crate) seen: Copies,
+    // how far it has come on the way to its key
+    pub(crate) search: Search,
     pub(crate) stage: Stage,
     // what it changes, once it is planned
     pub(crate) changes: Changes,
@@ -115,6 +118,7 @@ impl OpScope {
             room: _,
             guards,
             seen,
+            search: _,
             stage: _,
             changes: _,
             reply: _,

@@ -2,6 +2,7 @@
 // Locks are got in `page_locks`, and pages written in `page_writes`.
 ghost use Rattle.std.specs.Prelude.{◌≡◌, ◌≢◌, ◌⊎◌, ◌<◌, ◌≤◌, ◌+◌, ◌^◌, ℕ, List, length, All, Contains, [], None, Some, Ok, true, false, MatchOption, IfErr, IsTrue, ◌↔◌};
 ghost use Rattle.mt_base.specs.declared.limits.TheConstants.{MAX_COUNTERS, MAX_PAGES, MAX_RELATIONS, MAX_WRITTEN_PAGES};
+ghost use Rattle.mt_steps.specs.Asks.{HasSearched};
 ghost use Rattle.mt_steps.specs.Overlays.{AreAtHand};
 ghost use Rattle.mt_steps.specs.Logged.{logged_of};
 ghost use Rattle.mt_base.specs.declared.modes.Mode.TheVariants.{Write};
@@ -28,6 +29,7 @@ use crate::operations::Operations;
 use crate::scope::{OpScope, Stage};
 use mt_base::{Mode, OpNo, PageNo, Refusal};
 use mt_disk::Device;
+use mt_index::Search;
 use mt_model::{Op, Reply};
 use mt_plock::{PageGuard, PageLock};
 use mt_space::pages::MAP;
@@ -96,16 +98,16 @@ impl<D: Device> Operations<D> {
         ensures faults { TellsFaults (D.faults self.old.store.device) (D.faults self.new.store.device) result }
     {
         if scope.stage == Stage::Writing {
-            return self.go_on(alloc, scope);
+            return self.go_on(scope);
         }
         match self.plan_step(alloc, scope)? {
             Some(stepped) => Ok(stepped),
-            None => self.go_on(alloc, scope),
+            None => self.go_on(scope),
         }
     }
 
     // Writes the next page of the plan, or ends the operation.
-    fn go_on(&mut self, alloc: Global, scope: &mut OpScope) -> Result<Stepped, Refusal>
+    fn go_on(&mut self, scope: &mut OpScope) -> Result<Stepped, Refusal>
         requires right { IsOneWithin D.seen D.may_leave self.old scope.old }
         requires claims { own_needs scope.old.op scope.old.split ≤ claimed self.old }
         requires writing { scope.old.stage ≡ Writing }
@@ -115,7 +117,7 @@ impl<D: Device> Operations<D> {
             result }
     {
         if scope.written < scope.changes.list.len() {
-            self.write_next(alloc, scope)
+            self.write_next(scope)
         } else {
             self.finish(scope)
         }
@@ -131,9 +133,17 @@ impl<D: Device> Operations<D> {
         ensures { PlansOn D.seen D.may_leave D.moment D.left_since D.faults self.old self.new scope.old scope.new
             result }
     {
-        match plan(alloc, &scope.seen, scope.room, &scope.op, scope.split)? {
+        let mut search = scope.search;
+        match plan(
+            alloc,
+            &scope.seen,
+            scope.room,
+            &scope.op,
+            scope.split,
+            &mut search,
+        )? {
             Act::Lock(page, mode) => {
-                let stepped = self.lock_next(scope, page, mode)?;
+                let stepped = self.lock_next(scope, page, mode, search)?;
                 Ok(Some(stepped))
             }
             Act::Made(changes, reply) => self.keep_plan(scope, changes, reply),
@@ -153,20 +163,22 @@ impl<D: Device> Operations<D> {
         scope: &mut OpScope,
         page: PageNo,
         mode: Mode,
+        search: Search,
     ) -> Result<Stepped, Refusal>
         requires right { IsOneOf D.seen D.may_leave self.old scope.old }
         requires planning { scope.old.stage ≡ Planning }
         requires unseen { IsUnseen scope.old page mode }
         requires asked { IsAsked scope.old page mode }
+        requires searched { HasSearched (looked scope.old) scope.old.seen.total scope.old.op search }
         ensures { LocksPage D.seen D.may_leave D.moment D.left_since D.faults self.old self.new scope.old scope.new
             result }
     {
         if page.get() != MAP {
-            return self.lock(scope, page, mode, scope.room);
+            return self.lock(scope, page, mode, scope.room, search);
         }
         match self.room_for(scope) {
-            Some(room) => self.lock(scope, room, Mode::Write, Some(room)),
-            None => self.lock(scope, page, mode, scope.room),
+            Some(room) => self.lock(scope, room, Mode::Write, Some(room), search),
+            None => self.lock(scope, page, mode, scope.room, search),
         }
     }
 

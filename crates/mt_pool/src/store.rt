@@ -294,13 +294,7 @@ impl<D: Device> Store<D> {
     /// bytes in the frame. The page waits for the last of these records.
     ///
     /// The only refusal is [`Refusal::NoMemory`], and nothing is appended or written then.
-    pub fn write(
-        &mut self,
-        _alloc: Global,
-        txn: TxnNo,
-        op: OpNo,
-        change: &PageChange,
-    ) -> Result<(), Refusal>
+    pub fn write(&mut self, txn: TxnNo, op: OpNo, change: &PageChange) -> Result<(), Refusal>
         requires kept { HasOpening D.seen D.may_leave self.old }
         requires there { IsThere self.old.pool change.now.page }
         requires inside { change.now.page < pages self.old.pool }

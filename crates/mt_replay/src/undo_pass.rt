@@ -20,6 +20,7 @@ use mt_base::limits::MASTER_BYTES;
 use mt_base::{Edit, PageNo, Refusal};
 use mt_file::fits;
 use mt_frame::LoggedOp;
+use mt_index::Search;
 use mt_model::{Op, Reply};
 use mt_slots::ROW_HEAD_BYTES;
 use mt_space::pages::{COUNTERS, MAP, RECORDS};
@@ -201,7 +202,7 @@ impl Restored {
         let room = self.room_for(bytes_put_back(done));
         let act = {
             let inverse = inverse_in(done)?;
-            plan(alloc, self, room, &inverse, false)?
+            plan(alloc, self, room, &inverse, false, &mut Search::Start)?
         };
         match act {
             Act::Made(changes, reply) => {

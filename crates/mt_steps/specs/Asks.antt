@@ -7,7 +7,8 @@ use Rattle.mt_slots.specs.Page.{Row}
 use Rattle.mt_space.specs.Changes.{PageBytes}
 use Rattle.mt_file.specs.File.{record_in, Adds}
 use Rattle.mt_file.specs.Plans.{IsChosen, IsLooked}
-use Rattle.mt_index.specs.Answers.{InMaps, IsInBucket, IsDueInAdd}
+use Rattle.mt_index.specs.Answers.{InMaps, IsInBucket, IsDueInAdd, IsSearched}
+use Rattle.mt_index.specs.declared.answers.Search.{Search}
 use Rattle.mt_model.specs.declared.operations.Op.{Op}
 use Rattle.mt_model.specs.declared.operations.Op.TheVariants.{Get, Insert, Update, Delete, Add, Read}
 use Rattle.mt_steps.specs.Acts.{InRoomy}
@@ -18,6 +19,15 @@ use Rattle.mt_steps.specs.Plans.{HasStood, NeedsPlace}
 -- it asks for the directory to read, and for pages of the key's chain
 abbrev pub LooksFor : (ℕ → Option (List ℕ)) → ℕ → List ℕ → Mode → ℕ → Mode → Type 0
 LooksFor at_hand total key in_bucket p mode = InMaps at_hand total (λ pages m. IsInBucket key in_bucket pages p mode)
+
+-- how far the search for a row's key has come is so, by what is at hand
+abbrev pub HasSearched : (ℕ → Option (List ℕ)) → ℕ → Op → Search → Type 0
+HasSearched at_hand total (Get r k) search = IsSearched at_hand total r k search
+HasSearched at_hand total (Insert r k v) search = IsSearched at_hand total r k search
+HasSearched at_hand total (Update r k v) search = IsSearched at_hand total r k search
+HasSearched at_hand total (Delete r k) search = IsSearched at_hand total r k search
+HasSearched at_hand total (Add c d) search = Unit {0}
+HasSearched at_hand total (Read c) search = Unit {0}
 
 -- what is at hand shows that a key has no record, or which one it has
 abbrev pub IsMissing : (ℕ → Option (List ℕ)) → ℕ → ℕ → List ℕ → Type 0

@@ -2,7 +2,7 @@
 ghost use Rattle.std.specs.Prelude.{◌≡◌, ◌≤◌, ◌<◌, ℕ, length, Some, IfOk, IsSome, false};
 ghost use Rattle.mt_base.specs.declared.limits.TheConstants.{MAX_KEY_BYTES};
 ghost use Rattle.mt_base.specs.declared.modes.Mode.TheVariants.{Write as ToWrite};
-ghost use Rattle.mt_index.specs.Answers.{InMaps, IsInBucket};
+ghost use Rattle.mt_index.specs.Answers.{InMaps, IsInBucket, IsSearched};
 ghost use Rattle.mt_model.specs.declared.operations.Op.TheVariants.{Delete};
 ghost use Rattle.mt_steps.specs.Overlays.{AreAtHand};
 ghost use Rattle.mt_steps.specs.Acts.{HasGood, InGood, IsTaken};
@@ -14,7 +14,7 @@ use crate::act::Act;
 use crate::joined_plan::{join, overlay_of, to_write};
 use mt_base::{Bytes, Mode, RecordName, RelNo};
 use mt_file::{Lookup, Step, plan_read, plan_remove};
-use mt_index::{Amend, Find, plan_drop, plan_find};
+use mt_index::{Amend, Find, Search, plan_drop, plan_find};
 use mt_model::Reply;
 use mt_space::{Changes, Pages};
 use std::alloc::{AllocError, Global};
@@ -27,13 +27,16 @@ pub(crate) fn delete<V: Pages>(
     views: &V,
     relation: RelNo,
     key: &[u8],
+    search: &mut Search,
 ) -> Result<Act, AllocError>
     requires sound { V.is_sound views.now }
     requires good { ∥ ((relations : ℕ) × HasGood (V.at_hand views.now) relations (V.total views.now)) ∥₁ }
     requires short { length key.now ≤ MAX_KEY_BYTES }
-    ensures { PlansDelete (V.at_hand views.now) (V.total views.now) relation key.now result }
+    requires searched { IsSearched (V.at_hand views.now) (V.total views.now) relation key.now search.old }
+    ensures plans { PlansDelete (V.at_hand views.now) (V.total views.now) relation key.now result }
+    ensures searched { IsSearched (V.at_hand views.now) (V.total views.now) relation key.now search.new }
 {
-    match plan_find(views, relation, key) {
+    match plan_find(views, relation, key, search) {
         Find::Need(page, mode) => Ok(Act::Lock(page, to_write(page, mode))),
         Find::Missing => Ok(Act::Made(Changes::new(alloc), Reply::Missing)),
         Find::Found(name) => delete_row(alloc, views, relation, key, &name),

@@ -5,7 +5,7 @@ ghost use Rattle.mt_base.specs.Limits.{IsKey, IsValue};
 ghost use Rattle.mt_slots.specs.Page.{row_length};
 ghost use Rattle.mt_space.specs.Changes.{PageBytes, Agrees, after};
 ghost use Rattle.mt_model.specs.declared.operations.Op.TheVariants.{Insert};
-ghost use Rattle.mt_index.specs.Answers.{InMaps, IsDueInAdd};
+ghost use Rattle.mt_index.specs.Answers.{InMaps, IsDueInAdd, IsSearched};
 ghost use Rattle.mt_steps.specs.Overlays.{AreAtHand};
 ghost use Rattle.mt_steps.specs.Acts.{HasRoomy, InRoomy, IsPlaced};
 ghost use Rattle.mt_steps.specs.Asks.{IsForInsert};
@@ -19,7 +19,7 @@ use crate::act::Act;
 use crate::joined_plan::{join, overlay_of, to_write};
 use mt_base::{PageNo, RelNo};
 use mt_file::{Plan, Step, plan_put};
-use mt_index::{Add, Find, plan_add, plan_find};
+use mt_index::{Add, Find, Search, plan_add, plan_find};
 use mt_model::Reply;
 use mt_space::{Changes, Pages};
 use std::alloc::{AllocError, Global};
@@ -36,15 +36,18 @@ pub(crate) fn insert<V: Pages>(
     key: &[u8],
     value: &[u8],
     split: bool,
+    search: &mut Search,
 ) -> Result<Act, AllocError>
     requires sound { V.is_sound views.now }
     requires good { ∥ ((relations : ℕ) × HasRoomy (V.at_hand views.now) room relations (V.total views.now)) ∥₁ }
     requires relation_fits { relation < 256 }
     requires key_fits { IsKey key.now }
     requires value_fits { IsValue value.now }
-    ensures { PlansInsert (V.at_hand views.now) (V.total views.now) room split relation key.now value.now result }
+    requires searched { IsSearched (V.at_hand views.now) (V.total views.now) relation key.now search.old }
+    ensures plans { PlansInsert (V.at_hand views.now) (V.total views.now) room split relation key.now value.now result }
+    ensures searched { IsSearched (V.at_hand views.now) (V.total views.now) relation key.now search.new }
 {
-    match plan_find(views, relation, key) {
+    match plan_find(views, relation, key, search) {
         Find::Need(page, mode) => Ok(Act::Lock(page, to_write(page, mode))),
         Find::Found(_) => Ok(Act::Made(Changes::new(alloc), Reply::Exists)),
         Find::Missing => insert_new(alloc, views, room, relation, key, value, split),

@@ -8,7 +8,7 @@ ghost use Rattle.mt_model.specs.declared.operations.Reply.{Reply};
 ghost use Rattle.mt_space.specs.Changes.{after};
 ghost use Rattle.mt_steps.specs.Overlays.{AreAtHand};
 ghost use Rattle.mt_steps.specs.Acts.{IfLock, IfMade, IfFull, IfBroken};
-ghost use Rattle.mt_steps.specs.Asks.{AsksFor};
+ghost use Rattle.mt_steps.specs.Asks.{AsksFor, HasSearched};
 ghost use Rattle.mt_steps.specs.Plans.{free_pages, own_needs, undo_pages, record_bytes, TakesPages, IsReading, IsTight, HasPages, InPages, IsPlanned};
 ghost use Rattle.mt_steps.specs.Logged.{logged_of};
 
@@ -22,6 +22,7 @@ use mt_base::PageNo;
 use mt_base::limits::{
     DELETE_INVERSE_PAGES, INSERT_PAGES, UNSPLIT_INSERT_PAGES, UPDATE_INVERSE_PAGES, UPDATE_PAGES,
 };
+use mt_index::Search;
 use mt_model::Op;
 use mt_space::Pages;
 use std::alloc::{AllocError, Global};
@@ -42,16 +43,21 @@ use std::alloc::{AllocError, Global};
 /// A record goes into the page `room`, which holds records, or into a new page if none is named. An insert splits
 /// a bucket of the index at most if `split` is set. No operation takes more free pages than [`pages_for`] says of it.
 /// The only error is want of memory, and there is no plan then.
+///
+/// The plan goes on with the search for the key, which has come so far in plans over fewer pages: pages of the
+/// bucket that are passed are not looked at again.
 pub fn plan<V: Pages>(
     alloc: Global,
     views: &V,
     room: Option<PageNo>,
     op: &Op,
     split: bool,
+    search: &mut Search,
 ) -> Result<Act, AllocError>
     requires sound { V.is_sound views.now }
     requires good { ∥ ((relations : ℕ) × (counters : ℕ) × HasPages (V.at_hand views.now) room relations counters
         (V.total views.now) × IsWithin relations counters op.now × (relations ≤ MAX_RELATIONS)) ∥₁ }
+    requires searched { HasSearched (V.at_hand views.now) (V.total views.now) op.now search.old }
     ensures lock { IfOk result (λ act. IfLock act (λ p mode. (V.at_hand views.now p ≡ None) ×
         (p < V.total views.now))) }
     ensures asks { IfOk result (λ act. IfLock act
@@ -74,9 +80,10 @@ pub fn plan<V: Pages>(
         InPages (V.at_hand views.now) room relations counters (V.total views.now) (λ pages.
         (free_pages (V.total views.now) pages < own_needs op.now split) ⊎ IsTight room pages (record_bytes op.now)))) }
     ensures broken { IfOk result (λ act. IfBroken act ⊥) }
+    ensures searched { HasSearched (V.at_hand views.now) (V.total views.now) op.now search.new }
 {
     match op {
-        Op::Get(relation, key) => get(alloc, views, *relation, key.as_slice()),
+        Op::Get(relation, key) => get(alloc, views, *relation, key.as_slice(), search),
         Op::Insert(relation, key, value) => insert(
             alloc,
             views,
@@ -85,6 +92,7 @@ pub fn plan<V: Pages>(
             key.as_slice(),
             value.as_slice(),
             split,
+            search,
         ),
         Op::Update(relation, key, value) => update(
             alloc,
@@ -93,8 +101,9 @@ pub fn plan<V: Pages>(
             *relation,
             key.as_slice(),
             value.as_slice(),
+            search,
         ),
-        Op::Delete(relation, key) => delete(alloc, views, *relation, key.as_slice()),
+        Op::Delete(relation, key) => delete(alloc, views, *relation, key.as_slice(), search),
         Op::Add(counter, step) => add_to(alloc, views, *counter, *step),
         Op::Read(counter) => Ok(read_from(alloc, views, *counter)),
     }

@@ -6,7 +6,7 @@ ghost use Rattle.mt_base.specs.Limits.{IsValue};
 ghost use Rattle.mt_base.specs.declared.numbers.RecordName.{RecordName};
 ghost use Rattle.mt_slots.specs.Page.{row_length};
 ghost use Rattle.mt_base.specs.declared.modes.Mode.TheVariants.{Write as ToWrite};
-ghost use Rattle.mt_index.specs.Answers.{InMaps, IsInBucket};
+ghost use Rattle.mt_index.specs.Answers.{InMaps, IsInBucket, IsSearched};
 ghost use Rattle.mt_model.specs.declared.operations.Op.TheVariants.{Update};
 ghost use Rattle.mt_steps.specs.Overlays.{AreAtHand};
 ghost use Rattle.mt_steps.specs.Acts.{HasRoomy, InRoomy, IsMoved};
@@ -19,7 +19,7 @@ use crate::act::Act;
 use crate::joined_plan::{join, overlay_of};
 use mt_base::{Bytes, Mode, PageNo, RecordName, RelNo};
 use mt_file::{Lookup, Plan, Step, plan_read, plan_replace};
-use mt_index::{Amend, Find, plan_find, plan_set};
+use mt_index::{Amend, Find, Search, plan_find, plan_set};
 use mt_model::Reply;
 use mt_space::{Changes, Pages};
 use std::alloc::{AllocError, Global};
@@ -35,14 +35,17 @@ pub(crate) fn update<V: Pages>(
     relation: RelNo,
     key: &[u8],
     value: &[u8],
+    search: &mut Search,
 ) -> Result<Act, AllocError>
     requires sound { V.is_sound views.now }
     requires good { ∥ ((relations : ℕ) × HasRoomy (V.at_hand views.now) room relations (V.total views.now)) ∥₁ }
     requires short { length key.now ≤ MAX_KEY_BYTES }
     requires value_fits { IsValue value.now }
-    ensures { PlansUpdate (V.at_hand views.now) (V.total views.now) room relation key.now value.now result }
+    requires searched { IsSearched (V.at_hand views.now) (V.total views.now) relation key.now search.old }
+    ensures plans { PlansUpdate (V.at_hand views.now) (V.total views.now) room relation key.now value.now result }
+    ensures searched { IsSearched (V.at_hand views.now) (V.total views.now) relation key.now search.new }
 {
-    match plan_find(views, relation, key) {
+    match plan_find(views, relation, key, search) {
         Find::Need(page, mode) => Ok(Act::Lock(page, mode)),
         Find::Missing => Ok(Act::Made(Changes::new(alloc), Reply::Missing)),
         Find::Found(name) => update_row(alloc, views, room, relation, key, value, &name),

@@ -1,6 +1,11 @@
-use Rattle.mt_index.proofs.Passing.{held_map}
+use Rattle.std.proofs.Common.{◌≡◌, ℕ, subst}
+use Rattle.mt_index.specs.Answers.{Lacks}
+use Rattle.mt_index.proofs.Passing.{passed_start}
 use Rattle.mt_index.proofs.lookup.plan_find.Goals as goal
 
-pub returns-in-In-clause-found : goal.returns-in-In-clause-found
-returns-in-In-clause-found g c pages agree m a =
-    held_map (g.V.Pages.total c.args.views.now) pages m c.args.relation c.args.key.now c.in-In.field-0 c.in-In.name a (c.in-In.ensures.1 pages agree m a)
+pub find_from-requires-clause-lacks : goal.find_from-requires-clause-lacks
+find_from-requires-clause-lacks g c pages agree m a = ∣ (
+  0,
+  passed_start (Lacks c.args.relation c.args.key.now pages) (g.V.Pages.total c.args.views.now) pages m c.args.key.now c.in-Some.directory.now c.hash.result c.pointer.result a
+      (subst (λ (p : ℕ). pages p ≡ c.in-Some.directory.now) c.new.ensures (agree c.new.result c.in-Some.directory.now c.in-Some.ensures.some)) c.hash.ensures c.pointer.ensures,
+) ∣₁

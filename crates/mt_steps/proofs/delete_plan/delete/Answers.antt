@@ -15,8 +15,8 @@ use Rattle.mt_steps.proofs.Leaving.{missing_already}
 use Rattle.mt_steps.proofs.Naming.{quiet_none}
 use Rattle.mt_steps.proofs.delete_plan.delete.Goals as goal
 
-pub returns-in-Missing : goal.returns-in-Missing
-returns-in-Missing g c = record {
+pub returns-in-Missing-clause-plans : goal.returns-in-Missing-clause-plans
+returns-in-Missing-clause-plans g c = record {
   lock = search rules;
   asks = search rules;
   made = λ relations pages agrees m rows.
@@ -31,8 +31,8 @@ returns-in-Missing g c = record {
   broken = search rules;
 }
 
-pub returns-in-Endless : goal.returns-in-Endless
-returns-in-Endless g c = record {
+pub returns-in-Endless-clause-plans : goal.returns-in-Endless-clause-plans
+returns-in-Endless-clause-plans g c = record {
   lock = search rules;
   asks = search rules;
   made = search rules;
@@ -46,8 +46,8 @@ returns-in-Endless g c = record {
       let good = fact.1 in c.in-Endless.ensures.endless good.0 good.1 good.2 good.3.index);
 }
 
-pub returns-in-Need : goal.returns-in-Need
-returns-in-Need g c = record {
+pub returns-in-Need-clause-plans : goal.returns-in-Need-clause-plans
+returns-in-Need-clause-plans g c = record {
   lock = ∥∥₁_elim c.requires.good (hlevel props) (λ fact.
       let good = fact.1 in
       let asks = c.in-Need.ensures.need in
@@ -64,8 +64,8 @@ returns-in-Need g c = record {
   broken = search rules;
 }
 
-pub returns-in-Found : goal.returns-in-Found
-returns-in-Found g c = record {
+pub returns-in-Found-clause-plans : goal.returns-in-Found-clause-plans
+returns-in-Found-clause-plans g c = record {
   lock = IfOk-weaker c.delete_row.result _ _ (lock_reported (g.V.Pages.at_hand c.args.views.now) (g.V.Pages.total c.args.views.now) _ _ _) c.delete_row.ensures;
   asks = λ room split. IfOk-weaker c.delete_row.result _ _ (asks_reported (g.V.Pages.at_hand c.args.views.now) (g.V.Pages.total c.args.views.now) _ _ _ _ (λ p mode asks. inr ((c.in-Found.name, c.in-Found.ensures.found), λ relations pages agrees m rows named. asks relations pages agrees m rows tt))) c.delete_row.ensures;
   made = λ relations. IfOk-weaker c.delete_row.result _ _ (made_reported (g.V.Pages.at_hand c.args.views.now) (g.V.Pages.total c.args.views.now) _ _ _ _ (λ changes reply done pages agrees m rows. let d = done.does relations pages agrees m rows tt in (d.act, d.short))) c.delete_row.ensures;

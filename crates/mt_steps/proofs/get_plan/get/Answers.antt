@@ -20,8 +20,8 @@ value_of k v x e = ap (λ (o : Option Row). elim o [ None ↦ v | Some y ↦ y.v
 no_row : (x : Row) → None ≡ Some x → ⊥
 no_row x e = cc
 
-pub returns-in-Need : goal.returns-in-Need
-returns-in-Need g c = record {
+pub returns-in-Need-clause-plans : goal.returns-in-Need-clause-plans
+returns-in-Need-clause-plans g c = record {
   lock = ∥∥₁_elim c.requires.good (hlevel props) (λ fact.
       let good = fact.1 in
       let asks = c.in-Need.ensures.need in
@@ -36,8 +36,8 @@ returns-in-Need g c = record {
   broken = search rules;
 }
 
-pub returns-in-Missing : goal.returns-in-Missing
-returns-in-Missing g c = record {
+pub returns-in-Missing-clause-plans : goal.returns-in-Missing-clause-plans
+returns-in-Missing-clause-plans g c = record {
   lock = search rules;
   asks = search rules;
   mode = search rules;
@@ -52,8 +52,8 @@ returns-in-Missing g c = record {
   broken = search rules;
 }
 
-pub returns-in-Endless : goal.returns-in-Endless
-returns-in-Endless g c = record {
+pub returns-in-Endless-clause-plans : goal.returns-in-Endless-clause-plans
+returns-in-Endless-clause-plans g c = record {
   lock = search rules;
   asks = search rules;
   mode = search rules;
@@ -71,8 +71,8 @@ plan_read-requires-clause-good g c = ∥∥₁_map c.requires.good (λ fact.
     let named = good.3.named.names c.args.relation c.args.key.now c.in-Found.name (c.in-Found.ensures.found good.0 good.1 good.2 good.3.index) in
     (good.0, good.1, good.3.file, record_kind good.0 c.in-Found.name.page c.in-Found.name.slot _ named.1))
 
-pub returns-in-Need-plan_read : goal.returns-in-Need-plan_read
-returns-in-Need-plan_read g c = record {
+pub returns-in-Need-plan_read-clause-plans : goal.returns-in-Need-plan_read-clause-plans
+returns-in-Need-plan_read-clause-plans g c = record {
   lock = ∥∥₁_elim c.requires.good (hlevel props) (λ fact.
       let good = fact.1 in
       let named = good.3.named.names c.args.relation c.args.key.now c.in-Found.name (c.in-Found.ensures.found good.0 good.1 good.2 good.3.index) in
@@ -95,8 +95,8 @@ returns-in-Need-plan_read g c = record {
   broken = search rules;
 }
 
-pub returns-in_ok-value-in-Record : goal.returns-in_ok-value-in-Record
-returns-in_ok-value-in-Record g c = record {
+pub returns-in_ok-value-in-Record-clause-plans : goal.returns-in_ok-value-in-Record-clause-plans
+returns-in_ok-value-in-Record-clause-plans g c = record {
   lock = search rules;
   asks = search rules;
   mode = search rules;
@@ -116,8 +116,8 @@ returns-in_ok-value-in-Record g c = record {
   broken = search rules;
 }
 
-pub returns-in-Nothing : goal.returns-in-Nothing
-returns-in-Nothing g c = record {
+pub returns-in-Nothing-clause-plans : goal.returns-in-Nothing-clause-plans
+returns-in-Nothing-clause-plans g c = record {
   lock = search rules;
   asks = search rules;
   mode = search rules;

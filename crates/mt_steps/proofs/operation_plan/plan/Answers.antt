@@ -6,7 +6,7 @@ use Rattle.mt_model.specs.declared.operations.Op.{Op}
 use Rattle.mt_model.specs.declared.operations.Op.TheVariants.{Get, Insert, Update, Delete, Add, Read}
 use Rattle.mt_model.specs.Model.{IsWithin}
 use Rattle.mt_steps.specs.Acts.{IfLock}
-use Rattle.mt_steps.specs.Asks.{AsksFor}
+use Rattle.mt_steps.specs.Asks.{AsksFor, HasSearched}
 use Rattle.mt_steps.proofs.Promised.{ok_both, asks_same, lock_both, rows_planned, whole_planned, good_planned, quiet_planned, counts_planned, read_planned, rows_full, never_full}
 use Rattle.mt_steps.proofs.Telling.{two_inside}
 use Rattle.mt_steps.proofs.Naming.{roomy_reported, none_reported, quiet_reported}
@@ -100,7 +100,7 @@ returns-in-Get-clause-made g c = λ relations counters few within.
     let is : Get c.in-Get.relation c.as_slice.result.now ≡ c.args.op.now = ap (Get c.in-Get.relation) c.as_slice.ensures ∙ sym c.in-Get.is in
     ok_both c.get.result _ _ _
     (λ act. quiet_planned c.args.split relations counters (g.V.Pages.total c.args.views.now) (g.V.Pages.at_hand c.args.views.now) c.args.room (Get c.in-Get.relation c.as_slice.result.now) c.args.op.now act is)
-    (c.get.ensures.made relations) c.get.ensures.quiet
+    (c.get.ensures.plans.made relations) c.get.ensures.plans.quiet
 
 pub returns-in-Insert-clause-made : goal.returns-in-Insert-clause-made
 returns-in-Insert-clause-made g c = λ relations counters few within.
@@ -109,7 +109,7 @@ returns-in-Insert-clause-made g c = λ relations counters few within.
     let inside = subst (λ (o : Op). IsWithin relations counters o) (sym is) within in
     ok_both c.insert.result _ _ _
     (λ act. rows_planned c.args.split relations counters (g.V.Pages.total c.args.views.now) (g.V.Pages.at_hand c.args.views.now) c.args.room (Insert c.in-Insert.relation c.as_slice-in-Insert.result.now c.as_slice-in-Insert-2.result.now) c.args.op.now act is)
-    (c.insert.ensures.made relations (record { relation = inside.0; key = inside.1; value = inside.2 })) (c.insert.ensures.modest relations (record { relation = inside.0; key = inside.1; value = inside.2 }))
+    (c.insert.ensures.plans.made relations (record { relation = inside.0; key = inside.1; value = inside.2 })) (c.insert.ensures.plans.modest relations (record { relation = inside.0; key = inside.1; value = inside.2 }))
 
 pub returns-in-Update-clause-made : goal.returns-in-Update-clause-made
 returns-in-Update-clause-made g c = λ relations counters few within.
@@ -118,14 +118,14 @@ returns-in-Update-clause-made g c = λ relations counters few within.
     let inside = subst (λ (o : Op). IsWithin relations counters o) (sym is) within in
     ok_both c.update.result _ _ _
     (λ act. whole_planned c.args.split relations counters (g.V.Pages.total c.args.views.now) (g.V.Pages.at_hand c.args.views.now) c.args.room (Update c.in-Update.relation c.as_slice-in-Update.result.now c.as_slice-in-Update-2.result.now) c.args.op.now act is)
-    (c.update.ensures.made relations (record { relation = inside.0; key = inside.1; value = inside.2 })) (c.update.ensures.modest relations (record { relation = inside.0; key = inside.1; value = inside.2 }))
+    (c.update.ensures.plans.made relations (record { relation = inside.0; key = inside.1; value = inside.2 })) (c.update.ensures.plans.modest relations (record { relation = inside.0; key = inside.1; value = inside.2 }))
 
 pub returns-in-Delete-clause-made : goal.returns-in-Delete-clause-made
 returns-in-Delete-clause-made g c = λ relations counters few within.
     let is : Delete c.in-Delete.relation c.as_slice-in-Delete.result.now ≡ c.args.op.now = ap (Delete c.in-Delete.relation) c.as_slice-in-Delete.ensures ∙ sym c.in-Delete.is in
     ok_both c.delete.result _ _ _
     (λ act. good_planned c.args.split relations counters (g.V.Pages.total c.args.views.now) (g.V.Pages.at_hand c.args.views.now) c.args.room (Delete c.in-Delete.relation c.as_slice-in-Delete.result.now) c.args.op.now act is)
-    (c.delete.ensures.made relations) (c.delete.ensures.modest relations)
+    (c.delete.ensures.plans.made relations) (c.delete.ensures.plans.modest relations)
 
 pub returns-in-Add-clause-made : goal.returns-in-Add-clause-made
 returns-in-Add-clause-made g c = λ relations counters few within.
@@ -147,7 +147,7 @@ returns-in-Insert-clause-full g c = λ relations counters few within.
     (λ i. Insert c.in-Insert.relation (c.as_slice-in-Insert.ensures i) (c.as_slice-in-Insert-2.ensures i)) ∙ sym c.in-Insert.is in
     IfOk-weaker c.insert.result _ _
     (λ act. rows_full c.args.split relations counters (g.V.Pages.total c.args.views.now) (g.V.Pages.at_hand c.args.views.now) c.args.room (Insert c.in-Insert.relation c.as_slice-in-Insert.result.now c.as_slice-in-Insert-2.result.now) c.args.op.now act is)
-    (c.insert.ensures.full relations)
+    (c.insert.ensures.plans.full relations)
 
 pub returns-in-Update-clause-full : goal.returns-in-Update-clause-full
 returns-in-Update-clause-full g c = λ relations counters few within.
@@ -155,13 +155,13 @@ returns-in-Update-clause-full g c = λ relations counters few within.
     (λ i. Update c.in-Update.relation (c.as_slice-in-Update.ensures i) (c.as_slice-in-Update-2.ensures i)) ∙ sym c.in-Update.is in
     IfOk-weaker c.update.result _ _
     (λ act. rows_full c.args.split relations counters (g.V.Pages.total c.args.views.now) (g.V.Pages.at_hand c.args.views.now) c.args.room (Update c.in-Update.relation c.as_slice-in-Update.result.now c.as_slice-in-Update-2.result.now) c.args.op.now act is)
-    (c.update.ensures.full relations)
+    (c.update.ensures.plans.full relations)
 
 pub returns-in-Get-clause-full : goal.returns-in-Get-clause-full
-returns-in-Get-clause-full g c = λ relations counters few within. IfOk-weaker c.get.result _ _ (λ act. never_full act _) c.get.ensures.full
+returns-in-Get-clause-full g c = λ relations counters few within. IfOk-weaker c.get.result _ _ (λ act. never_full act _) c.get.ensures.plans.full
 
 pub returns-in-Delete-clause-full : goal.returns-in-Delete-clause-full
-returns-in-Delete-clause-full g c = λ relations counters few within. IfOk-weaker c.delete.result _ _ (λ act. never_full act _) c.delete.ensures.full
+returns-in-Delete-clause-full g c = λ relations counters few within. IfOk-weaker c.delete.result _ _ (λ act. never_full act _) c.delete.ensures.plans.full
 
 pub returns-in-Add-clause-full : goal.returns-in-Add-clause-full
 returns-in-Add-clause-full g c = λ relations counters few within. IfOk-weaker c.add_to.result _ _ (λ act. never_full act _) c.add_to.ensures.full
@@ -172,24 +172,24 @@ returns-in-Read-clause-full g c = λ relations counters few within. never_full c
 pub returns-in-Get-clause-asks : goal.returns-in-Get-clause-asks
 returns-in-Get-clause-asks g c =
     let is : Get c.in-Get.relation c.as_slice.result.now ≡ c.args.op.now = ap (Get c.in-Get.relation) c.as_slice.ensures ∙ sym c.in-Get.is in
-    asks_same (g.V.Pages.at_hand c.args.views.now) c.args.room (g.V.Pages.total c.args.views.now) c.args.split _ c.args.op.now c.get.result is (c.get.ensures.asks c.args.room c.args.split)
+    asks_same (g.V.Pages.at_hand c.args.views.now) c.args.room (g.V.Pages.total c.args.views.now) c.args.split _ c.args.op.now c.get.result is (c.get.ensures.plans.asks c.args.room c.args.split)
 
 pub returns-in-Insert-clause-asks : goal.returns-in-Insert-clause-asks
 returns-in-Insert-clause-asks g c =
     let is : Insert c.in-Insert.relation c.as_slice-in-Insert.result.now c.as_slice-in-Insert-2.result.now ≡ c.args.op.now =
     (λ i. Insert c.in-Insert.relation (c.as_slice-in-Insert.ensures i) (c.as_slice-in-Insert-2.ensures i)) ∙ sym c.in-Insert.is in
-    asks_same (g.V.Pages.at_hand c.args.views.now) c.args.room (g.V.Pages.total c.args.views.now) c.args.split _ c.args.op.now c.insert.result is c.insert.ensures.asks
+    asks_same (g.V.Pages.at_hand c.args.views.now) c.args.room (g.V.Pages.total c.args.views.now) c.args.split _ c.args.op.now c.insert.result is c.insert.ensures.plans.asks
 
 pub returns-in-Update-clause-asks : goal.returns-in-Update-clause-asks
 returns-in-Update-clause-asks g c =
     let is : Update c.in-Update.relation c.as_slice-in-Update.result.now c.as_slice-in-Update-2.result.now ≡ c.args.op.now =
     (λ i. Update c.in-Update.relation (c.as_slice-in-Update.ensures i) (c.as_slice-in-Update-2.ensures i)) ∙ sym c.in-Update.is in
-    asks_same (g.V.Pages.at_hand c.args.views.now) c.args.room (g.V.Pages.total c.args.views.now) c.args.split _ c.args.op.now c.update.result is (c.update.ensures.asks c.args.split)
+    asks_same (g.V.Pages.at_hand c.args.views.now) c.args.room (g.V.Pages.total c.args.views.now) c.args.split _ c.args.op.now c.update.result is (c.update.ensures.plans.asks c.args.split)
 
 pub returns-in-Delete-clause-asks : goal.returns-in-Delete-clause-asks
 returns-in-Delete-clause-asks g c =
     let is : Delete c.in-Delete.relation c.as_slice-in-Delete.result.now ≡ c.args.op.now = ap (Delete c.in-Delete.relation) c.as_slice-in-Delete.ensures ∙ sym c.in-Delete.is in
-    asks_same (g.V.Pages.at_hand c.args.views.now) c.args.room (g.V.Pages.total c.args.views.now) c.args.split _ c.args.op.now c.delete.result is (c.delete.ensures.asks c.args.room c.args.split)
+    asks_same (g.V.Pages.at_hand c.args.views.now) c.args.room (g.V.Pages.total c.args.views.now) c.args.split _ c.args.op.now c.delete.result is (c.delete.ensures.plans.asks c.args.room c.args.split)
 
 pub returns-in-Insert-clause-takes : goal.returns-in-Insert-clause-takes
 returns-in-Insert-clause-takes g c = λ relations counters few within.
@@ -197,7 +197,7 @@ returns-in-Insert-clause-takes g c = λ relations counters few within.
     (λ i. Insert c.in-Insert.relation (c.as_slice-in-Insert.ensures i) (c.as_slice-in-Insert-2.ensures i)) ∙ sym c.in-Insert.is in
     let inside = subst (λ (o : Op). IsWithin relations counters o) (sym is) within in
     IfOk-weaker c.insert.result _ _ (λ act. roomy_reported relations counters (g.V.Pages.total c.args.views.now) (g.V.Pages.at_hand c.args.views.now) c.args.room c.args.op.now _ act is)
-    (c.insert.ensures.takes relations (record { relation = inside.0; key = inside.1; value = inside.2 }))
+    (c.insert.ensures.plans.takes relations (record { relation = inside.0; key = inside.1; value = inside.2 }))
 
 pub returns-in-Update-clause-takes : goal.returns-in-Update-clause-takes
 returns-in-Update-clause-takes g c = λ relations counters few within.
@@ -205,11 +205,11 @@ returns-in-Update-clause-takes g c = λ relations counters few within.
     (λ i. Update c.in-Update.relation (c.as_slice-in-Update.ensures i) (c.as_slice-in-Update-2.ensures i)) ∙ sym c.in-Update.is in
     let inside = subst (λ (o : Op). IsWithin relations counters o) (sym is) within in
     IfOk-weaker c.update.result _ _ (λ act. roomy_reported relations counters (g.V.Pages.total c.args.views.now) (g.V.Pages.at_hand c.args.views.now) c.args.room c.args.op.now _ act is)
-    (c.update.ensures.takes relations (record { relation = inside.0; key = inside.1; value = inside.2 }))
+    (c.update.ensures.plans.takes relations (record { relation = inside.0; key = inside.1; value = inside.2 }))
 
 pub returns-in-Delete-clause-takes : goal.returns-in-Delete-clause-takes
 returns-in-Delete-clause-takes g c = λ relations counters few within.
-    IfOk-weaker c.delete.result _ _ (λ act. none_reported relations counters (g.V.Pages.total c.args.views.now) (g.V.Pages.at_hand c.args.views.now) c.args.room c.args.op.now act) (c.delete.ensures.takes relations)
+    IfOk-weaker c.delete.result _ _ (λ act. none_reported relations counters (g.V.Pages.total c.args.views.now) (g.V.Pages.at_hand c.args.views.now) c.args.room c.args.op.now act) (c.delete.ensures.plans.takes relations)
 
 pub returns-in-Add-clause-takes : goal.returns-in-Add-clause-takes
 returns-in-Add-clause-takes g c = λ relations counters few within.
@@ -217,7 +217,7 @@ returns-in-Add-clause-takes g c = λ relations counters few within.
 
 pub returns-in-Get-clause-takes : goal.returns-in-Get-clause-takes
 returns-in-Get-clause-takes g c = λ relations counters few within.
-    IfOk-weaker c.get.result _ _ (λ act. quiet_reported relations counters (g.V.Pages.total c.args.views.now) (g.V.Pages.at_hand c.args.views.now) c.args.room c.args.op.now act) c.get.ensures.quiet
+    IfOk-weaker c.get.result _ _ (λ act. quiet_reported relations counters (g.V.Pages.total c.args.views.now) (g.V.Pages.at_hand c.args.views.now) c.args.room c.args.op.now act) c.get.ensures.plans.quiet
 
 pub returns-in-Read-clause-takes : goal.returns-in-Read-clause-takes
 returns-in-Read-clause-takes g c = λ relations counters few within.
@@ -233,3 +233,49 @@ returns-in-Add-clause-asks g c =
 pub returns-in-Read-clause-asks : goal.returns-in-Read-clause-asks
 returns-in-Read-clause-asks g c = subst (λ (o : Op). IfLock c.read_from.result (AsksFor (g.V.Pages.at_hand c.args.views.now) c.args.room (g.V.Pages.total c.args.views.now) c.args.split o)) (sym c.in-Read.is)
     (lock_both c.read_from.result _ _ _ (λ p mode two reads. (two.1, reads)) c.read_from.ensures.lock c.read_from.ensures.mode)
+
+pub get-requires-clause-searched : goal.get-requires-clause-searched
+get-requires-clause-searched g c =
+    let is : Get c.in-Get.relation c.as_slice.result.now ≡ c.args.op.now = ap (Get c.in-Get.relation) c.as_slice.ensures ∙ sym c.in-Get.is in
+    subst (λ (o : Op). HasSearched (g.V.Pages.at_hand c.args.views.now) (g.V.Pages.total c.args.views.now) o c.args.search.now) (sym is) c.requires.searched
+
+pub returns-in-Get-clause-searched : goal.returns-in-Get-clause-searched
+returns-in-Get-clause-searched g c =
+    let is : Get c.in-Get.relation c.as_slice.result.now ≡ c.args.op.now = ap (Get c.in-Get.relation) c.as_slice.ensures ∙ sym c.in-Get.is in
+    subst (λ (o : Op). HasSearched (g.V.Pages.at_hand c.args.views.now) (g.V.Pages.total c.args.views.now) o c.get.new.search) is c.get.ensures.searched
+
+pub insert-requires-clause-searched : goal.insert-requires-clause-searched
+insert-requires-clause-searched g c =
+    let is : Insert c.in-Insert.relation c.as_slice-in-Insert.result.now c.as_slice-in-Insert-2.result.now ≡ c.args.op.now = (λ i. Insert c.in-Insert.relation (c.as_slice-in-Insert.ensures i) (c.as_slice-in-Insert-2.ensures i)) ∙ sym c.in-Insert.is in
+    subst (λ (o : Op). HasSearched (g.V.Pages.at_hand c.args.views.now) (g.V.Pages.total c.args.views.now) o c.args.search.now) (sym is) c.requires.searched
+
+pub returns-in-Insert-clause-searched : goal.returns-in-Insert-clause-searched
+returns-in-Insert-clause-searched g c =
+    let is : Insert c.in-Insert.relation c.as_slice-in-Insert.result.now c.as_slice-in-Insert-2.result.now ≡ c.args.op.now = (λ i. Insert c.in-Insert.relation (c.as_slice-in-Insert.ensures i) (c.as_slice-in-Insert-2.ensures i)) ∙ sym c.in-Insert.is in
+    subst (λ (o : Op). HasSearched (g.V.Pages.at_hand c.args.views.now) (g.V.Pages.total c.args.views.now) o c.insert.new.search) is c.insert.ensures.searched
+
+pub update-requires-clause-searched : goal.update-requires-clause-searched
+update-requires-clause-searched g c =
+    let is : Update c.in-Update.relation c.as_slice-in-Update.result.now c.as_slice-in-Update-2.result.now ≡ c.args.op.now = (λ i. Update c.in-Update.relation (c.as_slice-in-Update.ensures i) (c.as_slice-in-Update-2.ensures i)) ∙ sym c.in-Update.is in
+    subst (λ (o : Op). HasSearched (g.V.Pages.at_hand c.args.views.now) (g.V.Pages.total c.args.views.now) o c.args.search.now) (sym is) c.requires.searched
+
+pub returns-in-Update-clause-searched : goal.returns-in-Update-clause-searched
+returns-in-Update-clause-searched g c =
+    let is : Update c.in-Update.relation c.as_slice-in-Update.result.now c.as_slice-in-Update-2.result.now ≡ c.args.op.now = (λ i. Update c.in-Update.relation (c.as_slice-in-Update.ensures i) (c.as_slice-in-Update-2.ensures i)) ∙ sym c.in-Update.is in
+    subst (λ (o : Op). HasSearched (g.V.Pages.at_hand c.args.views.now) (g.V.Pages.total c.args.views.now) o c.update.new.search) is c.update.ensures.searched
+
+pub delete-requires-clause-searched : goal.delete-requires-clause-searched
+delete-requires-clause-searched g c =
+    let is : Delete c.in-Delete.relation c.as_slice-in-Delete.result.now ≡ c.args.op.now = ap (Delete c.in-Delete.relation) c.as_slice-in-Delete.ensures ∙ sym c.in-Delete.is in
+    subst (λ (o : Op). HasSearched (g.V.Pages.at_hand c.args.views.now) (g.V.Pages.total c.args.views.now) o c.args.search.now) (sym is) c.requires.searched
+
+pub returns-in-Delete-clause-searched : goal.returns-in-Delete-clause-searched
+returns-in-Delete-clause-searched g c =
+    let is : Delete c.in-Delete.relation c.as_slice-in-Delete.result.now ≡ c.args.op.now = ap (Delete c.in-Delete.relation) c.as_slice-in-Delete.ensures ∙ sym c.in-Delete.is in
+    subst (λ (o : Op). HasSearched (g.V.Pages.at_hand c.args.views.now) (g.V.Pages.total c.args.views.now) o c.delete.new.search) is c.delete.ensures.searched
+
+pub returns-in-Add-clause-searched : goal.returns-in-Add-clause-searched
+returns-in-Add-clause-searched g c = subst (λ (o : Op). HasSearched (g.V.Pages.at_hand c.args.views.now) (g.V.Pages.total c.args.views.now) o c.args.search.now) (sym c.in-Add.is) tt
+
+pub returns-in-Read-clause-searched : goal.returns-in-Read-clause-searched
+returns-in-Read-clause-searched g c = subst (λ (o : Op). HasSearched (g.V.Pages.at_hand c.args.views.now) (g.V.Pages.total c.args.views.now) o c.args.search.now) (sym c.in-Read.is) tt

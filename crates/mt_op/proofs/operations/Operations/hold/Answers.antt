@@ -23,6 +23,7 @@ returns-in-Again g c = record {
           room = anew.room;
           guards = anew.guards;
           seen = anew.seen;
+          search = anew.search;
           changes = anew.changes;
           reply = anew.reply;
           written = anew.written;
@@ -47,6 +48,7 @@ returns-in-Wait g c = record {
         record { area = record { opening = refl; total = refl }; pages = λ p lt. refl; records = refl; locks = answer.2 },
         record {
           plan = record { op = record { txn = refl; number = refl; op = refl; undoes = refl; split = refl; total = refl }; room = refl; guards = c.reserve.ensures.items; seen = refl; changes = refl; reply = refl };
+          search = refl;
           stage = refl;
           written = refl;
           standing = refl;

@@ -15,6 +15,7 @@ use Rattle.mt_op.specs.Holds.{IsNext, IsHeld}
 use Rattle.mt_op.specs.Stepping.{TakesLock}
 use Rattle.mt_op.proofs.Asking.{asked_right}
 use Rattle.mt_op.proofs.Going.{rests_goes, rests_same, unlocked_goes_on, locks_goes, stays_roomy, goes_on_since, goes_since, planning_stays, ok_same, there_whole}
+use Rattle.mt_op.proofs.Searching.{searched_same}
 use Rattle.mt_op.proofs.Work.{stays_work, locks_work, unlocked_works, works_behind}
 use Rattle.mt_op.proofs.Keeping.{held_keeps, held_scope, stays_then, room_kept}
 use Rattle.mt_space.specs.Changes.{PageBytes}
@@ -68,7 +69,7 @@ returns-in_err-other g c = let d = g.D.Device in let seen = d.seen in let o = c.
 
 pub returns-in-Went : goal.returns-in-Went
 returns-in-Went g c = let d = g.D.Device in let seen = d.seen in let o = c.args.self.now in let n = c.hold.new.self in let s = c.args.scope.now in
-    let f = c.hold.ensures in let m = record s { seen = c.reserve.new.self } in let u = record c.hold.new.scope { room = c.args.room; seen = c.put.new.self } in
+    let f = c.hold.ensures in let m = record s { seen = c.reserve.new.self } in let u = record c.hold.new.scope { room = c.args.room; seen = c.put.new.self; search = c.args.search } in
     let stays = stays_roomy s c.reserve.new.self c.reserve.ensures.total c.reserve.ensures.same in
     let went : c.hold.result ≡ Ok stepped.Went = c.in_ok-other.was ∙ ap Ok c.in-Went.is in
     let opening : PageBytes = λ p. [] in
@@ -87,6 +88,7 @@ returns-in-Went g c = let d = g.D.Device in let seen = d.seen in let o = c.args.
                 (record { txn = refl; number = refl; op = refl; undoes = refl; split = refl; total = c.put.ensures.total }) refl refl
                 (c.put.ensures.put ∙ ap (λ (b : List ℕ). c.hold.new.scope.seen.list.items ++ record { page = c.args.page; bytes = b } ∷ []) bytes) refl refl
                 (⊎_elim inl (λ led. inr (led.0, led.1, ap (λ (m : List ℕ). get_or m c.args.page 0) (sym right.map) ∙ led.2)) c.requires.led)
+                (searched_same s m c.args.search c.args.search stays.plan.op c.reserve.ensures.same refl c.requires.searched)
                 (there_whole o.store.pool (seen o.store.device) c.args.page right.kept.frames c.requires.there)
                 new (subst (λ (n : ℕ). c.args.page < n) k.total c.requires.next.unseen.inside) right.sound km),
           );

@@ -16,6 +16,8 @@ use Rattle.mt_steps.specs.declared.act.Act.{Act}
 use Rattle.mt_op.specs.World.{looked}
 use Rattle.mt_op.specs.Operations.{world}
 use Rattle.mt_op.specs.Stepping.{LocksPage, PlansOn}
+use Rattle.mt_op.proofs.Going.{planning_of}
+use Rattle.mt_op.proofs.Searching.{searched_prop}
 use Rattle.mt_op.proofs.Choosing.{cause_memory, locked_some, locked_err, refused_plan, unled_goes, reading_of}
 use Rattle.mt_op.proofs.Work.{led_work, led_misled, plans_over, claim_free}
 use Rattle.mt_op.proofs.Known.{one_of, known_within}
@@ -116,3 +118,7 @@ plan-requires-clause-sound g c = (known_within g.D.Device.seen g.D.Device.may_le
 pub plan-requires-clause-good : goal.plan-requires-clause-good
 plan-requires-clause-good g c = ∥∥₁_map c.requires.right (λ (opening, relations, counters, right, k, small, some).
     plans_over relations counters (world g.D.Device.seen opening c.args.self.now) c.args.scope.now c.requires.planning right.sound k small)
+
+pub plan-requires-clause-searched : goal.plan-requires-clause-searched
+plan-requires-clause-searched g c = let s = c.args.scope.now in ∥∥₁_elim c.requires.right (searched_prop (looked s) s.seen.total s.op s.search) (λ (opening, relations, counters, right, k, small, some).
+    (planning_of relations counters (world g.D.Device.seen opening c.args.self.now) s c.requires.planning k).searched)

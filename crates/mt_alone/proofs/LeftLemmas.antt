@@ -1,12 +1,9 @@
 -- What a device stands for behind the commits of a kernel, or of a play.
-use Rattle.std.proofs.Common.{◌≡◌, ◌≤◌, ◌+◌, ◌-◌, ◌++◌, ◌∙◌, [], inl, inr, zero, suc, ℕ, Bool, true, false, List, length, take, None, Some, refl, sym, ap, subst, arith, append-nil}
-use Rattle.std.proofs.Math.Dec.{eqb-suc-zero}
+use Rattle.std.proofs.Common.{◌≡◌, ◌≤◌, ◌+◌, ◌-◌, ◌++◌, ◌∙◌, [], inl, inr, ℕ, List, length, take, None, sym, ap, subst, arith, append-nil}
 use Rattle.std.proofs.Math.Seq.{take-append-add}
 use Rattle.std.proofs.Props.{props}
-use Rattle.std.specs.Prelude.{if◌then◌else◌, nat_eq}
 use mathlib.Core.Logic.{∥∥₁_elim, ∥∥₁_map}
 use Rattle.mt_base.specs.Limits.{IsRelationCount}
-use Rattle.mt_base.specs.declared.refusal.Refusal.TheVariants as refusal
 use Rattle.mt_disk.specs.declared.device.Device.{Ghosts}
 use Rattle.mt_core.specs.Booked.{txns_of}
 use Rattle.mt_core.specs.Consistent.{session_in}
@@ -16,35 +13,24 @@ use Rattle.mt_model.specs.History.{after}
 use Rattle.mt_model.specs.Model.{Base}
 use Rattle.mt_model.specs.declared.history.Committed.{Committed}
 use Rattle.mt_replay.specs.Stands.{CanRestart}
+use Rattle.mt_restart.proofs.EarlyCauses.{may_nobody}
 use Rattle.mt_restart.specs.Rotated.{early_cause}
 use Rattle.mt_restart.proofs.Living.{stands_book}
 use Rattle.mt_alone.proofs.TurnLemmas.{left_of}
 use Rattle.mt_alone.specs.Driven.{IsLeft}
 use Rattle.mt_alone.specs.Plays.{Play, put_off}
 use Rattle.mt_alone.specs.Runs.{IsLeftFor}
-use Rattle.mt_alone.specs.Turnovers.{IsLeftBy, StandsForMore}
-use Rattle.mt_alone.specs.declared.rotation.NotServed.{NotServed}
-use Rattle.mt_alone.specs.declared.rotation.NotServed.TheVariants.{Kept, Ended}
+use Rattle.mt_alone.specs.Turnovers.{IsDeviceLeft, IsLeftBy, StandsForMore, with_kernel}
 use Rattle.mt_alone.specs.declared.script_run.RunFault.{RunFault}
 use Rattle.mt_alone.specs.declared.script_run.RunFault.TheVariants as fault
 use Rattle.mt_txn.specs.Restarted.{all_commits, FindsCommits, FindsMeanwhile}
-use Rattle.mt_txn.specs.Shown.{Restarts, is_failed}
-use Rattle.mt_txn.specs.Turned.{HasNobody}
+use Rattle.mt_txn.specs.Shown.{Restarts}
 use Rattle.mt_txn.specs.declared.kernel.Kernel.{Kernel}
 
 -- bytes that stand for what all of some commits lead to stand for these and no further ones
 no_further : (relations counters : ℕ) (b : Base) (book : List Committed) (c : List ℕ) → ∥ CanRestart relations counters c (after b book) ∥₁
     → ∥ ((further : List Committed) × CanRestart relations counters c (after b (book ++ further))) ∥₁
 no_further relations counters b book c stands = ∥∥₁_map stands (λ found. ([], subst (λ (all : List Committed). CanRestart relations counters c (after b all)) (sym (append-nil book)) found))
-
--- nobody lives where nothing keeps a log from turning over
-nobody_early : {D : Type 0} {g : Ghosts D} (k : Kernel D g) → early_cause k ≡ None → HasNobody k
-nobody_early k early = nobody (is_failed k) (length k.core.live.members) early
-  where
-    nobody : (failed : Bool) (n : ℕ) → (if failed then Some refusal.DeviceFailed else if nat_eq n 0 then None else Some refusal.Busy) ≡ None → n ≡ 0
-    nobody true n is = absurd cc
-    nobody false zero is = refl
-    nobody false (suc n) is = let bad : Some refusal.Busy ≡ None = sym (ap (λ (b : Bool). if b then None else Some refusal.Busy) (eqb-suc-zero n)) ∙ is in absurd cc
 
 module _ {D : Type 0} {g : Ghosts D} (seen : D → List ℕ) (may_leave : D → List ℕ → Type 0) where
   -- what a restart finds is what the book leads to, and perhaps some of the commits under way behind it
@@ -67,7 +53,7 @@ module _ {D : Type 0} {g : Ghosts D} (seen : D → List ℕ) (may_leave : D → 
       → (first : Base) → Restarts seen may_leave first k → (c : List ℕ) → may_leave device c → ∥ CanRestart k.relations k.counters c (after first k.core.book.items) ∥₁
   turned_stands moment left_since k device early counts found first restarts c leaves =
       let f = found first restarts in
-      stands_book seen may_leave first k c (nobody_early k early) restarts (f.each c (counts (moment k.core.operations.store.device) c f.later leaves))
+      stands_book seen may_leave first k c (may_nobody k early) restarts (f.each c (counts (moment k.core.operations.store.device) c f.later leaves))
 
   -- ---- behind a play
 
@@ -84,15 +70,12 @@ module _ {D : Type 0} {g : Ghosts D} (seen : D → List ℕ) (may_leave : D → 
 
     pub kept_stands : (relations counters : ℕ) (q : Play) (n : Kernel D g) (why : RunFault) → IsRelationCount n.relations
         → ((first : Base) (c : List ℕ) → Restarts seen may_leave first n → may_leave n.core.operations.store.device c → IsRelationCount n.relations → ∥ FindsCommits n.relations n.counters first n.core c ∥₁)
-        → IsLeftBy seen may_leave faults relations counters (Kept why n) q → StandsForMore may_leave relations counters q n.core.operations.store.device
+        → IsLeftBy seen may_leave faults relations counters (with_kernel why n) q → StandsForMore may_leave relations counters q n.core.operations.store.device
     kept_stands relations counters q n why count finds (left, for) c leaves = ∥∥₁_elim (book_for q n why left) (hlevel props) (λ book.
         subst (λ (X : Type 0). X) (λ i. ∥ ((further : List Committed) × CanRestart (for.relations_are i) (for.counters_are i) c (after q.first (book i ++ further))) ∥₁)
         (stands_more q.first n c (finds q.first c for.restarts leaves count)))
 
-    pub ended_stands : (relations counters : ℕ) (q : Play) (left : NotServed D g) (device : D) (why : RunFault) → left ≡ Ended why device → IsLeftBy seen may_leave faults relations counters left q
-        → StandsForMore may_leave relations counters q device
-    ended_stands relations counters q (Kept w n) device why is x c leaves = absurd cc
-    ended_stands relations counters q (Ended fault.Output d) device why is x c leaves =
-        let same : d ≡ device = cc in no_further relations counters q.first q.book c (x.1 c (subst (λ (y : D). may_leave y c) (sym same) leaves))
-    ended_stands relations counters q (Ended (fault.Refused w) d) device why is x c leaves =
-        let same : d ≡ device = cc in no_further relations counters q.first q.book c (x.3 c (subst (λ (y : D). may_leave y c) (sym same) leaves))
+-- the device alone does
+pub ended_stands : {D : Type 0} (may_leave : D → List ℕ → Type 0) (faults : D → ℕ) (relations counters : ℕ) (q : Play) (device : D) (why : RunFault) → IsDeviceLeft may_leave faults relations counters why device q → StandsForMore may_leave relations counters q device
+ended_stands may_leave faults relations counters q device fault.Output x c leaves = no_further relations counters q.first q.book c (x.1 c leaves)
+ended_stands may_leave faults relations counters q device (fault.Refused why) x c leaves = no_further relations counters q.first q.book c (x.2 c leaves)

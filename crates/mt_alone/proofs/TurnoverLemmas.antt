@@ -1,5 +1,5 @@
 -- Lines on a kernel whose log is turned over before a transaction.
-use Rattle.std.proofs.Common.{◌≡◌, ◌<◌, ◌∷◌, [], suc, ℕ, Bool, List, Option, Some, None, length, take, drop, get_or, refl, arith, sym, subst, ◌∙◌, append-nil, take-append-drop}
+use Rattle.std.proofs.Common.{◌≡◌, ◌<◌, ◌∷◌, [], suc, ℕ, Bool, List, Option, Some, None, length, take, drop, get_or, refl, sym, subst, ◌∙◌, append-nil, take-append-drop}
 use Rattle.std.proofs.Props.{props}
 use mathlib.Core.Logic.{∥∥₁_elim, ∥∥₁_map}
 use Rattle.mt_base.specs.declared.refusal.Refusal.{Refusal}
@@ -9,7 +9,7 @@ use Rattle.mt_model.specs.History.{after}
 use Rattle.mt_model.specs.Model.{Base}
 use Rattle.mt_model.specs.declared.history.Committed.{Committed}
 use Rattle.mt_replay.specs.Stands.{CanRestart}
-use Rattle.mt_restart.specs.Rotated.{GoesOver, IsEndCause, IsForcedOut, Keeps}
+use Rattle.mt_restart.specs.Rotated.{GoesOver}
 use Rattle.mt_script.specs.declared.answers.Answer.{Answer}
 use Rattle.mt_script.specs.declared.lines.Line.{Line}
 use Rattle.mt_alone.proofs.LeftLemmas.{book_of}
@@ -20,13 +20,11 @@ use Rattle.mt_alone.specs.Driven.{IsBeside}
 use Rattle.mt_alone.specs.Plays.{Play, Runs, starts, goes_on}
 use Rattle.mt_alone.specs.Runs.{BesideEach, HasRunLines, HasTurned, IsCut, IsCutAtEnd, IsCutShort, IsEnded, IsLeftFor, IsStopped, IsReportedFor}
 use Rattle.mt_alone.specs.Stops.{lines_to, why_stopped}
-use Rattle.mt_alone.specs.Turnovers.{BesideFrom, CannotTurnOver, From, GoesThrough, HasRunOn, HasRunOut, IsCutOff, IsLeftBy, IsTurnedOut, StandsForPlay}
+use Rattle.mt_alone.specs.Turnovers.{BesideFrom, GoesThrough, HasRunOn, HasRunOut, IsCutOff, IsLeftBy, IsTurnedOut, StandsForPlay, with_device, with_kernel}
 use Rattle.mt_alone.specs.declared.rotation.NotServed.{NotServed}
-use Rattle.mt_alone.specs.declared.rotation.NotServed.TheVariants.{Kept, Ended}
 use Rattle.mt_alone.specs.declared.script_run.RunFault.{RunFault}
 use Rattle.mt_alone.specs.declared.script_run.RunFault.TheVariants as fault
 use Rattle.mt_alone.specs.declared.stops.Stop.{Stop}
-use Rattle.mt_restart.specs.TurnFaults.{IsTurnFault}
 use Rattle.mt_txn.specs.Shown.{Restarts, SameSchema, StaysRestarting}
 use Rattle.mt_txn.specs.declared.kernel.Kernel.{Kernel}
 
@@ -48,9 +46,6 @@ module _ {D : Type 0} {g : Ghosts D} (seen : D → List ℕ) (may_leave : D → 
     restarts = λ first restarts. b.restarts first (a.restarts first restarts);
     schema = (b.schema.0 ∙ a.schema.0, b.schema.1 ∙ a.schema.1);
   }
-
-  pub over_kept : (moment : D → ℕ) (left_since : D → ℕ → List ℕ → Type 0) (k n : Kernel D g) → Keeps seen may_leave moment left_since k n → GoesOver seen may_leave k n
-  over_kept moment left_since k n x = record { state = λ first s restarts shows. x.state first s shows; restarts = x.restarts; schema = x.schema }
 
   pub resting_over : (p : Play) (k n : Kernel D g) → IsBeside seen may_leave p None k → Restarts seen may_leave p.first k → GoesOver seen may_leave k n → IsBeside seen may_leave p None n
   resting_over p k n r restarts over = record {
@@ -82,7 +77,7 @@ module _ {D : Type 0} {g : Ghosts D} (seen : D → List ℕ) (may_leave : D → 
 
     -- a kernel that is kept
     kept_cut : (lines : List Line) (was now : Option (List ℕ)) (begun n : Kernel D g) (why : RunFault) → SameSchema k n → Restarts seen may_leave p.first n → IsCutShort seen may_leave faults p begun lines was now n why
-        → IsCut seen may_leave (IsLeftBy seen may_leave faults k.relations k.counters (Kept why n)) p begun lines was now why
+        → IsCut seen may_leave (IsLeftBy seen may_leave faults k.relations k.counters (with_kernel why n)) p begun lines was now why
     kept_cut lines was now begun n why same restarts x = record {
       before = x.before;
       rest = x.rest;
@@ -110,7 +105,7 @@ module _ {D : Type 0} {g : Ghosts D} (seen : D → List ℕ) (may_leave : D → 
 
     pub cut_at_end : (stop : Bool) (ending : Option Stop) (lines : List Line) (t : ℕ) (a b c : Option (List ℕ)) (m n : Kernel D g) (why : RunFault) → SameSchema k n → Restarts seen may_leave p.first n
         → HasRunOn seen may_leave stop (why_stopped ending) p k (lines_to ending lines) a b (Some t) m
-        → ((q : Play) → IsBeside seen may_leave q (Some t) m → IsCutAtEnd seen may_leave faults q b c n why) → IsCutOff seen may_leave faults p k lines a c (Kept why n)
+        → ((q : Play) → IsBeside seen may_leave q (Some t) m → IsCutAtEnd seen may_leave faults q b c n why) → IsCutOff seen may_leave faults p k lines a c (with_kernel why n)
     cut_at_end stop ending lines t a b c m n why same restarts (begun, over, ran) cut =
         let rest = left_from ending lines in
         let front = end_cut seen may_leave faults p begun stop (why_stopped ending) (lines_to ending lines) t a b c m n why ran cut in (
@@ -129,15 +124,10 @@ module _ {D : Type 0} {g : Ghosts D} (seen : D → List ℕ) (may_leave : D → 
     stands_play device beside stands c left = ∥∥₁_elim (book_is None beside) (hlevel props) (λ is.
         subst (λ (book : List Committed). ∥ CanRestart k.relations k.counters c (after p.first book) ∥₁) is (stands c left))
 
-    turned_left : (y : Refusal) (device : D) (was now : Option (List ℕ)) (why : RunFault) → IsBeside seen may_leave p None k → Restarts seen may_leave p.first k → IsTurnedOut seen may_leave faults k y device → IsStopped was now y why
-        → IsLeftBy {g = g} seen may_leave faults k.relations k.counters (Ended why device) p
-    turned_left y device was now fault.Output beside restarts out (is, front) = (out.failed is, stands_play device beside (out.stands p.first restarts))
-    turned_left y device was now (fault.Refused why) beside restarts out (is, outcome) = (
-      subst IsTurnFault (sym is) out.cause,
-      λ failed. out.failed (sym is ∙ failed),
-      λ full. ∥∥₁_map (out.full (sym is ∙ full)) (λ (n, over, cannot). (n, resting_over p k n beside restarts over, cannot)),
-      stands_play device beside (out.stands p.first restarts),
-    )
+    turned_left : (device : D) (was now : Option (List ℕ)) (why : RunFault) → IsBeside seen may_leave p None k → Restarts seen may_leave p.first k → IsTurnedOut seen may_leave faults k device → IsStopped was now refusal.DeviceFailed why
+        → IsLeftBy {g = g} seen may_leave faults k.relations k.counters (with_device why device) p
+    turned_left device was now fault.Output beside restarts out (is, front) = (out.failed, stands_play device beside (out.stands p.first restarts))
+    turned_left device was now (fault.Refused why) beside restarts out (is, outcome) = (is, out.failed, stands_play device beside (out.stands p.first restarts))
 
   -- ---- lines in a kernel that is held in place, whose log is turned over between them
 
@@ -170,9 +160,9 @@ module _ {D : Type 0} {g : Ghosts D} (seen : D → List ℕ) (may_leave : D → 
         subst (λ (o : Option ℕ). GoesThrough seen may_leave stop None session k lines a b o m → GoesThrough seen may_leave stop None session k lines a b o n) (sym none) (λ y. turned_none lines a b m n y over) x
 
     -- it could not be
-    pub through_not_turned : (lines : List Line) (i : ℕ) (live : Option ℕ) (y : Refusal) (device : D) (a b c : Option (List ℕ)) (m : Kernel D g) (why : RunFault) → live ≡ None → GoesThrough seen may_leave stop None session k (take i lines) a b live m → IsTurnedOut seen may_leave faults m y device → IsStopped b c y why
-        → BesideFrom seen may_leave session None k (λ p. IsCutOff seen may_leave faults p k lines a c (Ended why device))
-    through_not_turned lines i live y device a b c m why none whatever out stopped p own beside restarts =
+    pub through_not_turned : (lines : List Line) (i : ℕ) (live : Option ℕ) (device : D) (a b c : Option (List ℕ)) (m : Kernel D g) (why : RunFault) → live ≡ None → GoesThrough seen may_leave stop None session k (take i lines) a b live m → IsTurnedOut seen may_leave faults m device → IsStopped b c refusal.DeviceFailed why
+        → BesideFrom seen may_leave session None k (λ p. IsCutOff seen may_leave faults p k lines a c (with_device why device))
+    through_not_turned lines i live device a b c m why none whatever out stopped p own beside restarts =
         let x = subst (λ (o : Option ℕ). GoesThrough seen may_leave stop None session k (take i lines) a b o m) none whatever in
         let (b0, over0, ran) = x.ran p own beside restarts in
         let rests = next_first faults p b0 stop (take i lines) None a b b0 m ran (x.restarts p.first restarts) in (
@@ -186,8 +176,8 @@ module _ {D : Type 0} {g : Ghosts D} (seen : D → List ℕ) (may_leave : D → 
             play = ran.play;
             last = m;
             ran = ran.ran;
-            outcome = subst (λ (t : List Answer). IsReportedFor a c t why) (append-nil ran.answers) (reported_behind a b c ran.answers [] why ran.outcome (stopped_reported b c y why stopped));
-            left = left_same faults p k m (Ended why device) ran.play x.schema (turned_left faults ran.play m y device b c why ran.beside rests out stopped);
+            outcome = subst (λ (t : List Answer). IsReportedFor a c t why) (append-nil ran.answers) (reported_behind a b c ran.answers [] why ran.outcome (stopped_reported b c refusal.DeviceFailed why stopped));
+            left = left_same faults p k m (with_device why device) ran.play x.schema (turned_left faults ran.play m device b c why ran.beside rests out stopped);
           },
         )
 
@@ -205,7 +195,7 @@ module _ {D : Type 0} {g : Ghosts D} (seen : D → List ℕ) (may_leave : D → 
     -- or was cut short
     pub line_not_through : (lines : List Line) (i : ℕ) (l : Line) (live : Option ℕ) (a b c : Option (List ℕ)) (m n : Kernel D g) (why : RunFault) → i < length lines → l ≡ get_or lines i l → GoesThrough seen may_leave stop None session k (take i lines) a b live m
         → BesideEach seen may_leave session live m (λ q. IsCutShort seen may_leave faults q m (l ∷ []) b c n why) → SameSchema m n → StaysRestarting seen may_leave m n
-        → BesideFrom seen may_leave session None k (λ p. IsCutOff seen may_leave faults p k lines a c (Kept why n))
+        → BesideFrom seen may_leave session None k (λ p. IsCutOff seen may_leave faults p k lines a c (with_kernel why n))
     line_not_through lines i l live a b c m n why lt is x cut same stays p own beside restarts =
         let (begun, over, ran) = x.ran p own beside restarts in (
           begun,
@@ -213,15 +203,3 @@ module _ {D : Type 0} {g : Ghosts D} (seen : D → List ℕ) (may_leave : D → 
           kept_cut faults p k lines a c begun n why (same.0 ∙ x.schema.0, same.1 ∙ x.schema.1) (stays p.first (x.restarts p.first restarts))
               (line_cut seen may_leave faults p begun stop session lines i l live a b c m n why own lt is ran cut),
         )
-
--- 2 only where a call of the device has failed
-pub end_failed : {D : Type 0} {g : Ghosts D} (seen : D → List ℕ) (may_leave : D → List ℕ → Type 0) (moment : D → ℕ) (left_since : D → ℕ → List ℕ → Type 0) (faults : D → ℕ) (k : Kernel D g) (device : D) (why : Refusal)
-    → ∥ ((forced : Kernel D g) × Keeps seen may_leave moment left_since k forced × IsForcedOut k forced × IsEndCause seen faults forced.core.operations.store.device device why) ∥₁ → why ≡ refusal.DeviceFailed → 0 < faults device
-end_failed seen may_leave moment left_since faults k device why x is = ∥∥₁_elim x (hlevel props) (λ (forced, keeps, out, e).
-    let grew : faults forced.core.operations.store.device < faults device = subst (λ (w : Refusal). IsEndCause seen faults forced.core.operations.store.device device w) is e in omega (arith, grew))
-
--- and 11 only where the next area has no room
-pub end_full : {D : Type 0} {g : Ghosts D} (seen : D → List ℕ) (may_leave : D → List ℕ → Type 0) (moment : D → ℕ) (left_since : D → ℕ → List ℕ → Type 0) (faults : D → ℕ) (k : Kernel D g) (device : D) (why : Refusal)
-    → ∥ ((forced : Kernel D g) × Keeps seen may_leave moment left_since k forced × IsForcedOut k forced × IsEndCause seen faults forced.core.operations.store.device device why) ∥₁ → why ≡ refusal.LogFull → ∥ From seen may_leave k (CannotTurnOver seen) ∥₁
-end_full seen may_leave moment left_since faults k device why x is = ∥∥₁_map x (λ (forced, keeps, out, e).
-    (forced, over_kept seen may_leave moment left_since k forced keeps, subst (λ (w : Refusal). IsEndCause seen faults forced.core.operations.store.device device w) is e))

@@ -12,7 +12,6 @@ use Rattle.mt_script.specs.declared.answers.Answer.{Answer}
 use Rattle.mt_script.specs.declared.lines.Line.{Line}
 use Rattle.mt_script.specs.declared.reader.Script.{Script}
 use Rattle.mt_alone.specs.declared.rotation.NotServed.{NotServed}
-use Rattle.mt_alone.specs.declared.rotation.NotServed.TheVariants.{Kept}
 use Rattle.mt_alone.specs.declared.script_run.RunFault.TheVariants as fault
 use Rattle.mt_script.specs.Answers.{AppendsFront, transcript_text}
 use Rattle.mt_alone.specs.Driven.{IsBeside}
@@ -20,7 +19,7 @@ use Rattle.mt_alone.specs.Plays.{Play, HasPlayed, Runs, put_off}
 use Rattle.mt_alone.specs.Runs.{HasTurned, last_line}
 use Rattle.mt_alone.specs.Stops.{Ends, IsStopAmong, lines_to, scripts_to, why_stopped}
 use Rattle.mt_alone.specs.declared.stops.Stop.{Stop}
-use Rattle.mt_alone.specs.Turnovers.{IsCutOff}
+use Rattle.mt_alone.specs.Turnovers.{IsCutOff, with_kernel}
 
 -- ---- texts
 
@@ -120,7 +119,7 @@ module _ {D : Type 0} {g : Ghosts D} (seen : D → List ℕ) (may_leave : D → 
 module _ {D : Type 0} {g : Ghosts D} (seen : D → List ℕ) (may_leave : D → List ℕ → Type 0) (faults : D → ℕ) where
   -- A session ended early: its line was not written whole, and nothing ran; or its script was cut short.
   pub data IsCutWithin (p : Play) (k : Kernel D g) (i : ℕ) (lines : List Line) (was now : Option (List ℕ)) : NotServed D g → Type 0 where
-    unheard_line : (n : Kernel D g) → AppendsFront was now (session_line i) → n ≡ k → IsCutWithin p k i lines was now (Kept fault.Output n)
+    unheard_line : (n : Kernel D g) → AppendsFront was now (session_line i) → n ≡ k → IsCutWithin p k i lines was now (with_kernel fault.Output n)
     cut_script : (mid : Option (List ℕ)) (left : NotServed D g) → Appends was mid (session_line i) → IsCutOff seen may_leave faults (in_session p i) k lines mid now left
         → IsCutWithin p k i lines was now left
 

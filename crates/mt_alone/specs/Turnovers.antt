@@ -7,40 +7,39 @@ use Rattle.mt_model.specs.History.{after}
 use Rattle.mt_model.specs.Model.{Base}
 use Rattle.mt_model.specs.declared.history.Committed.{Committed}
 use Rattle.mt_replay.specs.Stands.{CanRestart}
-use Rattle.mt_restart.specs.Recovered.{CannotTurn}
 use Rattle.mt_restart.specs.Rotated.{GoesOver}
+use Rattle.mt_restart.specs.declared.standing.Standing.{Standing}
+use Rattle.mt_restart.specs.declared.standing.Standing.TheVariants.{Stands, Ended}
 use Rattle.mt_script.specs.declared.lines.Line.{Line}
 use Rattle.mt_alone.specs.Driven.{IsBeside}
 use Rattle.mt_alone.specs.Plays.{Play}
 use Rattle.mt_alone.specs.Runs.{HasRun, HasRunLines, IsCut, IsLeftFor}
 use Rattle.mt_alone.specs.Stops.{lines_to, why_stopped}
 use Rattle.mt_alone.specs.declared.rotation.NotServed.{NotServed}
-use Rattle.mt_alone.specs.declared.rotation.NotServed.TheVariants.{Kept, Ended}
 use Rattle.mt_alone.specs.declared.script_run.RunFault.{RunFault}
 use Rattle.mt_alone.specs.declared.script_run.RunFault.TheVariants as fault
 use Rattle.mt_alone.specs.declared.stops.Stop.{Stop}
-use Rattle.mt_restart.specs.TurnFaults.{IsTurnFault}
 use Rattle.mt_txn.specs.Shown.{Restarts, SameSchema, StaysRestarting}
 use Rattle.mt_txn.specs.declared.kernel.Kernel.{Kernel}
 
 -- ---- what is left
 
-abbrev pub why_in : {D : Type 0} {g : Ghosts D} → NotServed D g → RunFault
-why_in (Kept why n) = why
-why_in (Ended why device) = why
+-- the kernel
+abbrev pub with_kernel : {D : Type 0} {g : Ghosts D} → RunFault → Kernel D g → NotServed D g
+with_kernel why n = record { why = why; left = Stands n }
 
--- the device, wherever it is now
-abbrev pub device_in : {D : Type 0} {g : Ghosts D} → NotServed D g → D
-device_in (Kept why n) = n.core.operations.store.device
-device_in (Ended why device) = device
-
--- the log of a kernel cannot turn over to its next area
-abbrev pub CannotTurnOver : {D : Type 0} {g : Ghosts D} → (D → List ℕ) → Kernel D g → Type 0
-CannotTurnOver seen k = CannotTurn (seen k.core.operations.store.device)
+-- the device that failed
+abbrev pub with_device : {D : Type 0} {g : Ghosts D} → RunFault → D → NotServed D g
+with_device why device = record { why = why; left = Ended device }
 
 -- whatever a crash leaves of the device, it represents what the play's commits lead to
 abbrev pub StandsForPlay : {D : Type 0} → (D → List ℕ → Type 0) → ℕ → ℕ → Play → D → Type 0
 StandsForPlay may_leave relations counters q device = (c : List ℕ) → may_leave device c → ∥ CanRestart relations counters c (after q.first q.book) ∥₁
+
+-- the device is left alone: it failed while the log was turned over
+abbrev pub IsDeviceLeft : {D : Type 0} → (D → List ℕ → Type 0) → (D → ℕ) → ℕ → ℕ → RunFault → D → Play → Type 0
+IsDeviceLeft may_leave faults relations counters fault.Output device q = (0 < faults device) × StandsForPlay may_leave relations counters q device
+IsDeviceLeft may_leave faults relations counters (fault.Refused why) device q = (why ≡ refusal.DeviceFailed) × (0 < faults device) × StandsForPlay may_leave relations counters q device
 
 -- so, or for what they and some further ones lead to, which were under way
 abbrev pub StandsForMore : {D : Type 0} → (D → List ℕ → Type 0) → ℕ → ℕ → Play → D → Type 0
@@ -81,25 +80,20 @@ module _ {D : Type 0} {g : Ghosts D} (seen : D → List ℕ) (may_leave : D → 
     pub counters_are : n.counters ≡ counters
 
 module _ {D : Type 0} {g : Ghosts D} (seen : D → List ℕ) (may_leave : D → List ℕ → Type 0) (faults : D → ℕ) where
-  -- The log of this kernel was to be turned over, and only the device is left. By 2 only if a call of the device has
-  -- failed; by 11 only if the next area has no room for a kernel that goes on as this one. Whatever a crash leaves of
-  -- the device represents what the book leads to.
-  pub record IsTurnedOut (k : Kernel D g) (why : Refusal) (device : D) : Type 0 where
-    pub cause : IsTurnFault why
-    pub failed : why ≡ refusal.DeviceFailed → 0 < faults device
-    pub full : why ≡ refusal.LogFull → ∥ From seen may_leave k (CannotTurnOver seen) ∥₁
+  -- The log of this kernel was to be turned over, and its device failed in that. Whatever a crash leaves of the device
+  -- represents what the book leads to.
+  pub record IsTurnedOut (k : Kernel D g) (device : D) : Type 0 where
+    pub failed : 0 < faults device
     pub stands : (first : Base) → Restarts seen may_leave first k → (c : List ℕ) → may_leave device c → ∥ CanRestart k.relations k.counters c (after first k.core.book.items) ∥₁
 
-  -- What is left after a play if serving ended early: the kernel; or the device, since its log could not be turned
-  -- over, which represents the commits. By 2 a call of it has failed; and by 11 the next area had no room for a
-  -- kernel that stands there.
+  -- what is left after a play if serving ended early: the kernel, or the device alone
+  abbrev pub IsLeftFrom : ℕ → ℕ → RunFault → Standing D g → Play → Type 0
+  IsLeftFrom relations counters why (Stands n) q = IsLeftFor seen may_leave faults q n why × RestartsFor seen may_leave relations counters q n
+  IsLeftFrom relations counters why (Ended device) q = IsDeviceLeft may_leave faults relations counters why device q
+
   abbrev pub IsLeftBy : ℕ → ℕ → NotServed D g → Play → Type 0
-  IsLeftBy relations counters (Kept why n) q = IsLeftFor seen may_leave faults q n why × RestartsFor seen may_leave relations counters q n
-  IsLeftBy relations counters (Ended fault.Output device) q = (0 < faults device) × StandsForPlay may_leave relations counters q device
-  IsLeftBy relations counters (Ended (fault.Refused why) device) q =
-      IsTurnFault why × (why ≡ refusal.DeviceFailed → 0 < faults device) × (why ≡ refusal.LogFull → ∥ ((n : Kernel D g) × IsBeside seen may_leave q None n × CannotTurnOver seen n) ∥₁)
-      × StandsForPlay may_leave relations counters q device
+  IsLeftBy relations counters left q = IsLeftFrom relations counters left.why left.left q
 
   -- lines were cut short so
   abbrev pub IsCutOff : Play → Kernel D g → List Line → Option (List ℕ) → Option (List ℕ) → NotServed D g → Type 0
-  IsCutOff p k lines was now left = From seen may_leave k (λ begun. IsCut seen may_leave (IsLeftBy k.relations k.counters left) p begun lines was now (why_in left))
+  IsCutOff p k lines was now left = From seen may_leave k (λ begun. IsCut seen may_leave (IsLeftBy k.relations k.counters left) p begun lines was now left.why)

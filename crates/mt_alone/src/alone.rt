@@ -8,8 +8,9 @@ ghost use Rattle.mt_alone.specs.Turnovers.{BesideFrom, GoesThrough, HasRunOut, I
 use crate::rotation::{NotServed, is_due, turned};
 use crate::script_run::{end_live, end_refused, run_line};
 use crate::stops::Stop;
-use mt_base::TxnNo;
+use mt_base::{Refusal, TxnNo};
 use mt_disk::Device;
+use mt_restart::Standing;
 use mt_script::{Line, Script};
 use mt_txn::Kernel;
 use std::alloc::Global;
@@ -42,14 +43,19 @@ fn run_each<D: Device + Drop, W: Write>(
         if live.is_none() && is_due(&kernel) {
             match turned(alloc, kernel, frames) {
                 Ok(next) => kernel = next,
-                Err((why, device)) => {
-                    return Err(NotServed::Ended(end_refused(writer, why), device));
+                Err(device) => {
+                    let why = end_refused(writer, Refusal::DeviceFailed);
+                    let left = Standing::Ended(device);
+                    return Err(NotServed { why, left });
                 }
             }
         }
         let now = match run_line(&mut kernel, session, stop, live, line, writer) {
             Ok(now) => now,
-            Err(why) => return Err(NotServed::Kept(why, kernel)),
+            Err(why) => {
+                let left = Standing::Stands(kernel);
+                return Err(NotServed { why, left });
+            }
         };
         live = now.0;
         if let Some(why) = now.1 {
@@ -63,15 +69,15 @@ fn run_each<D: Device + Drop, W: Write>(
 
 /// Runs a script on a kernel in which no transaction lives, as [`run_alone`](crate::run_alone) does. Before a line
 /// outside of a transaction it turns the log over, if more than half of its area is in use. The kernel then has so many
-/// pages in frames. If there is no memory to force the log, it is turned over before a later line.
+/// pages in frames. If that is refused for want of memory, or of room in the other area, the kernel goes on. It is tried
+/// again before a later line.
 ///
 /// If it is to stop, the script ends at the first line that is refused with anything but `Escrow` and `Die`. A
 /// transaction that is open there is aborted, with the line `aborted`. So it is run as a script that ends with that
 /// line, which is given with the kernel.
 ///
-/// Refused for what `run_alone` is refused, with the kernel as that leaves it. If a log that was to be turned over
-/// leaves no kernel, refused with the device, as [`rotate`](mt_restart::rotate) is then. That is 1, 2, which is the
-/// transcript's last line, or 11.
+/// Refused for what `run_alone` is refused, with the kernel as that leaves it. If the device fails while the log is
+/// turned over, refused with 2, which is the transcript's last line, and with the device.
 ///
 /// What is promised holds beside whatever play of the model the kernel stands at, from whose first base it can be
 /// restarted.
@@ -106,6 +112,9 @@ pub fn run_script<D: Device + Drop, W: Write>(
     let mut kernel = kernel;
     match end_live(&mut kernel, txn, writer) {
         Ok(()) => Ok((kernel, stopped)),
-        Err(why) => Err(NotServed::Kept(why, kernel)),
+        Err(why) => {
+            let left = Standing::Stands(kernel);
+            Err(NotServed { why, left })
+        }
     }
 }

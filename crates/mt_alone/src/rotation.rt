@@ -2,22 +2,23 @@
 ghost use Rattle.std.specs.Prelude.{◌≡◌, ◌↔◌, ◌<◌, ◌/◌, ℕ, IfErr, IfOk, IsTrue};
 ghost use Rattle.mt_log.specs.Words.{area_size, used};
 ghost use Rattle.mt_restart.specs.Rotated.{GoesOver};
+ghost use Rattle.mt_restart.specs.Standings.{device_at};
 ghost use Rattle.mt_alone.specs.Plays.{Play};
-ghost use Rattle.mt_alone.specs.Turnovers.{IsLeftBy, IsTurnedOut, StandsForMore, device_in, why_in};
+ghost use Rattle.mt_alone.specs.Turnovers.{IsLeftBy, IsTurnedOut, StandsForMore};
 
 use crate::script_run::RunFault;
-use mt_base::Refusal;
 use mt_disk::Device;
-use mt_restart::{NotRotated, rotate};
+use mt_restart::{Standing, rotate};
 use mt_txn::Kernel;
 use std::alloc::Global;
 
-/// What is left if scripts were not served to their end, and why.
-pub enum NotServed<D: Device> {
-    /// The kernel, as the script leaves it that did not run to its end.
-    Kept(RunFault, Kernel<D>),
-    /// The log was to be turned over, and the kernel is gone with its book. The device is to be opened again.
-    Ended(RunFault, D),
+/// Why scripts were not served to their end, and what is left.
+pub struct NotServed<D: Device> {
+    /// Why they were not.
+    pub why: RunFault,
+    /// The kernel, as the script leaves it that did not run to its end. Or the device, if it failed while the log was
+    /// turned over.
+    pub left: Standing<D>,
 }
 
 impl<D: Device + Drop> NotServed<D> {
@@ -26,18 +27,19 @@ impl<D: Device + Drop> NotServed<D> {
     /// Whatever a crash leaves of the device then stands for the play's commits, or for these and some that were under
     /// way.
     pub fn into_device(self) -> (RunFault, D)
-        ensures why { result.0 ≡ why_in self }
-        ensures device { result.1 ≡ device_in self }
+        ensures why { result.0 ≡ self.why }
+        ensures device { result.1 ≡ device_at self.left }
         ensures stands { (relations counters : ℕ) (q : Play)
             → IsLeftBy D.seen D.may_leave D.faults relations counters self q
             → StandsForMore D.may_leave relations counters q result.1 }
     {
-        match self {
-            NotServed::Kept(why, kernel) => {
+        let NotServed { why, left } = self;
+        match left {
+            Standing::Stands(kernel) => {
                 kernel.can_restart();
                 (why, kernel.into_device())
             }
-            NotServed::Ended(why, device) => (why, device),
+            Standing::Ended(device) => (why, device),
         }
     }
 }
@@ -49,19 +51,20 @@ pub(crate) fn is_due<D: Device>(kernel: &Kernel<D>) -> bool
     kernel.used() > kernel.area_size() / 2
 }
 
-/// Turns the log over. If it cannot be forced for want of memory, or a transaction lives, it is left as it is. There
-/// is an error only if the kernel is gone.
+/// Turns the log over. If that is refused, the kernel goes on over its log as it is: a transaction lives, memory is
+/// wanting, or its images have no room in the other area. There is an error only if the device failed and the kernel
+/// is gone.
 pub(crate) fn turned<D: Device + Drop>(
     alloc: Global,
     kernel: Kernel<D>,
     frames: usize,
-) -> Result<Kernel<D>, (Refusal, D)>
+) -> Result<Kernel<D>, D>
     ensures over { IfOk result (GoesOver D.seen D.may_leave kernel) }
-    ensures out { IfErr result (λ gone. IsTurnedOut D.seen D.may_leave D.faults kernel gone.0 gone.1) }
+    ensures out { IfErr result (IsTurnedOut D.seen D.may_leave D.faults kernel) }
 {
-    match rotate(alloc, kernel, frames) {
-        Ok(kernel) => Ok(kernel),
-        Err(NotRotated::Kept(_, kernel)) => Ok(kernel),
-        Err(NotRotated::Ended(why, device)) => Err((why, device)),
+    let (standing, _outcome) = rotate(alloc, kernel, frames);
+    match standing {
+        Standing::Stands(kernel) => Ok(kernel),
+        Standing::Ended(device) => Err(device),
     }
 }

@@ -13,6 +13,7 @@ use crate::script_run::RunFault;
 use crate::stops::Stop;
 use itoa::Buffer;
 use mt_disk::Device;
+use mt_restart::Standing;
 use mt_script::{Script, Unheard, put_all};
 use mt_txn::Kernel;
 use std::alloc::Global;
@@ -51,7 +52,13 @@ fn run_session<D: Device + Drop, W: Write>(
 {
     match write_session(writer, session) {
         Ok(()) => run_script(alloc, kernel, frames, session, stop, script, writer),
-        Err(_) => Err(NotServed::Kept(RunFault::Output, kernel)),
+        Err(_) => {
+            let left = Standing::Stands(kernel);
+            Err(NotServed {
+                why: RunFault::Output,
+                left,
+            })
+        }
     }
 }
 
@@ -60,13 +67,13 @@ fn run_session<D: Device + Drop, W: Write>(
 ///
 /// Before a line outside of a transaction the kernel's log is turned over, if more than half of its area is in
 /// use. The kernel then has so many pages in frames. So the log of many short transactions does not fill. The play
-/// sees nothing of it. If there is no memory to force the log, it is turned over before a later line.
+/// sees nothing of it. If that is refused for want of memory, or of room in the other area, the kernel goes on. It is
+/// tried again before a later line.
 ///
 /// It stops at the first script that does not run to its end, for what `run_alone` answers, with the kernel as that
 /// leaves it. Scripts after that one are not begun. `Output` too if a session's line cannot be written: nothing
-/// of its script ran then. If a log that was to be turned over leaves no kernel, it stops with the device, by what
-/// [`rotate`](mt_restart::rotate) is refused with then. That is 1, 2, which is the transcript's last line, or 11. The
-/// scripts are [`MAX_SESSIONS`](mt_base::limits::MAX_SESSIONS) at most.
+/// of its script ran then. If the device fails while the log is turned over, it stops with the device, by 2, which is
+/// the transcript's last line. The scripts are [`MAX_SESSIONS`](mt_base::limits::MAX_SESSIONS) at most.
 ///
 /// If they are to stop, the first line that is refused with anything but `Escrow` and `Die` is the last of its script,
 /// and that script is the last. A transaction that is open there is aborted, with the line `aborted`. So the scripts

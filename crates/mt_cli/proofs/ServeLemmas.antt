@@ -14,12 +14,11 @@ use Rattle.mt_txn.specs.Shown.{Restarts, SameSchema, StaysRestarting}
 use Rattle.mt_txn.specs.declared.kernel.Kernel.{Kernel}
 use Rattle.mt_alone.specs.Driven.{IsBeside}
 use Rattle.mt_alone.specs.Plays.{Play}
-use Rattle.mt_alone.specs.Turnovers.{IsCutOff, IsLeftBy, StandsForMore, why_in}
+use Rattle.mt_alone.specs.Turnovers.{IsCutOff, IsLeftBy, StandsForMore, with_kernel}
 use Rattle.mt_alone.specs.Sessions.{AreCutShort, HasServed, HaveServed, HavePlayed, IsCutWithin, unheard_line, cut_script, Serves, StandsEach, no_script, then_script, in_session}
 use Rattle.mt_script.specs.declared.answers.Answer.{Answer}
 use Rattle.mt_script.specs.declared.lines.Line.{Line}
 use Rattle.mt_alone.specs.declared.rotation.NotServed.{NotServed}
-use Rattle.mt_alone.specs.declared.rotation.NotServed.TheVariants.{Kept}
 use Rattle.mt_alone.specs.declared.script_run.RunFault.{RunFault}
 use Rattle.mt_alone.specs.declared.script_run.RunFault.TheVariants as run
 use Rattle.mt_folder.proofs.FolderLemmas.{kept_then, put_then}
@@ -103,7 +102,7 @@ module _ {D : Type 0} {g : Ghosts D} (seen : D → List ℕ) (may_leave : D → 
     leaves_standing b left device d leaves stands relations counters q first x = subst (λ (on : Base). StandForMore relations counters on q.book d) first (stands relations counters q x d leaves)
 
     short_of : (relations counters : ℕ) (b : Base) (p : Play) (k : Kernel D g) (lines : List Line) (was now : Option (List ℕ)) (left : NotServed D g) (d : List ℕ) → k.relations ≡ relations → k.counters ≡ counters → p.first ≡ b → LeavesStanding b left d
-        → IsCutOff seen may_leave faults p k lines was now left → IsShortOf relations counters (λ book. StandForMore relations counters b book d) p lines was now (why_in left)
+        → IsCutOff seen may_leave faults p k lines was now left → IsShortOf relations counters (λ book. StandForMore relations counters b book d) p lines was now left.why
     short_of relations counters b p k lines was now left d rs cs first stands (begun, over, x) = record {
       before = x.before;
       rest = x.rest;
@@ -118,21 +117,21 @@ module _ {D : Type 0} {g : Ghosts D} (seen : D → List ℕ) (may_leave : D → 
     }
 
     -- a kernel whose session's line was not written whole
-    unbegun : (p : Play) (k n : Kernel D g) → IsBeside seen may_leave p None k → Restarts seen may_leave p.first k → n ≡ k → IsLeftBy seen may_leave faults k.relations k.counters (Kept run.Output n) p
-    unbegun p k n beside restarts same = subst (λ (m : Kernel D g). IsLeftBy seen may_leave faults k.relations k.counters (Kept run.Output m) p) (sym same)
+    unbegun : (p : Play) (k n : Kernel D g) → IsBeside seen may_leave p None k → Restarts seen may_leave p.first k → n ≡ k → IsLeftBy seen may_leave faults k.relations k.counters (with_kernel run.Output n) p
+    unbegun p k n beside restarts same = subst (λ (m : Kernel D g). IsLeftBy seen may_leave faults k.relations k.counters (with_kernel run.Output m) p) (sym same)
         (inl (left_resting seen may_leave faults p k k beside), record { restarts = restarts; relations_are = refl; counters_are = refl })
 
     within : (relations counters : ℕ) (b : Base) (p : Play) (k : Kernel D g) (i : ℕ) (lines : List Line) (was now : Option (List ℕ)) (left : NotServed D g) (d : List ℕ) → k.relations ≡ relations → k.counters ≡ counters → p.first ≡ b → LeavesStanding b left d
         → IsBeside seen may_leave p None k → Restarts seen may_leave p.first k → IsCutWithin seen may_leave faults p k i lines was now left
-        → IsShortWithin relations counters (λ book. StandForMore relations counters b book d) p i lines was now (why_in left)
+        → IsShortWithin relations counters (λ book. StandForMore relations counters b book d) p i lines was now left.why
     within relations counters b p k i lines was now _ d rs cs first stands beside restarts (unheard_line n front same) =
         unheard_session front (subst (λ (X : Type 0). X) (λ i. StandForMore (rs i) (cs i) b p.book d) (stands k.relations k.counters p first (unbegun p k n beside restarts same)))
     within relations counters b p k i lines was now _ d rs cs first stands beside restarts (cut_script mid left outcome cut) =
-        short_session mid (why_in left) outcome (short_of relations counters b (in_session p i) k lines mid now left d rs cs first stands cut)
+        short_session mid left.why outcome (short_of relations counters b (in_session p i) k lines mid now left d rs cs first stands cut)
 
     pub short_on : (stop : Bool) (relations counters : ℕ) (b : Base) (k : Kernel D g) (scripts : List (List Line)) (was now : Option (List ℕ)) (left : NotServed D g) (device : D) (d : List ℕ) → IsOpened seen may_leave relations counters b k → may_leave device d
         → ((r m : ℕ) (q : Play) → IsLeftBy seen may_leave faults r m left q → StandsForMore may_leave r m q device)
-        → StandsEach seen may_leave k (λ p. AreCutShort seen may_leave faults stop p k scripts was now left) → AreShortOn relations counters b scripts was now d (why_in left)
+        → StandsEach seen may_leave k (λ p. AreCutShort seen may_leave faults stop p k scripts was now left) → AreShortOn relations counters b scripts was now d left.why
     short_on stop relations counters b k scripts was now left device d opened leaves stands cut =
         let x = cut (first_on b) (beside_first relations counters b k opened) opened.restarts in
         let kept = schema_kept (first_on b, k) (x.ran.play, x.last) x.before x.ran.transcripts x.ran.served in

@@ -19,12 +19,13 @@ use Rattle.mt_script.specs.declared.answers.Answer.{Answer}
 use Rattle.mt_alone.specs.declared.script_run.RunFault.{RunFault}
 use Rattle.mt_alone.specs.declared.script_run.RunFault.TheVariants as run
 use Rattle.mt_alone.specs.declared.rotation.NotServed.{NotServed}
-use Rattle.mt_alone.specs.declared.rotation.NotServed.TheVariants.{Kept, Ended}
+use Rattle.mt_restart.specs.declared.standing.Standing.{Standing}
+use Rattle.mt_restart.specs.declared.standing.Standing.TheVariants.{Stands, Ended}
 use Rattle.mt_alone.specs.declared.stops.Stop.{Stop}
 use Rattle.mt_alone.specs.Plays.{Play, IsTurn, acts, refuses, Runs, starts, goes_on, HasPlayed}
 use Rattle.mt_alone.specs.Runs.{HasTurned, IsEndedFor}
 use Rattle.mt_alone.specs.Stops.{IsStopIn}
-use Rattle.mt_alone.specs.Turnovers.{BesideFrom, HasRunOut, IsCutOff, IsLeftBy, why_in}
+use Rattle.mt_alone.specs.Turnovers.{BesideFrom, HasRunOut, IsCutOff, IsLeftBy, IsLeftFrom}
 use Rattle.mt_alone.proofs.TurnoverLemmas.{resting_over}
 use Rattle.mt_cli.specs.Performs.{HasTried, IsCutTrial, IsFirst, IsFirstSchema, IsShort, StandsFirst, stopped}
 use Rattle.mt_cli.specs.Serves.{AreEndedBy, end_of}
@@ -82,18 +83,17 @@ module _ {D : Type 0} {g : Ghosts D} (seen : D → List ℕ) (may_leave : D → 
   module _ (faults : D → ℕ) where
     ended_by : (n : Kernel D g) (why : RunFault) → IsEndedFor faults n why → AreEndedBy why
     ended_by n run.Output ended = tt
-    ended_by n (run.Refused refusal.NoMemory) ended = inl (inl refl)
-    ended_by n (run.Refused y) ended = inl (inr (ended (λ e. cc)).0)
+    ended_by n (run.Refused refusal.NoMemory) ended = inl refl
+    ended_by n (run.Refused y) ended = inr (ended (λ e. cc)).0
+
+    ended_from : (relations counters : ℕ) (why : RunFault) (standing : Standing D g) (q : Play) → IsLeftFrom seen may_leave faults relations counters why standing q → AreEndedBy why
+    ended_from relations counters run.Output standing q x = tt
+    ended_from relations counters (run.Refused why) (Stands n) q x = ended_by n (run.Refused why) x.0.1
+    ended_from relations counters (run.Refused why) (Ended device) q x = inr x.0
 
     -- why a run ended of which this is left
-    pub ended_among : (relations counters : ℕ) (left : NotServed D g) (q : Play) → IsLeftBy seen may_leave faults relations counters left q → AreEndedBy (why_in left)
-    ended_among relations counters (Kept run.Output n) q x = tt
-    ended_among relations counters (Kept (run.Refused why) n) q x = ended_by n (run.Refused why) x.0.1
-    ended_among relations counters (Ended run.Output device) q x = tt
-    ended_among relations counters (Ended (run.Refused refusal.NoMemory) device) q x = inl (inl refl)
-    ended_among relations counters (Ended (run.Refused refusal.DeviceFailed) device) q x = inl (inr refl)
-    ended_among relations counters (Ended (run.Refused refusal.LogFull) device) q x = inr refl
-    ended_among relations counters (Ended (run.Refused why) device) q x = absurd x.0
+    pub ended_among : (relations counters : ℕ) (left : NotServed D g) (q : Play) → IsLeftBy seen may_leave faults relations counters left q → AreEndedBy left.why
+    ended_among relations counters left q x = ended_from relations counters left.why left.left q x
 
 module _ {D : Type 0} (g : Ghosts D) where
   -- so does one that goes on as it, with its log turned over
@@ -124,7 +124,7 @@ module _ {D : Type 0} (g : Ghosts D) where
       }
 
   pub short_of : (k : Kernel D g) (lines : List Line) (was now : Option (List ℕ)) (left : NotServed D g) → StandsFirst g.seen g.may_leave k
-      → BesideFrom g.seen g.may_leave 1 None k (λ p. IsCutOff g.seen g.may_leave g.faults p k lines was now left) → IsShort g lines was now (why_in left)
+      → BesideFrom g.seen g.may_leave 1 None k (λ p. IsCutOff g.seen g.may_leave g.faults p k lines was now left) → IsShort g lines was now left.why
   unfolding stands_over
   short_of k lines was now left at cut =
       let (begun, over, x) = cut at.play at.first.session at.beside at.restarts in

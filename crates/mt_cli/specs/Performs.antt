@@ -44,7 +44,7 @@ use Rattle.mt_alone.specs.Runs.{HasTurned, IsReportedFor, last_line}
 use Rattle.mt_world.specs.Schedules.{HasRunTo}
 use Rattle.mt_world.specs.declared.events.Answer.{Answer as Reported}
 use Rattle.mt_world.specs.declared.events.Event.{Event}
-use Rattle.mt_world.specs.declared.kernel_or_device.Standing.{Standing}
+use Rattle.mt_restart.specs.declared.standing.Standing.{Standing}
 
 -- two relations without rows, and one counter from 0 to 10 that starts at 5
 pub record IsFirstSchema (schema : Schema) : Type 0 where

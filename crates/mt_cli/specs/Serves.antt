@@ -1,5 +1,5 @@
 -- Scripts that are served to the device in a file.
-use Rattle.std.specs.Prelude.{ℕ, ◌≡◌, ◌⊎◌, ◌<◌, ◌≤◌, ◌+◌, List, [], ◌∷◌, ◌++◌, length, Bool, true, false, Option, Some, None, Result, Ok, Err}
+use Rattle.std.specs.Prelude.{ℕ, ◌≡◌, ◌<◌, ◌≤◌, ◌+◌, List, [], ◌∷◌, ◌++◌, length, Bool, true, false, Option, Some, None, Result, Ok, Err}
 use Rattle.std.specs.Io.KnownBytes.{Appends, Keeps}
 use Rattle.mt_base.specs.declared.limits.TheConstants.{MAX_SESSIONS}
 use Rattle.mt_base.specs.declared.refusal.Refusal.{Refusal}
@@ -45,11 +45,10 @@ end_of (Ok None) = Ok tt
 end_of (Ok (Some at)) = Err (Stopped at)
 end_of (Err why) = Err (fault_of why)
 
--- a run is cut short by the output, for want of memory, since the device failed, or since a log that was to be turned
--- over cannot be
+-- a run is cut short by the output, for want of memory, or since the device failed
 abbrev pub AreEndedBy : RunFault → Type 0
 AreEndedBy run.Output = Unit {0}
-AreEndedBy (run.Refused why) = IsUnmade why ⊎ (why ≡ refusal.LogFull)
+AreEndedBy (run.Refused why) = IsUnmade why
 
 -- ---- on a base
 

@@ -44,3 +44,4 @@ pub mod Prefixed
 pub mod Lasting
 pub mod Restarts
 pub mod Turning
+pub mod Detached

@@ -1,5 +1,5 @@
 -- What the parts of a kernel keep of one another.
-use Rattle.std.specs.Prelude.{ℕ, ◌≡◌, ◌≢◌, ◌<◌, ◌≤◌, ◌+◌, ◌-◌, ◌++◌, ◌*◌, ◌^◌, ◌==◌, [], true, false, List, length, vec_len, All, AllPairs, is_some, Option, Some, None, Result, Ok, Err, slice_index_or}
+use Rattle.std.specs.Prelude.{ℕ, ◌≡◌, ◌≢◌, ◌<◌, ◌≤◌, ◌+◌, ◌-◌, ◌++◌, ◌*◌, ◌==◌, [], true, false, List, length, vec_len, All, AllPairs, is_some, Option, Some, None, Result, Ok, Err, slice_index_or}
 use Rattle.std.specs.List.{sum_by, list_any}
 use Rattle.std.specs.Option.{option_map}
 use Rattle.std.specs.Vec.{vec_capacity}

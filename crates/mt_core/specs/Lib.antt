@@ -6,5 +6,6 @@ pub mod Work
 pub mod Booked
 pub mod Restartable
 pub mod Turned
+pub mod Detached
 pub mod PageLocks
 pub mod Advancing

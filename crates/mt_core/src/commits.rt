@@ -197,6 +197,7 @@ impl<D: Device> Core<D> {
         ensures only_device { IfErr result (λ why. why ≡ Refusal.DeviceFailed) }
         ensures cause { IsErr result → (D.faults self.old.operations.store.device
             < D.faults self.new.operations.store.device ⊎ (has_failed self.old.operations.store.log ≡ true)) }
+        ensures well { IsOk result → has_failed self.new.operations.store.log ≡ false }
         ensures quiet { IsOk result
             → D.faults self.new.operations.store.device ≡ D.faults self.old.operations.store.device }
         ensures moments { LeavesExplained D.seen D.may_leave D.moment D.left_since self.old self.new }

@@ -9,6 +9,7 @@
 
 mod calls;
 mod commits;
+mod detached_core;
 mod drops;
 mod ends;
 mod next_area;
@@ -19,6 +20,7 @@ mod undo;
 mod views;
 
 pub use calls::Called;
+pub use detached_core::DetachedCore;
 pub use next_area::Rest;
 pub use parts::{Commit, Core, Running};
 pub use steps::{Going, Stepping};

@@ -1,6 +1,6 @@
 // Turns the log of a kernel over, by `rotate` of mt_restart, and keeps the kernel's base beside what comes of it.
 // `kept` alone calls it.
-ghost use Rattle.std.specs.Prelude.{◌≡◌, ◌↔◌, Ok, true, false, length, IfOk, IfErr, IsErr, IsTrue};
+ghost use Rattle.std.specs.Prelude.{◌≡◌, ◌↔◌, Ok, true, false, length, IfOk, IfErr, IsErr, IsOk, IsTrue};
 ghost use Rattle.mt_locked.specs.Seen.{IsTurned, KeepsAll, seen_of, whole};
 ghost use Rattle.mt_restart.specs.TurnFaults.{IsTurnFault};
 ghost use Rattle.mt_locked.specs.Turns.{HasTurned};
@@ -9,7 +9,7 @@ use crate::based::Based;
 use crate::past::{Past, reported_of};
 use mt_base::Refusal;
 use mt_disk::Device;
-use mt_restart::{NotRotated, rotate};
+use mt_restart::{Standing, rotate};
 use std::alloc::Global;
 
 // What a rotation gives: the kernel, or the device that was left of it, and its past, if none is left. With it is
@@ -41,6 +41,18 @@ fn answer_to(why: Refusal) -> Result<bool, Refusal>
     match why {
         Refusal::NoMemory | Refusal::DeviceFailed | Refusal::LogFull => Err(why),
         _ => Ok(false),
+    }
+}
+
+// Whether a rotation that left the kernel turned the log over.
+fn has_turned(outcome: Result<(), Refusal>) -> Result<bool, Refusal>
+    ensures why { IfErr result IsTurnFault }
+    ensures did { result ≡ Ok true → IsOk outcome }
+    ensures fault { IfErr outcome (λ why. IsTurnFault why → IsErr result) }
+{
+    match outcome {
+        Ok(()) => Ok(true),
+        Err(why) => answer_to(why),
     }
 }
 
@@ -82,17 +94,17 @@ fn rotated<D: Device + Drop>(kernel: Based<D>, alloc: Global, frames: usize) -> 
     let len = book.len() as u64;
     let reported = reported_of(book);
     let Based { kernel, base } = kernel;
-    match rotate(alloc, kernel, frames) {
-        Ok(kernel) => kept(Based { kernel, base }, Ok(true)),
-        Err(NotRotated::Kept(why, kernel)) => kept(Based { kernel, base }, answer_to(why)),
-        Err(NotRotated::Ended(why, device)) => Turned {
+    let (standing, outcome) = rotate(alloc, kernel, frames);
+    match standing {
+        Standing::Stands(kernel) => kept(Based { kernel, base }, has_turned(outcome)),
+        Standing::Ended(device) => Turned {
             held: Err(device),
             past: Past {
                 len,
                 base,
                 book: reported,
             },
-            outcome: answer_to(why),
+            outcome: Err(Refusal::DeviceFailed),
         },
     }
 }

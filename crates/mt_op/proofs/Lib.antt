@@ -31,6 +31,7 @@ pub mod Begun
 pub mod Parted
 pub mod Roomed
 pub mod Surveyed
+pub mod Detached
 pub mod Known
 pub mod Unready
 pub mod Choosing

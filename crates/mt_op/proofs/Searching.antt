@@ -1,6 +1,6 @@
 -- How far the search for an operation's key has come stays so as it looks at more pages.
 use Rattle.std.proofs.Props.{props}
-use Rattle.std.proofs.Common.{◌≡◌, ℕ, List, [], ◌∷◌, ◌++◌, Option, Some, sym, ◌∙◌, ap, subst}
+use Rattle.std.proofs.Common.{◌≡◌, ℕ, List, ◌++◌, Option, Some, sym, ◌∙◌, ap, subst}
 use Rattle.mt_index.specs.Answers.{IsSearched}
 use Rattle.mt_index.specs.declared.answers.Search.{Search}
 use Rattle.mt_index.specs.declared.answers.Search.TheVariants as search

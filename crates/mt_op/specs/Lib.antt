@@ -9,3 +9,4 @@ pub mod Room
 pub mod Work
 pub mod Stepping
 pub mod Surveyed
+pub mod Detached

@@ -10,6 +10,7 @@
 #![tactic(auto)]
 
 mod answers;
+mod detached_operations;
 mod next_area;
 mod operations;
 mod page_locks;
@@ -21,6 +22,7 @@ mod survey;
 mod take_back;
 
 pub use answers::{Stepped, TakenBack};
+pub use detached_operations::DetachedOperations;
 pub use next_area::Idle;
 pub use operations::{NotOpened, Operations};
 pub use scope::{OpScope, Stage};

@@ -306,6 +306,7 @@ impl<D: Device> Operations<D> {
         ensures only_device { IfErr result (λ why. why ≡ Refusal.DeviceFailed) }
         ensures cause { IsErr result → (D.faults self.old.store.device < D.faults self.new.store.device
             ⊎ (has_failed self.old.store.log ≡ true)) }
+        ensures well { IsOk result → has_failed self.new.store.log ≡ false }
         ensures quiet { IsOk result → D.faults self.new.store.device ≡ D.faults self.old.store.device }
     {
         self.store.force_step()

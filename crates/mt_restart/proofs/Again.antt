@@ -1,7 +1,7 @@
 -- What a crash leaves while a device is recovered stands for the base that its bytes stood for.
-use Rattle.std.proofs.Common.{◌≡◌, inl, inr, ◌≤◌, ℕ, List, sym, subst}
+use Rattle.std.proofs.Common.{◌≡◌, ◌∙◌, inl, inr, ◌≤◌, ℕ, List, sym, subst}
 use Rattle.mt_disk.specs.Disk.{Elapses, LeavesOnly, Only}
-use Rattle.mt_disk.proofs.Frame.{leaves_more, reads_on, runs_both}
+use Rattle.mt_disk.proofs.Frame.{leaves_more, reads_on, runs_both, runs_on}
 use Rattle.mt_frame.specs.Laws.{OneSlot}
 use Rattle.mt_frame.specs.declared.records.Record.{Record}
 use Rattle.mt_log.specs.Quiet.{OnlyReads}
@@ -12,6 +12,15 @@ use Rattle.mt_restart.specs.Found.{ReadsOldOrNext}
 use Rattle.mt_restart.specs.Recovered.{IsFound, StandsStill}
 use Rattle.mt_restart.specs.declared.recovery.Findings.{Findings}
 use Rattle.mt_restart.proofs.Restarting.{either_restarts, read_first}
+
+-- a device that was synced and then read was only read
+pub read_synced : {D : Type 0} (seen : D → List ℕ) (may : D → List ℕ → Type 0) (moment : D → ℕ) (left_since : D → ℕ → List ℕ → Type 0) → ((d : D) (c : List ℕ) → left_since d (moment d) c → may d c) → (o s n : D) → seen s ≡ seen o
+    → Elapses (moment o) (moment s) (left_since o) (left_since s) (may s) → ((c : List ℕ) → may s c → may o c) → OnlyReads seen may moment left_since s n → OnlyReads seen may moment left_since o n
+read_synced seen may moment left_since only_now o s n same time less reads = record {
+  same = reads.same ∙ same;
+  less = λ c left. less c (reads.less c left);
+  moments = runs_on moment left_since may only_now o s n (reads_on moment left_since may only_now o s time less) reads.moments less;
+}
 
 module _ {D : Type 0} (seen : D → List ℕ) (may : D → List ℕ → Type 0) (moment : D → ℕ) (left_since : D → ℕ → List ℕ → Type 0) (only_now : (d : D) (c : List ℕ) → left_since d (moment d) c → may d c)
     (counts_now : (d : D) (t : ℕ) (c : List ℕ) → t ≤ moment d → may d c → left_since d t c) (o s n : D) (same : seen s ≡ seen o) (reads : OnlyReads seen may moment left_since s n)

@@ -1,12 +1,12 @@
 -- What stands on a device stays where others of its bytes are torn.
-use Rattle.std.proofs.Common.{◌≡◌, ◌⊎◌, inl, inr, ⊎_elim, ◌<◌, ◌≤◌, ◌+◌, ◌-◌, ◌*◌, ℕ, List, length, refl, sym, ap, ◌∙◌, arith}
+use Rattle.std.proofs.Common.{◌⊎◌, inl, inr, ⊎_elim, ◌<◌, ◌≤◌, ◌+◌, ◌-◌, ◌*◌, ℕ, List, sym, ap, ◌∙◌, arith}
 use Rattle.mt_disk.specs.Disk.{Apart, Torn}
 use Rattle.mt_disk.proofs.Frame.{get_torn}
 use Rattle.mt_frame.specs.declared.records.Record.{Record}
 use Rattle.mt_log.specs.Holds.{HoldsBatches}
 use Rattle.mt_log.proofs.Elsewhere.{stands_apart}
 use Rattle.mt_log.proofs.Steps.{stands_le}
-use Rattle.mt_pool.specs.Images.{Carried, GivesPages, page_in, slot}
+use Rattle.mt_pool.specs.Images.{Carried, GivesPages, page_in}
 use Rattle.mt_pool.proofs.Safe.{cut_torn, slot_apart}
 
 -- ---- the batches of an area

@@ -22,8 +22,9 @@ mod Based
 mod Listing
 mod Surveying
 mod Opened
+pub mod EarlyCauses
 mod Rotations
+pub mod Standings
 mod Founded
 mod Counted
-pub mod Ending
 pub mod Living

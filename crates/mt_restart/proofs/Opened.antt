@@ -1,5 +1,5 @@
 -- A kernel over a device that was recovered.
-use Rattle.std.proofs.Common.{◌≡◌, ◌∙◌, ⊎_elim, ◌++◌, ◌+◌, ◌*◌, ◌<◌, ◌≤◌, ℕ, List, [], length, refl, sym, ap, subst, arith, append-nil}
+use Rattle.std.proofs.Common.{◌≡◌, ◌∙◌, ◌++◌, ◌+◌, ◌*◌, ◌<◌, ◌≤◌, ℕ, List, [], length, refl, sym, ap, subst, arith, append-nil}
 use Rattle.std.specs.List.{AllByRecursion}
 use Rattle.std.proofs.lemmas.List.{length-map}
 use Rattle.mt_disk.specs.declared.device.Device.{Ghosts}

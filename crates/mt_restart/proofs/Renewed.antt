@@ -1,7 +1,7 @@
 -- What is known of a device while its log turns over, call by call.
 use Rattle.std.proofs.Common.{true, ◌≡◌, inl, inr, ⊎_elim, ℕ, ◌+◌, ◌*◌, ◌<◌, ◌≤◌, Bool, false, List, [], ◌∷◌, length, get_or, sym, ap, ◌∙◌, subst, arith, append-nil}
-use Rattle.mt_disk.specs.Disk.{Elapses, Follows, LeavesOnly, Only, Torn}
-use Rattle.mt_disk.proofs.Frame.{follows_less, leaves_more, reads_on, runs_both, torn_refl}
+use Rattle.mt_disk.specs.Disk.{Follows, LeavesOnly, Only, Torn}
+use Rattle.mt_disk.proofs.Frame.{leaves_more, runs_both}
 use Rattle.mt_frame.specs.declared.records.Record.{Record}
 use Rattle.mt_frame.specs.declared.slots.MasterSlot.{MasterSlot}
 use Rattle.mt_index.specs.Checks.{bytes_of}

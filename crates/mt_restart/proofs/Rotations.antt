@@ -1,10 +1,9 @@
 -- A kernel whose log is turned over.
-use Rattle.std.proofs.Common.{◌≡◌, ◌⊎◌, ◌<◌, true, ◌≤◌, ◌+◌, ◌-◌, ◌++◌, inl, inr, ⊎_elim, ℕ, List, [], ◌∷◌, length, take, map, suc, zero, Result, Ok, Err, refl, sym, ap, ◌∙◌, subst, arith, append-nil, append_assoc}
-use Rattle.std.proofs.Math.Dec.{eqb-suc-zero}
+use Rattle.std.proofs.Common.{◌≡◌, ◌⊎◌, ◌<◌, true, ◌≤◌, ◌++◌, inl, inr, ⊎_elim, ℕ, List, [], length, suc, Result, Ok, Err, refl, sym, ap, ◌∙◌, subst, arith, append-nil, append_assoc}
 use Rattle.std.proofs.lemmas.Bool.{cases_lt}
 use Rattle.std.proofs.lemmas.List.{length-append}
 use Rattle.std.proofs.Props.{props}
-use Rattle.std.specs.Prelude.{◌≢◌, if◌then◌else◌, nat_eq, Bool, false, IfOk, None, Some}
+use Rattle.std.specs.Prelude.{◌≢◌, ◌||◌, false, IfOk, None}
 use mathlib.Core.Logic.{∥∥₁_elim, ∥∥₁_map, ∥∥₁_prop}
 use Rattle.mt_base.specs.Limits.{IsRelationCount}
 use Rattle.mt_base.specs.declared.refusal.Refusal.{Refusal}
@@ -14,10 +13,12 @@ use Rattle.mt_disk.specs.declared.device.Device.{Ghosts}
 use Rattle.mt_frame.specs.declared.records.Record.{Record}
 use Rattle.mt_core.proofs.First.{none_of_none}
 use Rattle.mt_core.specs.Booked.{booked_each, durable_txns}
-use Rattle.mt_core.specs.Consistent.{SameUncommitted}
 use Rattle.mt_core.specs.declared.parts.Commit.{Commit}
+use Rattle.mt_core.specs.declared.parts.Core.{Core}
 use Rattle.mt_live.specs.Machine.{State}
-use Rattle.mt_log.specs.Words.{appended, durable, in_flight, waiting, calls_left, IsStep}
+use Rattle.mt_log.specs.NextSlot.{next_slot}
+use Rattle.mt_log.specs.Quiet.{OnlyReads}
+use Rattle.mt_log.specs.Words.{appended, durable, has_failed, in_flight, waiting, IsStep}
 use Rattle.mt_log.specs.declared.log.Forced.TheVariants as log
 use Rattle.mt_log.specs.declared.log.Log.{Log}
 use Rattle.mt_model.specs.History.{after}
@@ -29,25 +30,28 @@ use Rattle.mt_steps.specs.Held.{Holds}
 use Rattle.mt_replay.specs.Laws.{OnlyOwnPagesMatter}
 use Rattle.mt_replay.specs.Stands.{CanRestart, ShowsBase}
 use Rattle.mt_txn.proofs.Due.{all_of, due_more, due_none, due_settled, due_start}
-use Rattle.mt_txn.proofs.GoingOn.{all_booked, nobody_commits, nobody_still, same_commits}
+use Rattle.mt_txn.proofs.GoingOn.{all_booked, nobody_commits, same_commits}
 use Rattle.mt_txn.proofs.Restarting.{finds_all, finds_back, finds_commits, no_call, then_finds}
+use Rattle.mt_txn.specs.Detached.{Attaches, CanAttach, IsDetached, IsRestBeside}
 use Rattle.mt_txn.specs.Due.{IsDueIn}
 use Rattle.mt_txn.specs.Events.{HasForced, IsForcedBy}
-use Rattle.mt_txn.specs.Restarted.{all_commits, FindsCommits, FindsMeanwhile}
-use Rattle.mt_txn.specs.Causes.{IsFailure, survey_cause}
-use Rattle.mt_txn.specs.Shown.{LeavesFound, Restarts, SameSchema, Shows, Stays, StaysRestarting, is_failed}
-use Rattle.mt_txn.specs.Turned.{GoesOn, HasNobody, IsRestOf, Resumes}
+use Rattle.mt_txn.specs.Restarted.{FindsCommits, FindsMeanwhile}
+use Rattle.mt_txn.specs.Causes.{IsFailure}
+use Rattle.mt_txn.specs.Shown.{LeavesFound, Restarts, SameSchema, Shows, StaysRestarting, is_failed}
+use Rattle.mt_txn.specs.Turned.{GoesOn, HasNobody, IsForced, IsRestOf, Resumes}
 use Rattle.mt_txn.specs.Well.{IsWell, Opens, RestartsFrom, ShowsIn}
+use Rattle.mt_txn.specs.declared.detached_kernel.DetachedKernel.{DetachedKernel}
 use Rattle.mt_txn.specs.declared.kernel_rest.KernelRest.{KernelRest}
 use Rattle.mt_txn.specs.declared.answers.KernelForced.{KernelForced}
 use Rattle.mt_txn.specs.declared.answers.KernelForced.TheVariants as forced
 use Rattle.mt_txn.specs.declared.kernel.Kernel.{Kernel}
 use Rattle.mt_restart.specs.Beside.{IsBeside}
 use Rattle.mt_restart.specs.declared.beside.Beside.{Beside}
-use Rattle.mt_restart.specs.Recovered.{IsCauseToStop, StandsStill}
-use Rattle.mt_restart.specs.declared.rotation.NotRotated.{NotRotated}
-use Rattle.mt_restart.specs.declared.rotation.NotRotated.TheVariants.{Kept}
-use Rattle.mt_restart.specs.Rotated.{GoesOver, Grows, IsEndCause, IsForceCause, Keeps, StandsForBook, early_cause}
+use Rattle.mt_restart.specs.Recovered.{CannotTurn, IsCauseToStop, StandsStill}
+use Rattle.mt_restart.specs.declared.standing.Standing.{Standing}
+use Rattle.mt_restart.specs.declared.standing.Standing.TheVariants.{Stands, Ended}
+use Rattle.mt_restart.proofs.EarlyCauses.{not_early}
+use Rattle.mt_restart.specs.Rotated.{GoesOver, Grows, IsForcedOut, IsKeptCause, Keeps, Rotates, early_cause}
 
 -- ---- the log
 
@@ -104,8 +108,11 @@ idle_durable k l step = all_durable (durable l) (in_flight l ++ waiting l) (
 -- ---- the kernel
 
 -- why a step of a force was refused
-pub force_cause : {D : Type 0} {g : Ghosts D} (faults : D → ℕ) (m n : Kernel D g) (why : Refusal) → (why ≢ refusal.NoMemory → IsFailure faults (is_failed m) m.core n.core why) → (◌≡◌ {A = Result KernelForced Refusal} (Err why) (Err refusal.DeviceFailed) → is_failed n ≡ true) → IsForceCause n why
-force_cause faults m n why cause fails = λ other. let is = ⊎_elim (λ x. x.1) (λ y. y.0) (cause other) in (is, fails (ap Err is))
+pub force_cause : {D : Type 0} {g : Ghosts D} (seen : D → List ℕ) (faults : D → ℕ) (m n : Kernel D g) (why : Refusal) → (why ≢ refusal.NoMemory → IsFailure faults (is_failed m) m.core n.core why)
+    → (◌≡◌ {A = Result KernelForced Refusal} (Err why) (Err refusal.DeviceFailed) → is_failed n ≡ true) → (◌≡◌ {A = Result KernelForced Refusal} (Err why) (Err refusal.NoMemory) → n ≡ m) → is_failed m ≡ false → IsKeptCause seen n why
+force_cause seen faults m n refusal.NoMemory cause fails memory well = ap (λ (k : Kernel _ _). is_failed k) (memory refl) ∙ well
+force_cause seen faults m n refusal.DeviceFailed cause fails memory well = fails refl
+force_cause seen faults m n _ cause fails memory well = ⊎_elim (λ x. absurd (let no = x.1 in cc)) (λ y. absurd (let no = y.0 in cc)) (cause (λ e. absurd cc))
 
 module _ {D : Type 0} {g : Ghosts D} (seen : D → List ℕ) (may_leave : D → List ℕ → Type 0) where
   -- a step of a force names nobody where nobody commits
@@ -182,6 +189,15 @@ module _ {D : Type 0} {g : Ghosts D} (seen : D → List ℕ) (may_leave : D → 
         (keeps.found first starts count)
         (subst (λ (X : Type 0). X) (λ i. FindsMeanwhile moment left_since (keeps.schema.0 i) (keeps.schema.1 i) first m.core new) found)
 
+    -- and what keeps a forced kernel keeps that one
+    pub keeps_both : (k m n : Kernel D g) → HasNobody k → IsForcedOut k m → Keeps seen may_leave moment left_since k m → Keeps seen may_leave moment left_since m n → Keeps seen may_leave moment left_since k n
+    keeps_both k m n nobody out one two = record {
+      state = λ first s shows. two.state first s (one.state first s shows);
+      restarts = λ first starts. two.restarts first (one.restarts first starts);
+      schema = (two.schema.0 ∙ one.schema.0, two.schema.1 ∙ one.schema.1);
+      found = λ first starts count. found_behind k m first n.core.operations.store.device nobody out.nobody one out.grows starts count (two.found first (one.restarts first starts) (subst IsRelationCount (sym one.schema.0) count));
+    }
+
 -- ---- the kernel that goes on
 
 module _ {D : Type 0} {g : Ghosts D} (seen : D → List ℕ) (may_leave : D → List ℕ → Type 0) (own : OnlyOwnPagesMatter) where
@@ -207,45 +223,90 @@ module _ {D : Type 0} {g : Ghosts D} (seen : D → List ℕ) (may_leave : D → 
     schema = (schema.0 ∙ is.relations, schema.1 ∙ is.counters);
   }
 
--- why a recovery was refused, where the bytes can be restarted from
-pub end_cause : {D : Type 0} (seen : D → List ℕ) (faults : D → ℕ) (old new : D) (why : Refusal) → IsCauseToStop (seen old) (faults old < faults new) why → (why ≡ refusal.NoMemory) ⊎ ((why ≡ refusal.DeviceFailed) ⊎ (why ≡ refusal.LogFull)) → IsEndCause seen faults old new why
-end_cause seen faults old new why cause = ⊎_elim
-    (λ is. subst (IsEndCause seen faults old new) (sym is) tt)
-    (⊎_elim
-    (λ is. subst (IsEndCause seen faults old new) (sym is) (⊎_elim (λ failed. failed) (λ full. absurd (let no = full.0 in cc)) (subst (IsCauseToStop (seen old) (faults old < faults new)) is cause)))
-    (λ is. subst (IsEndCause seen faults old new) (sym is) (⊎_elim (λ none. absurd none) (λ full. full.1) (subst (IsCauseToStop (seen old) (faults old < faults new)) is cause))))
+-- why a recovery was refused, where the bytes can be restarted from and the device has not failed
+pub stop_cause : {D : Type 0} {g : Ghosts D} (seen : D → List ℕ) (faults : D → ℕ) (old new : D) (n : Kernel D g) (why : Refusal) → IsCauseToStop (seen old) (faults old < faults new) why → ∥ (why ≡ refusal.NoMemory) ⊎ ((why ≡ refusal.DeviceFailed) ⊎ (why ≡ refusal.LogFull)) ∥₁
+    → (why ≡ refusal.DeviceFailed → ⊥) → seen n.core.operations.store.device ≡ seen old → is_failed n ≡ false → IsKeptCause seen n why
+stop_cause seen faults old new n refusal.NoMemory cause some not same well = well
+stop_cause seen faults old new n refusal.DeviceFailed cause some not same well = absurd (not refl)
+stop_cause seen faults old new n refusal.LogFull cause some not same well = (well, subst CannotTurn (sym same) (⊎_elim (λ none. absurd none) (λ full. full.1) cause))
+stop_cause seen faults old new n _ cause some not same well = ∥∥₁_elim some (hlevel props) (⊎_elim (λ is. absurd cc) (⊎_elim (λ is. absurd cc) (λ is. absurd cc)))
 
--- ---- causes
+-- and where it has
+pub fault_cause : {D : Type 0} (seen : D → List ℕ) (faults : D → ℕ) (old new : D) (why : Refusal) → why ≡ refusal.DeviceFailed → IsCauseToStop (seen old) (faults old < faults new) why → faults old < faults new
+fault_cause seen faults old new why is cause = ⊎_elim (λ failed. failed) (λ full. absurd (let no = full.0 in cc)) (subst (IsCauseToStop (seen old) (faults old < faults new)) is cause)
 
-pub early_failed : {D : Type 0} {g : Ghosts D} (k : Kernel D g) → is_failed k ≡ true → early_cause k ≡ Some refusal.DeviceFailed
-early_failed k is = ap (λ (b : Bool). survey_cause b k.core) is
+-- ---- the kernel that is attached to its device again
 
-pub early_none : {D : Type 0} {g : Ghosts D} (k : Kernel D g) → is_failed k ≡ false → HasNobody k → early_cause k ≡ None
-early_none k is nobody = ap (λ (b : Bool). survey_cause b k.core) is ∙ ap (λ (n : ℕ). if nat_eq n 0 then None else Some refusal.Busy) nobody
+module _ {D : Type 0} {g : Ghosts D} (k : Kernel D g) (rest : DetachedKernel) (d : D) (is : IsDetached k rest d) where
+  pub device_was : d ≡ k.core.operations.store.device
+  device_was = sym (ap (λ (c : Core D). c.operations.store.device) is.core)
 
-pub early_busy : {D : Type 0} {g : Ghosts D} (k : Kernel D g) → is_failed k ≡ false → (HasNobody k → ⊥) → early_cause k ≡ Some refusal.Busy
-early_busy k is some = ap (λ (b : Bool). survey_cause b k.core) is ∙ busy (length k.core.live.members) some
-  where
-    busy : (n : ℕ) → (n ≡ 0 → ⊥) → (if nat_eq n 0 then None else Some refusal.Busy) ≡ Some refusal.Busy
-    busy zero not = absurd (not refl)
-    busy (suc n) not = ap (λ (b : Bool). if b then None else Some refusal.Busy) (eqb-suc-zero n)
+  -- what it represents
+  pub represents : (seen : D → List ℕ) (may_leave : D → List ℕ → Type 0) → ((first : Base) (c : List ℕ) → Restarts seen may_leave first k → HasNobody k → IsForced k → may_leave k.core.operations.store.device c → ∥ CanRestart k.relations k.counters c (after first k.core.book.items) ∥₁)
+      → may_leave k.core.operations.store.device (seen k.core.operations.store.device) → HasNobody k → IsForced k → (first : Base) → Restarts seen may_leave first k → ∥ CanRestart k.relations k.counters (seen d) (after first k.core.book.items) ∥₁
+  represents seen may_leave rests present nobody forced first starts =
+      ∥∥₁_map (rests first (seen k.core.operations.store.device) starts nobody forced present) (λ can. subst (λ (e : D). CanRestart k.relations k.counters (seen e) (after first k.core.book.items)) (sym device_was) can)
 
--- what a forced kernel's book leads to is what that of the kernel before leads to
-pub stands_before : {D : Type 0} {g : Ghosts D} (seen : D → List ℕ) (may_leave : D → List ℕ → Type 0) (k m : Kernel D g) (first : Base) (why : Refusal) (device : D) → HasNobody k → HasNobody m → Stays seen may_leave k m → SameSchema k m → Restarts seen may_leave first k → Restarts seen may_leave first m → StandsForBook may_leave first m why device
-    → StandsForBook may_leave first k why device
-stands_before seen may_leave k m first why device nobody still stays schema starts later stands other c left =
-    ∥∥₁_elim (same_commits seen may_leave k m first nobody still starts stays) ∥∥₁_prop (λ same.
-    ∥∥₁_map (stands other c left) (λ can. subst (λ (X : Type 0). X) (λ i. CanRestart (schema.0 i) (schema.1 i) c (after first (same.1 i))) can))
+  pub rest_of : (e : D) (r : KernelRest) → IsRestBeside rest e r → IsRestOf k r
+  rest_of e r beside = record {
+    parts = record {
+      live = beside.parts.live ∙ sym (ap (λ (c : Core D). c.live) is.core);
+      locks = beside.parts.locks ∙ sym (ap (λ (c : Core D). c.locks) is.core);
+      book = beside.parts.book ∙ sym (ap (λ (c : Core D). c.book) is.core);
+      last = beside.parts.last ∙ sym (ap (λ (c : Core D). c.last) is.core);
+      reserved = beside.parts.reserved ∙ sym (ap (λ (c : Core D). c.reserved) is.core);
+    };
+    relations = beside.relations ∙ is.relations;
+    counters = beside.counters ∙ is.counters;
+  }
 
--- there is one first cause, with which the kernel is handed back as it was
-pub handed_back : {D : Type 0} {g : Ghosts D} (k : Kernel D g) (why : Refusal) → early_cause k ≡ Some why → (other : Refusal) → early_cause k ≡ Some other → ◌≡◌ {A = Result (Kernel D g) (NotRotated D g)} (Err (Kept why k)) (Err (Kept other k))
-handed_back k why is other outcome = ap (λ (w : Refusal). Err (Kept w k)) (same why other (sym is ∙ outcome))
-  where
-    same : (w x : Refusal) → Some w ≡ Some x → w ≡ x
-    same w x e = cc
+  module _ (seen : D → List ℕ) (may_leave : D → List ℕ → Type 0) (moment : D → ℕ) (left_since : D → ℕ → List ℕ → Type 0) (e : D) (reads : OnlyReads seen may_leave moment left_since d e) where
+    pub can_attach : IsWell seen may_leave k.relations k.counters k.core → ∥ ((first : Base) × Restarts seen may_leave first k) ∥₁ → CanAttach seen may_leave moment left_since rest e
+    can_attach well starts = ∥∥₁_map starts (λ (first, r). (
+      d,
+      reads,
+      subst (λ (X : Type 0). X) (λ i. IsWell seen may_leave (sym is.relations i) (sym is.counters i) (is.core i)) well,
+      first,
+      subst (λ (X : Type 0). X) (λ i. RestartsFrom seen may_leave (sym is.relations i) (sym is.counters i) first (is.core i)) r,
+    ))
 
-pub not_early : {D : Type 0} {g : Ghosts D} (k : Kernel D g) (why : Refusal) → is_failed k ≡ false → HasNobody k → early_cause k ≡ Some why → ⊥
-not_early k why is nobody outcome = never why (sym (early_none k is nobody) ∙ outcome)
-  where
-    never : (w : Refusal) → None ≡ Some w → ⊥
-    never w e = cc
+    module _ (n : Kernel D g) (a : Attaches seen may_leave moment left_since rest e n) where
+      pub device_now : n.core.operations.store.device ≡ e
+      device_now = ap (λ (c : Core D). c.operations.store.device) a.core
+
+      pub fails_as : is_failed n ≡ is_failed k
+      fails_as = λ i. (a.failed ∙ is.failed) i || has_failed ((ap (λ (c : Core D). c.operations.store.log) a.core ∙ sym (ap (λ (c : Core D). c.operations.store.log) is.core)) i)
+
+      pub keeps_attached : ((first : Base) → Restarts seen may_leave first k → FindsMeanwhile moment left_since k.relations k.counters first k.core n.core.operations.store.device) → Keeps seen may_leave moment left_since k n
+      keeps_attached found = record {
+        state = λ first s shows. a.state d reads first s (subst (λ (X : Type 0). X) (λ i. ShowsIn seen may_leave (sym is.relations i) (sym is.counters i) first s (is.core i)) shows);
+        restarts = λ first starts. a.restarts d reads first (subst (λ (X : Type 0). X) (λ i. RestartsFrom seen may_leave (sym is.relations i) (sym is.counters i) first (is.core i)) starts);
+        schema = (a.relations ∙ is.relations, a.counters ∙ is.counters);
+        found = λ first starts count. found first starts;
+      }
+
+-- ---- the kernel before the force
+
+-- what comes of a forced kernel comes of the kernel before the force
+module _ {D : Type 0} {g : Ghosts D} (seen : D → List ℕ) (may_leave : D → List ℕ → Type 0) (moment : D → ℕ) (left_since : D → ℕ → List ℕ → Type 0) (only_now : (d : D) (c : List ℕ) → left_since d (moment d) c → may_leave d c) (faults : D → ℕ)
+    (k m : Kernel D g) (nobody : HasNobody k) (early : early_cause k ≡ None) (keeps : Keeps seen may_leave moment left_since k m) (out : IsForcedOut k m) (same : faults m.core.operations.store.device ≡ faults k.core.operations.store.device) where
+  pub rotates_behind : (standing : Standing D g) (r : Result (Unit {0}) Refusal) → Rotates seen may_leave moment left_since faults m standing r → Rotates seen may_leave moment left_since faults k standing r
+  rotates_behind (Stands n) (Ok u) x = record {
+    may = early;
+    over = record {
+      state = λ first s starts shows. x.over.state first s (keeps.restarts first starts) (keeps.state first s shows);
+      restarts = λ first starts. x.over.restarts first (keeps.restarts first starts);
+      schema = (x.over.schema.0 ∙ keeps.schema.0, x.over.schema.1 ∙ keeps.schema.1);
+    };
+    begun = x.begun;
+    well = x.well;
+    once = x.once ∙ ap next_slot out.ruling;
+    quiet = x.quiet ∙ same;
+  }
+  rotates_behind (Stands n) (Err why) x = record {
+    keeps = keeps_both seen may_leave moment left_since only_now k m n nobody out keeps x.keeps;
+    cause = ⊎_elim (λ (is, same_kernel). absurd (not_early m why out.well out.nobody is)) (λ (none, cause). inr (early, cause)) x.cause;
+    quiet = λ not. x.quiet not ∙ same;
+  }
+  rotates_behind (Ended device) (Ok u) x = x
+  rotates_behind (Ended device) (Err why) x = (x.0, record { may = early; failed = let more = x.1.failed in omega (arith, more, same) })

@@ -1,14 +1,11 @@
 -- What is known of a device while the next area begins beside the ruling one.
-use Rattle.std.proofs.Common.{◌≡◌, inl, inr, ⊎_elim, ℕ, ◌*◌, ◌-◌, ◌≤◌, List, length, sym, ap, subst, arith}
-use Rattle.std.proofs.lemmas.Bool.{cases_eq}
-use Rattle.mt_base.specs.Limits.{device_bytes_of}
+use Rattle.std.proofs.Common.{◌≡◌, ℕ, List, sym, subst, arith}
 use Rattle.mt_disk.specs.Disk.{Follows, Only, Torn}
-use Rattle.mt_frame.specs.SlotText.{IsSlot}
 use Rattle.mt_frame.specs.declared.records.Record.{Record}
 use Rattle.mt_frame.specs.declared.slots.MasterSlot.{MasterSlot}
 use Rattle.mt_log.specs.Batch.{joined}
 use Rattle.mt_log.specs.Area.{TornFrom}
-use Rattle.mt_log.specs.Masters.{IsRuling, Rules, area_end, area_size, area_start}
+use Rattle.mt_log.specs.Masters.{area_end, area_size, area_start}
 use Rattle.mt_log.proofs.Turns.{ruling_fits}
 use Rattle.mt_log.proofs.OneWay.{holds_one}
 use Rattle.mt_pool.specs.Kept.{carried}

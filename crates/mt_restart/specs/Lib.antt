@@ -11,4 +11,5 @@ pub mod Schemas
 pub mod Turned
 pub mod TurnFaults
 pub mod Within
+pub mod Standings
 pub mod Rotated

@@ -92,6 +92,6 @@ pub record Recovers {D : Type 0} (seen : D → List ℕ) (may_leave : D → List
   pub moments : (relations counters : ℕ) (b : Base) → CanRestart relations counters (seen d) b → LeavesOnly moment left_since d e (StandsStill may_leave relations counters b d)
   -- at the end, unless the device failed
   pub settled : (relations counters : ℕ) (b : Base) → CanRestart relations counters (seen d) b → r ≢ Err Refusal.DeviceFailed → (c : List ℕ) → may_leave e c → CanRestart relations counters c b
-  pub unwritten : IfErr r (λ why. (why ≡ Refusal.DeviceFailed → ⊥) → seen e ≡ seen d)
+  pub reads : IfErr r (λ why. (why ≡ Refusal.DeviceFailed → ⊥) → OnlyReads seen may_leave moment left_since d e)
   pub cause : IfErr r (IsCauseToStop (seen d) (failures d < failures e))
   pub quiet : (r ≡ Err Refusal.DeviceFailed → ⊥) → failures e ≡ failures d

@@ -21,6 +21,7 @@ mod restart_writes;
 mod rotation;
 mod schema;
 mod slot_writes;
+mod standing;
 
 pub use format_calls::format;
 pub use fresh_kernel::fresh;
@@ -28,5 +29,6 @@ pub use inspection::inspect;
 pub use log_report::report;
 pub use opened_kernel::open;
 pub use report_figures::Report;
-pub use rotation::{NotRotated, rotate};
+pub use rotation::rotate;
 pub use schema::Schema;
+pub use standing::Standing;

@@ -23,6 +23,8 @@ mod operations;
 #[cfg(test)]
 mod recovered;
 #[cfg(test)]
+mod rotations;
+#[cfg(test)]
 mod scheduled;
 #[cfg(test)]
 mod whole_operations;

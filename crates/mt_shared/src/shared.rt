@@ -430,8 +430,8 @@ impl<D: Device + Drop, G: Gate + Drop, J: Naming> Shared<D, G, J> {
     /// and so do the passes. The kernel then has so many pages in frames.
     ///
     /// Refused, in this order: 2 if the device has failed; 16 if a transaction lives, or one is durable and not
-    /// yet in the history. Nothing has changed then. Further as [`mt_restart::rotate`]: 1, 11, 2. If that gives the
-    /// device alone, each later call is refused with 2, and the device is to be opened again.
+    /// yet in the history. Nothing has changed then. Further as [`mt_restart::rotate`]: 1, 11, 2. The kernel goes on
+    /// after 1 and 11. After 2 each later call is refused so, and the device is to be opened again.
     pub fn rotate<R: Wait>(&self, rt: &R, alloc: Global, frames: usize) -> Result<(), Refusal>
         ensures turned { OnOk result (HasTurned ⟦<D as Device>⟧ J.base) }
         ensures why { IfErr result IsTurnRefusal }

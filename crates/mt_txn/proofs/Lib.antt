@@ -7,3 +7,4 @@ mod Surveyed
 pub mod Restarting
 pub mod Due
 pub mod GoingOn
+pub mod Detached

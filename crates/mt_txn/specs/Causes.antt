@@ -1,5 +1,5 @@
 -- Which calls a kernel refuses before it asks locks, escrow, pages and log.
-use Rattle.std.specs.Prelude.{ℕ, ℤ, ◌≡◌, ◌⊎◌, ◌<◌, ◌+◌, ◌^◌, ◌||◌, ◌&&◌, ◌==◌, nat_lt, nat_le, nat_eq, if◌then◌else◌, Bool, true, false, List, length, Option, Some, None, int_le, pos, neg_ℤ}
+use Rattle.std.specs.Prelude.{ℕ, ℤ, ◌≡◌, ◌⊎◌, ◌<◌, ◌+◌, ◌||◌, ◌&&◌, ◌==◌, nat_lt, nat_le, nat_eq, if◌then◌else◌, Bool, true, false, List, length, Option, Some, None, int_le, pos, neg_ℤ}
 use Rattle.std.specs.List.{list_any}
 use Rattle.mt_base.specs.declared.limits.TheConstants.{MAX_BEGUN, MAX_COMMITS, MAX_KEY_BYTES, MAX_LIVE, MAX_OPERATIONS, MAX_STEP, MAX_VALUE_BYTES, TRANSACTION_LOG_BYTES}
 use Rattle.mt_base.specs.Limits.{IsKey, IsValue, IsStep}

@@ -6,6 +6,7 @@ pub mod Work
 pub mod Surveyed
 pub mod Restarted
 pub mod Turned
+pub mod Detached
 pub mod Due
 pub mod PageLocks
 pub mod Aborted

@@ -1,5 +1,5 @@
 // Commits, the steps that make them durable, and flushes.
-ghost use Rattle.std.specs.Prelude.{◌≡◌, ◌≢◌, ◌<◌, ◌+◌, ◌++◌, ◌∷◌, [], ℕ, length, get_or, Ok, Err, IfOk, IfErr, IsErr, OnOk, OnErr, None, Some, false, true};
+ghost use Rattle.std.specs.Prelude.{◌≡◌, ◌≢◌, ◌<◌, ◌+◌, ◌++◌, ◌∷◌, [], ℕ, length, get_or, Ok, Err, IfOk, IfErr, IsErr, IsOk, OnOk, OnErr, None, Some, false, true};
 ghost use Rattle.mt_base.specs.declared.refusal.Refusal.{Refusal};
 ghost use Rattle.mt_live.specs.Machine.{State};
 ghost use Rattle.mt_log.specs.Words.{appended, durable, in_flight, waiting, calls_left};
@@ -85,6 +85,7 @@ impl<D: Device> Kernel<D> {
         ensures log { IfOk result (λ forced. IsForcedBy self.old.core.operations.store.log
             self.old.core.commits.items forced self.new.core.operations.store.log self.new.core.commits.items) }
         ensures fails { FailsForGood self.old result self.new }
+        ensures well { IsOk result → is_failed self.new ≡ false }
         ensures running { SameRunning self.old.core self.new.core }
         ensures states { SameUncommitted self.old.core self.new.core }
         ensures undo { LeavesUndo self.old.core self.new.core }

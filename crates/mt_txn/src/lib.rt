@@ -12,6 +12,7 @@ mod begins;
 mod calls;
 mod causes;
 mod commits;
+mod detached_kernel;
 mod kernel;
 mod kernel_rest;
 mod next_area;
@@ -19,6 +20,7 @@ mod steps;
 mod surveys;
 
 pub use answers::{AbortStepped, KernelForced, Stepped};
+pub use detached_kernel::DetachedKernel;
 pub use kernel::Kernel;
 pub use kernel_rest::KernelRest;
 pub use mt_core::Called;

@@ -33,7 +33,7 @@ use Rattle.mt_world.proofs.RunLemmas.{none_under_way}
 use Rattle.mt_world.specs.Crashes.{BeginsOrStands, FindsSince, FoundFromFormat, FoundTo, HasBegun, HasFormatted, StandsFirst, device_under}
 use Rattle.mt_world.specs.declared.events.Answer.{Answer}
 use Rattle.mt_world.specs.declared.events.Event.{Event}
-use Rattle.mt_world.specs.declared.kernel_or_device.Standing.{Standing}
+use Rattle.mt_restart.specs.declared.standing.Standing.{Standing}
 
 -- a refusal with 2 tells that the device failed
 failed_of : (c : List ℕ) (failed : Type 0) (why : Refusal) → IsCauseToStop c failed why → why ≡ refusal.DeviceFailed → failed

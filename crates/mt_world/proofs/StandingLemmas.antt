@@ -9,12 +9,12 @@ use Rattle.mt_live.proofs.Shapes.{each_map}
 use Rattle.mt_live.specs.Machine.{start}
 use Rattle.mt_live.specs.Sound.{Each}
 use Rattle.mt_model.specs.Model.{Base}
+use Rattle.mt_restart.proofs.EarlyCauses.{early_failed}
 use Rattle.mt_restart.specs.Rotated.{early_cause}
 use Rattle.mt_txn.specs.Shown.{Restarts, Shows, is_failed}
 use Rattle.mt_txn.specs.declared.kernel.Kernel.{Kernel}
 use Rattle.mt_world.proofs.CrashLemmas.{Found, found_more, found_none, found_until}
 use Rattle.mt_world.proofs.RunLemmas.{Ran, has_run, makes_broken, ran_more, ran_none, stay_more}
-use Rattle.mt_world.proofs.TurnLemmas.{early_failed}
 use Rattle.mt_world.specs.Crashes.{FindsSince, FoundTo, FoundUntilEnd}
 use Rattle.mt_world.specs.Due.{IsBroken, StayBroken}
 use Rattle.mt_world.specs.Schedules.{GoesTo, HasEndedBy, HasRun, HasRunTo, IsOfSchema}
@@ -22,8 +22,8 @@ use Rattle.mt_world.specs.declared.events.Answer.{Answer}
 use Rattle.mt_world.specs.declared.events.Answer.TheVariants.{Refused}
 use Rattle.mt_world.specs.declared.events.Event.{Event}
 use Rattle.mt_world.specs.declared.events.Event.TheVariants.{Rotate}
-use Rattle.mt_world.specs.declared.kernel_or_device.Standing.{Standing}
-use Rattle.mt_world.specs.declared.kernel_or_device.Standing.TheVariants.{Stands, Ended}
+use Rattle.mt_restart.specs.declared.standing.Standing.{Standing}
+use Rattle.mt_restart.specs.declared.standing.Standing.TheVariants.{Stands, Ended}
 
 each_of : (P : Answer → Type 0) → ((x : Answer) → P x) → (xs : List Answer) → Each P xs
 each_of P all [] = tt
@@ -76,14 +76,12 @@ module _ {D : Type 0} (g : Ghosts D) (seen : D → List ℕ) (may_leave : D → 
             later = [];
             outcome = answers;
             kernel = k;
-            why = by.why;
             events_are = ap (λ (e : Event). events ++ e ∷ []) by.rotation;
             answers_are = ap (λ (a : Answer). answers ++ a ∷ []) by.refused;
             ran = run;
             schema = runs.schema;
-            left = by.left;
-            stands = by.left.1 first runs.starts;
-            broken = unbroken events answers answer k by.left.0 run;
+            ended = by.ended;
+            broken = unbroken events answers answer k by.ended.may run;
           };
           until = found_until seen may_leave moment left_since only_now faults since first events answers k device (by.found first runs.starts) found;
         }))
@@ -98,14 +96,12 @@ module _ {D : Type 0} (g : Ghosts D) (seen : D → List ℕ) (may_leave : D → 
             later = e.later ++ event ∷ [];
             outcome = e.outcome;
             kernel = e.kernel;
-            why = e.why;
             events_are = ap (λ (es : List Event). es ++ event ∷ []) e.events_are ∙ append_assoc e.done (Rotate ∷ e.later) (event ∷ []);
-            answers_are = ap (λ (as' : List Answer). as' ++ answer ∷ []) e.answers_are ∙ append_assoc e.outcome (Refused e.why ∷ map c e.later) (answer ∷ [])
-                ∙ ap (λ (a : Answer). e.outcome ++ Refused e.why ∷ (map c e.later ++ a ∷ [])) is ∙ ap (λ (as' : List Answer). e.outcome ++ Refused e.why ∷ as') (sym (map-append c e.later (event ∷ [])));
+            answers_are = ap (λ (as' : List Answer). as' ++ answer ∷ []) e.answers_are ∙ append_assoc e.outcome (Refused refusal.DeviceFailed ∷ map c e.later) (answer ∷ [])
+                ∙ ap (λ (a : Answer). e.outcome ++ Refused refusal.DeviceFailed ∷ (map c e.later ++ a ∷ [])) is ∙ ap (λ (as' : List Answer). e.outcome ++ Refused refusal.DeviceFailed ∷ as') (sym (map-append c e.later (event ∷ [])));
             ran = e.ran;
             schema = e.schema;
-            left = e.left;
-            stands = e.stands;
+            ended = e.ended;
             broken = stay_more answers answer e.broken (each_of (λ x. IsBroken x → IsBroken answer) (λ x broken. is) answers);
           };
           until = f.until;

@@ -25,7 +25,7 @@ use Rattle.mt_world.proofs.CrashLemmas.{answered_of}
 use Rattle.mt_world.proofs.RunLemmas.{makes_same}
 use Rattle.mt_world.specs.Crashes.{FoundFromFormat, FoundUntil, device_under}
 use Rattle.mt_world.specs.Schedules.{HasEnded, HasRun, HasRunTo, IsOfSchema}
-use Rattle.mt_world.specs.Standings.{device_at}
+use Rattle.mt_restart.specs.Standings.{device_at}
 use Rattle.mt_world.specs.Stopped.{BeginsWithin, FindsFirst, IsCrashRun, IsStoppedRun}
 use Rattle.mt_world.specs.Stopping.{StopsAt, below}
 use Rattle.mt_world.specs.Reported.{Reported, acknowledged, commit_of, commit_order, committing, named, nothing_reported, started_by, tells, reported_from, reported_of}
@@ -34,8 +34,8 @@ use Rattle.mt_world.specs.declared.events.Answer.{Answer}
 use Rattle.mt_world.specs.declared.events.Answer.TheVariants.{Refused}
 use Rattle.mt_world.specs.declared.events.Event.{Event}
 use Rattle.mt_world.specs.declared.events.Event.TheVariants.{Begin, Call, Step, Commit, AbortBegin, AbortStep, Force, Flush, Rotate}
-use Rattle.mt_world.specs.declared.kernel_or_device.Standing.{Standing}
-use Rattle.mt_world.specs.declared.kernel_or_device.Standing.TheVariants.{Stands, Ended}
+use Rattle.mt_restart.specs.declared.standing.Standing.{Standing}
+use Rattle.mt_restart.specs.declared.standing.Standing.TheVariants.{Stands, Ended}
 use Rattle.mt_world.specs.declared.stopping_device.StoppingDevice.{StoppingDevice}
 
 -- ---- what a refused event tells
@@ -106,20 +106,20 @@ module _ {D : Type 0} {g : Ghosts D} (seen : D → List ℕ) (may_leave : D → 
     ended_same : length events ≡ length answers
     ended_same =
         let one = ap (λ (es : List Event). length es) e.events_are in let two = ap (λ (as' : List Answer). length as') e.answers_are in
-        let front = length-append e.done (Rotate ∷ e.later) in let back = length-append e.outcome (Refused e.why ∷ all_refused e.later) in
+        let front = length-append e.done (Rotate ∷ e.later) in let back = length-append e.outcome (Refused refusal.DeviceFailed ∷ all_refused e.later) in
         let size = length-map e.later (λ (event : Event). Refused refusal.DeviceFailed) in let same = done_same in
         omega (arith, one, two, front, back, size, same)
 
     ended_reported : (t : ℕ) → reported_of events answers t ≡ reported_of e.done e.outcome t
     ended_reported t =
         ap₂ (λ (es : List Event) (as' : List Answer). reported_of es as' t) e.events_are e.answers_are
-        ∙ reported_both t nothing_reported e.done (Rotate ∷ e.later) e.outcome (Refused e.why ∷ all_refused e.later) done_same
+        ∙ reported_both t nothing_reported e.done (Rotate ∷ e.later) e.outcome (Refused refusal.DeviceFailed ∷ all_refused e.later) done_same
         ∙ reported_behind t (reported_of e.done e.outcome t) e.later
 
     ended_committing : committing events answers ≡ committing e.done e.outcome
     ended_committing =
         ap₂ committing e.events_are e.answers_are
-        ∙ committing_both e.done (Rotate ∷ e.later) e.outcome (Refused e.why ∷ all_refused e.later) done_same
+        ∙ committing_both e.done (Rotate ∷ e.later) e.outcome (Refused refusal.DeviceFailed ∷ all_refused e.later) done_same
         ∙ ap (λ (ts : List ℕ). committing e.done e.outcome ++ ts) (committing_behind e.later) ∙ append-nil (committing e.done e.outcome)
 
     ended_order : commit_order events answers ≡ commit_order e.done e.outcome
@@ -129,7 +129,7 @@ module _ {D : Type 0} {g : Ghosts D} (seen : D → List ℕ) (may_leave : D → 
 
     ended_acknowledged : acknowledged answers ≡ acknowledged e.outcome
     ended_acknowledged =
-        ap acknowledged e.answers_are ∙ acknowledged_both e.outcome (Refused e.why ∷ all_refused e.later)
+        ap acknowledged e.answers_are ∙ acknowledged_both e.outcome (Refused refusal.DeviceFailed ∷ all_refused e.later)
         ∙ ap (λ (ts : List ℕ). acknowledged e.outcome ++ ts) (acknowledged_behind e.later) ∙ append-nil (acknowledged e.outcome)
 
   pub same_length : (standing : Standing D g) → ∥ HasRunTo seen may_leave moment left_since faults relations counters first events answers standing ∥₁ → length answers ≡ length events

@@ -1,7 +1,6 @@
 -- What a rotation does to a kernel in which nobody lives.
-use Rattle.std.proofs.Common.{◌≡◌, ⊎_elim, inl, inr, ℕ, Bool, true, false, List, [], length, Option, Some, None, is_some, Err, subst, suc, zero, refl, ap, sym, ◌∙◌}
-use Rattle.std.specs.Prelude.{if◌then◌else◌, nat_eq}
-use Rattle.std.proofs.Math.Dec.{eqb-suc-zero}
+use Rattle.std.proofs.Common.{◌≡◌, ⊎_elim, inl, inr, ℕ, true, false, List, [], length, Option, Some, None, is_some, Ok, Err, subst, refl, ap, sym, ◌∙◌}
+use Rattle.std.proofs.lemmas.Bool.{cases_Bool}
 use Rattle.std.proofs.Props.{props}
 use mathlib.Core.Logic.{∥∥₁_elim}
 use Rattle.mt_base.specs.declared.refusal.Refusal.{Refusal}
@@ -14,17 +13,14 @@ use Rattle.mt_core.specs.declared.parts.Commit.{Commit}
 use Rattle.mt_live.specs.Machine.{State, is_live}
 use Rattle.mt_live.specs.Members.{Member}
 use Rattle.mt_live.specs.declared.transactions.TxnState.{TxnState}
-use Rattle.mt_log.specs.Words.{appended}
 use Rattle.mt_model.specs.Model.{Base}
-use Rattle.mt_op.specs.Begun.{AreImages}
-use Rattle.mt_restart.specs.Rotated.{IsForceCause, IsLeft, device_in, early_cause}
-use Rattle.mt_restart.specs.declared.rotation.NotRotated.{NotRotated}
-use Rattle.mt_restart.specs.declared.rotation.NotRotated.TheVariants.{Kept, Ended as IsEnded}
+use Rattle.mt_restart.proofs.EarlyCauses.{early_busy, early_failed, may_nobody, may_well, not_early}
+use Rattle.mt_restart.specs.Rotated.{IsKeptCause, IsLeft, IsRotated, Rotates, early_cause}
+use Rattle.mt_restart.specs.Standings.{device_at}
 use Rattle.mt_txn.proofs.GoingOn.{nobody_commits, nobody_still}
 use Rattle.mt_txn.proofs.Living.{lives_of}
-use Rattle.mt_txn.specs.Causes.{survey_cause}
 use Rattle.mt_txn.specs.Restarted.{FindsMeanwhile}
-use Rattle.mt_txn.specs.Shown.{Restarts, SameSchema, Shows, StaysRestarting, is_failed}
+use Rattle.mt_txn.specs.Shown.{Restarts, Shows, is_failed}
 use Rattle.mt_txn.specs.Turned.{HasNobody}
 use Rattle.mt_txn.specs.Well.{IsWell}
 use Rattle.mt_txn.specs.declared.kernel.Kernel.{Kernel}
@@ -33,26 +29,11 @@ use Rattle.mt_world.proofs.EventLemmas.{still}
 use Rattle.mt_world.specs.Due.{SamePhases}
 use Rattle.mt_world.specs.Moves.IsStill.{is_refused, rotated}
 use Rattle.mt_world.specs.Schedules.{HasBecome, HasMade}
-use Rattle.mt_world.specs.Standings.{IsLeftAs}
 use Rattle.mt_world.specs.declared.events.Answer.{Answer}
 use Rattle.mt_world.specs.declared.events.Answer.TheVariants.{Refused, Rotated}
 use Rattle.mt_world.specs.declared.events.Event.TheVariants.{Rotate}
-use Rattle.mt_world.specs.declared.kernel_or_device.Standing.{Standing}
-
--- ---- causes
-
-pub early_failed : {D : Type 0} {g : Ghosts D} (k : Kernel D g) → is_failed k ≡ true → early_cause k ≡ Some refusal.DeviceFailed
-early_failed k is = ap (λ (b : Bool). survey_cause b k.core) is
-
-early_none : {D : Type 0} {g : Ghosts D} (k : Kernel D g) → is_failed k ≡ false → HasNobody k → early_cause k ≡ None
-early_none k is nobody = ap (λ (b : Bool). survey_cause b k.core) is ∙ ap (λ (n : ℕ). if nat_eq n 0 then None else Some refusal.Busy) nobody
-
-early_busy : {D : Type 0} {g : Ghosts D} (k : Kernel D g) → is_failed k ≡ false → (HasNobody k → ⊥) → early_cause k ≡ Some refusal.Busy
-early_busy k is some = ap (λ (b : Bool). survey_cause b k.core) is ∙ busy (length k.core.live.members) some
-  where
-    busy : (n : ℕ) → (n ≡ 0 → ⊥) → (if nat_eq n 0 then None else Some refusal.Busy) ≡ Some refusal.Busy
-    busy zero not = absurd (not refl)
-    busy (suc n) not = ap (λ (b : Bool). if b then None else Some refusal.Busy) (eqb-suc-zero n)
+use Rattle.mt_restart.specs.declared.standing.Standing.{Standing}
+use Rattle.mt_restart.specs.declared.standing.Standing.TheVariants.{Stands, Ended}
 
 -- ---- nobody lives
 
@@ -93,63 +74,68 @@ module _ {D : Type 0} {g : Ghosts D} (seen : D → List ℕ) (may_leave : D → 
     abbrev Turns : Kernel D g → Answer → Kernel D g → Type 0
     Turns k answer n = HasMade seen may_leave moment left_since faults k Rotate answer n
 
-    pub failed_turn : (k : Kernel D g) → is_failed k ≡ true → Turns k (Refused refusal.DeviceFailed) k
-    failed_turn k failed = record {
-      leads = λ first s starts shows. still seen may_leave moment left_since faults k k Rotate (Refused refusal.DeviceFailed) first s (is_refused _ _) shows;
-      due = inl (early_failed k failed, refl);
+    -- nothing was done, for this cause
+    early_turn : (k : Kernel D g) (why : Refusal) → early_cause k ≡ Some why → (is_failed k ≡ true → why ≡ refusal.DeviceFailed) → (why ≡ refusal.DeviceFailed → is_failed k ≡ true) → Turns k (Refused why) k
+    early_turn k why early failed broken = record {
+      leads = λ first s starts shows. still seen may_leave moment left_since faults k k Rotate (Refused why) first s (is_refused _ _) shows;
+      due = inl (early, refl);
       device = tt;
       phases = (λ u. refl, refl);
-      fails = ((λ before. (refl, refl)), λ broken. failed);
+      fails = ((λ before. (ap (λ (w : Refusal). Refused w) (failed before), refl)), λ is. broken (let w : why ≡ refusal.DeviceFailed = cc in w));
       restarts = λ first r. r;
       found = found_itself seen may_leave moment left_since only_now k;
       schema = (refl, refl);
     }
 
-    pub busy_turn : (k : Kernel D g) → is_failed k ≡ false → (HasNobody k → ⊥) → Turns k (Refused refusal.Busy) k
-    busy_turn k well some = record {
-      leads = λ first s starts shows. still seen may_leave moment left_since faults k k Rotate (Refused refusal.Busy) first s (is_refused _ _) shows;
-      due = inl (early_busy k well some, refl);
-      device = tt;
-      phases = (λ u. refl, refl);
-      fails = ((λ failed. let wrong : true ≡ false = sym failed ∙ well in absurd cc), λ broken. absurd cc);
-      restarts = λ first r. r;
-      found = found_itself seen may_leave moment left_since only_now k;
-      schema = (refl, refl);
-    }
+    same_why : (k : Kernel D g) (why other : Refusal) → early_cause k ≡ Some why → early_cause k ≡ Some other → why ≡ other
+    same_why k why other is are = let both : Some why ≡ Some other = sym is ∙ are in cc
 
-    pub turned : (k n : Kernel D g) → Starts k → Well k → Well n → is_failed k ≡ false → HasNobody k → early_cause k ≡ None → AreImages (appended n.core.operations.store.log)
-        → ((first : Base) (s : State) → Restarts seen may_leave first k → Shows seen may_leave first s k → Shows seen may_leave first s n) → StaysRestarting seen may_leave k n → SameSchema k n → ((first : Base) → Restarts seen may_leave first k → FindsMeanwhile moment left_since k.relations k.counters first k.core n.core.operations.store.device) → Turns k Rotated n
-    turned k n begun tied tied_still well nobody may fresh shows restarts schema found = record {
-      leads = λ first s starts was. still seen may_leave moment left_since faults k n Rotate Rotated first s rotated (shows first s starts was);
-      due = record { may = may; fresh = fresh };
-      device = tt;
-      phases = nobody_phases k n tied tied_still nobody (nobody_after k n nobody begun shows);
-      fails = ((λ failed. let wrong : true ≡ false = sym failed ∙ well in absurd cc), λ broken. absurd cc);
-      restarts = restarts;
-      found = λ first starts count. found first starts;
-      schema = schema;
-    }
+    -- that is, its device has failed, or a transaction lives
+    early_turned : (k : Kernel D g) (why : Refusal) → early_cause k ≡ Some why → Turns k (Refused why) k
+    early_turned k why early = elim (cases_Bool (is_failed k)) [
+      | inl failed ↦ early_turn k why early (λ _. same_why k why refusal.DeviceFailed early (early_failed k failed)) (λ _. failed)
+      | inr well ↦ early_turn k why early (λ failed. absurd (let wrong : true ≡ false = sym failed ∙ well in cc))
+          (λ is. let busy = same_why k why refusal.Busy early (early_busy k well (λ nobody. not_early k why well nobody early)) in let wrong : refusal.DeviceFailed ≡ refusal.Busy = sym is ∙ busy in absurd cc)
+    ]
 
-    pub kept_turn : (k n : Kernel D g) (why : Refusal) → Starts k → Well k → Well n → is_failed k ≡ false → HasNobody k → IsLeft seen may_leave moment left_since faults k (Kept why n) → Turns k (Refused why) n
-    kept_turn k n why begun tied still_tied well nobody left =
-        let keeps = left.0 in
-        let cause : IsForceCause n why = ⊎_elim
-        (λ (early : early_cause k ≡ Some why). let none : early_cause k ≡ None = early_none k well nobody in let wrong : Some why ≡ None = sym early ∙ none in absurd cc)
-        (λ (late : (early_cause k ≡ None) × IsForceCause n why). late.1) left.1 in
+    turned : (k n : Kernel D g) → Starts k → Well k → Well n → IsRotated seen may_leave faults k n → ((first : Base) → Restarts seen may_leave first k → FindsMeanwhile moment left_since k.relations k.counters first k.core n.core.operations.store.device) → Turns k Rotated n
+    turned k n begun tied tied_still x found =
+        let well = may_well k x.may in let nobody = may_nobody k x.may in
         record {
-          leads = λ first s starts shows. still seen may_leave moment left_since faults k n Rotate (Refused why) first s (is_refused _ _) (keeps.state first s shows);
-          due = inr (early_none k well nobody, cause);
+          leads = λ first s starts was. still seen may_leave moment left_since faults k n Rotate Rotated first s rotated (x.over.state first s starts was);
+          due = record { may = x.may; fresh = x.begun };
           device = tt;
-          phases = nobody_phases k n tied still_tied nobody (nobody_after k n nobody begun (λ first s starts shows. keeps.state first s shows));
-          fails = ((λ failed. let wrong : true ≡ false = sym failed ∙ well in absurd cc), λ broken. (cause (λ memory. let is : why ≡ refusal.DeviceFailed = cc in let wrong : refusal.DeviceFailed ≡ refusal.NoMemory = sym is ∙ memory in absurd cc)).1);
-          restarts = keeps.restarts;
-          found = keeps.found;
-          schema = keeps.schema;
+          phases = nobody_phases k n tied tied_still nobody (nobody_after k n nobody begun x.over.state);
+          fails = ((λ failed. let wrong : true ≡ false = sym failed ∙ well in absurd cc), λ broken. absurd cc);
+          restarts = x.over.restarts;
+          found = λ first starts count. found first starts;
+          schema = x.over.schema;
         }
 
-    pub left_turn : (k : Kernel D g) (left : NotRotated D g) (standing : Standing D g) (answer : Answer) → Starts k → Well k → ((n : Kernel D g) → Well n) → is_failed k ≡ false → HasNobody k → IsLeft seen may_leave moment left_since faults k left
-        → ((first : Base) → Restarts seen may_leave first k → FindsMeanwhile moment left_since k.relations k.counters first k.core (device_in (Err left))) → IsLeftAs left standing answer → HasBecome seen may_leave moment left_since faults k Rotate answer standing
-    left_turn k (Kept why n) standing answer begun tied each well nobody left found is =
-        subst (λ (X : Type 0). X) (λ i. HasBecome seen may_leave moment left_since faults k Rotate (sym is.1 i) (sym is.0 i)) (kept_turn k n why begun tied (each n) well nobody left)
-    left_turn k (IsEnded why device) standing answer begun tied each well nobody left found is =
-        subst (λ (s : Standing D g). HasBecome seen may_leave moment left_since faults k Rotate answer s) (sym is.0) (record { why = why; rotation = refl; refused = is.1; left = left; found = found })
+    -- the kernel is left behind its force
+    late_turn : (k n : Kernel D g) (why : Refusal) → Starts k → Well k → Well n → IsLeft seen may_leave moment left_since faults k why n → early_cause k ≡ None → IsKeptCause seen n why → Turns k (Refused why) n
+    late_turn k n why begun tied still_tied x may cause =
+        let well = may_well k may in let nobody = may_nobody k may in
+        record {
+          leads = λ first s starts shows. still seen may_leave moment left_since faults k n Rotate (Refused why) first s (is_refused _ _) (x.keeps.state first s shows);
+          due = inr (may, cause);
+          device = tt;
+          phases = nobody_phases k n tied still_tied nobody (nobody_after k n nobody begun (λ first s starts shows. x.keeps.state first s shows));
+          fails = ((λ failed. let wrong : true ≡ false = sym failed ∙ well in absurd cc), λ broken. let is : why ≡ refusal.DeviceFailed = cc in subst (IsKeptCause seen n) is cause);
+          restarts = x.keeps.restarts;
+          found = x.keeps.found;
+          schema = x.keeps.schema;
+        }
+
+    pub turned_as : (k : Kernel D g) (standing : Standing D g) (u : Unit {0}) → Starts k → Well k → ((n : Kernel D g) → Well n) → Rotates seen may_leave moment left_since faults k standing (Ok u)
+        → ((first : Base) → Restarts seen may_leave first k → FindsMeanwhile moment left_since k.relations k.counters first k.core (device_at standing)) → HasBecome seen may_leave moment left_since faults k Rotate Rotated standing
+    turned_as k (Stands n) u begun tied each x found = turned k n begun tied (each n) x found
+    turned_as k (Ended device) u begun tied each x found = absurd x
+
+    pub refused_as : (k : Kernel D g) (standing : Standing D g) (why : Refusal) → Starts k → Well k → ((n : Kernel D g) → Well n) → Rotates seen may_leave moment left_since faults k standing (Err why)
+        → ((first : Base) → Restarts seen may_leave first k → FindsMeanwhile moment left_since k.relations k.counters first k.core (device_at standing)) → HasBecome seen may_leave moment left_since faults k Rotate (Refused why) standing
+    refused_as k (Stands n) why begun tied each x found = ⊎_elim
+        (λ (early, same). subst (λ (m : Kernel D g). Turns k (Refused why) m) (sym same) (early_turned k why early))
+        (λ (may, cause). late_turn k n why begun tied (each n) x may cause)
+        x.cause
+    refused_as k (Ended device) why begun tied each x found = record { rotation = refl; refused = ap (λ (w : Refusal). Refused w) x.0; ended = x.1; found = found }

@@ -16,8 +16,8 @@ use Rattle.mt_world.specs.Schedules.{HasEnded, HasMade, HasRun}
 use Rattle.mt_world.specs.Reported.{acknowledged}
 use Rattle.mt_world.specs.declared.events.Answer.{Answer}
 use Rattle.mt_world.specs.declared.events.Event.{Event}
-use Rattle.mt_world.specs.declared.kernel_or_device.Standing.{Standing}
-use Rattle.mt_world.specs.declared.kernel_or_device.Standing.TheVariants.{Stands, Ended}
+use Rattle.mt_restart.specs.declared.standing.Standing.{Standing}
+use Rattle.mt_restart.specs.declared.standing.Standing.TheVariants.{Stands, Ended}
 
 abbrev pub device_under : {D : Type 0} → {g : Ghosts D} → Kernel D g → D
 device_under k = k.core.operations.store.device

@@ -15,7 +15,7 @@ use Rattle.mt_op.specs.Begun.{AreImages}
 use Rattle.mt_pool.specs.Views.{Cleans, IsWaiting, pages}
 use Rattle.mt_pool.specs.declared.flushes.Flushed.{Flushed as FlushOutcome}
 use Rattle.mt_pool.specs.declared.flushes.Flushed.TheVariants as flush
-use Rattle.mt_restart.specs.Rotated.{IsForceCause, early_cause}
+use Rattle.mt_restart.specs.Rotated.{IsKeptCause, early_cause}
 use Rattle.mt_txn.specs.Causes.{IsFailure, IsFault, abort_cause, begin_cause, call_cause, commit_cause, open_cause, step_cause}
 use Rattle.mt_txn.specs.Events.{IsAnsweredBy, IsForcedBy}
 use Rattle.mt_txn.specs.Shown.{is_failed}
@@ -89,7 +89,7 @@ module _ {D : Type 0} {g : Ghosts D} (seen : D → List ℕ) (may_leave : D → 
   IsDue k Flush (Refused why) n = IsFailure faults (is_failed k) k.core n.core why
   IsDue k Flush (Flushed outcome) n = IsFlushed k outcome n
   IsDue k Flush answer n = ⊥
-  IsDue k Rotate (Refused why) n = (early_cause k ≡ Some why) × (n ≡ k) ⊎ ((early_cause k ≡ None) × IsForceCause n why)
+  IsDue k Rotate (Refused why) n = (early_cause k ≡ Some why) × (n ≡ k) ⊎ ((early_cause k ≡ None) × IsKeptCause seen n why)
   IsDue k Rotate Rotated n = IsTurnedOver k n
   IsDue k Rotate answer n = ⊥
 

@@ -2,7 +2,6 @@ pub mod Acts
 pub mod Moves
 pub mod Due
 pub mod Reported
-pub mod Standings
 pub mod Schedules
 pub mod Crashes
 pub mod Stopping

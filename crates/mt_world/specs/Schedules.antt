@@ -1,6 +1,5 @@
 -- Any list of events, made on a kernel one after the other, and what stands after them.
 use Rattle.std.specs.Prelude.{ℕ, ◌≡◌, List, [], ◌∷◌, ◌++◌, Option, None, Some, map, ⊤}
-use Rattle.mt_base.specs.declared.refusal.Refusal.{Refusal}
 use Rattle.mt_base.specs.declared.refusal.Refusal.TheVariants as refusal
 use Rattle.mt_disk.specs.declared.device.Device.{Ghosts}
 use Rattle.mt_core.specs.Booked.{txns_of}
@@ -8,8 +7,7 @@ use Rattle.mt_live.specs.Entries.{IsExplained}
 use Rattle.mt_live.specs.Machine.{State, committed_base, start}
 use Rattle.mt_model.specs.History.{IsActed, IsLegal, run}
 use Rattle.mt_model.specs.Model.{Base}
-use Rattle.mt_restart.specs.Rotated.{IsLeft, StandsForBook}
-use Rattle.mt_restart.specs.declared.rotation.NotRotated.TheVariants.{Ended as IsEnded}
+use Rattle.mt_restart.specs.Rotated.{IsEnded}
 use Rattle.mt_txn.specs.Restarted.{FindsMeanwhile, all_commits}
 use Rattle.mt_txn.specs.Shown.{LeavesFound, Restarts, SameSchema, Shows, StaysRestarting}
 use Rattle.mt_txn.specs.declared.kernel.Kernel.{Kernel}
@@ -21,8 +19,8 @@ use Rattle.mt_world.specs.declared.events.Answer.{Answer}
 use Rattle.mt_world.specs.declared.events.Answer.TheVariants.{Refused}
 use Rattle.mt_world.specs.declared.events.Event.{Event}
 use Rattle.mt_world.specs.declared.events.Event.TheVariants.{Rotate}
-use Rattle.mt_world.specs.declared.kernel_or_device.Standing.{Standing}
-use Rattle.mt_world.specs.declared.kernel_or_device.Standing.TheVariants.{Stands, Ended}
+use Rattle.mt_restart.specs.declared.standing.Standing.{Standing}
+use Rattle.mt_restart.specs.declared.standing.Standing.TheVariants.{Stands, Ended}
 
 -- An event led a kernel to another, whatever state it showed; and whenever a crash came in it, a restart finds what
 -- some of the first commits of the kernel lead to.
@@ -78,30 +76,27 @@ module _ {D : Type 0} {g : Ghosts D} (seen : D → List ℕ) (may_leave : D → 
     pub broken : StayBroken answers
     pub restarts : Restarts seen may_leave first n
 
--- The first of the events ran, and then a rotation was refused and left the device; each later event was refused with
--- 2. The device represents what the book leads to, unless it failed.
+-- The first of the events ran. Then the device failed in a rotation, of which it alone is left; that event and each
+-- later one was refused with 2.
 pub record HasEnded {D : Type 0} (g : Ghosts D) (seen : D → List ℕ) (may_leave : D → List ℕ → Type 0) (moment : D → ℕ) (left_since : D → ℕ → List ℕ → Type 0) (faults : D → ℕ)
     (relations counters : ℕ) (first : Base) (events : List Event) (answers : List Answer) (device : D) : Type 0 where
   pub done : List Event
   pub later : List Event
   pub outcome : List Answer
   pub kernel : Kernel D g
-  pub why : Refusal
   pub events_are : events ≡ done ++ Rotate ∷ later
-  pub answers_are : answers ≡ outcome ++ Refused why ∷ map (λ (event : Event). Refused refusal.DeviceFailed) later
+  pub answers_are : answers ≡ outcome ++ Refused refusal.DeviceFailed ∷ map (λ (event : Event). Refused refusal.DeviceFailed) later
   pub ran : HasRun seen may_leave faults first done outcome kernel
   pub schema : (kernel.relations ≡ relations) × (kernel.counters ≡ counters)
-  pub left : IsLeft seen may_leave moment left_since faults kernel (IsEnded why device)
-  pub stands : StandsForBook may_leave first kernel why device
+  pub ended : IsEnded faults kernel device
   pub broken : StayBroken answers
 
 module _ {D : Type 0} {g : Ghosts D} (seen : D → List ℕ) (may_leave : D → List ℕ → Type 0) (moment : D → ℕ) (left_since : D → ℕ → List ℕ → Type 0) (faults : D → ℕ) where
-  -- A rotation was refused, and only the device of the kernel is left.
+  -- The device failed in a rotation, and only it is left of the kernel.
   pub record HasEndedBy (k : Kernel D g) (event : Event) (answer : Answer) (device : D) : Type 0 where
-    pub why : Refusal
     pub rotation : event ≡ Rotate
-    pub refused : answer ≡ Refused why
-    pub left : IsLeft seen may_leave moment left_since faults k (IsEnded why device)
+    pub refused : answer ≡ Refused refusal.DeviceFailed
+    pub ended : IsEnded faults k device
     pub found : (first : Base) → Restarts seen may_leave first k → FindsMeanwhile moment left_since k.relations k.counters first k.core device
 
   -- what an event made of a kernel

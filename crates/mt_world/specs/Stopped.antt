@@ -13,13 +13,13 @@ use Rattle.mt_restart.specs.declared.schema.Schema.{Schema}
 use Rattle.mt_txn.specs.declared.kernel.Kernel.{Kernel}
 use Rattle.mt_world.specs.Crashes.{HasBegun, device_under}
 use Rattle.mt_world.specs.Schedules.{HasRunTo}
-use Rattle.mt_world.specs.Standings.{device_at}
+use Rattle.mt_restart.specs.Standings.{device_at}
 use Rattle.mt_world.specs.Stopping.{StopsAt, below, taken_by}
 use Rattle.mt_world.specs.Reported.{acknowledged, commit_order}
 use Rattle.mt_world.specs.declared.crash.CrashRun.{CrashRun}
 use Rattle.mt_world.specs.declared.events.Answer.{Answer}
 use Rattle.mt_world.specs.declared.events.Event.{Event}
-use Rattle.mt_world.specs.declared.kernel_or_device.Standing.{Standing}
+use Rattle.mt_restart.specs.declared.standing.Standing.{Standing}
 use Rattle.mt_world.specs.declared.stopping_device.StoppingDevice.{StoppingDevice}
 
 -- A restart finds in these bytes what some of the first of these commits lead to from the schema's first base, and so

@@ -1,14 +1,12 @@
 // One event, made by the kernel's call of its name, or by a rotation of its log.
-ghost use Rattle.mt_world.specs.Standings.{IsLeftAs};
 ghost use Rattle.mt_world.specs.Schedules.{GoesTo, HasBecome, HasMade, IsMadeInPlace};
 ghost use Rattle.mt_world.specs.declared.events.Event.TheVariants as event;
 
 use crate::events::{Answer, Event};
-use crate::kernel_or_device::Standing;
 use mt_base::{Refusal, TxnNo};
 use mt_disk::Device;
 use mt_model::Op;
-use mt_restart::{NotRotated, rotate};
+use mt_restart::{Standing, rotate};
 use mt_txn::Kernel;
 use std::alloc::Global;
 
@@ -127,36 +125,14 @@ fn make_in_place<D: Device>(kernel: &mut Kernel<D>, event: &Event) -> Option<Ans
     }
 }
 
-// What stands if a rotation was refused, and its answer.
-fn refused<D: Device>(left: NotRotated<D>) -> (Standing<D>, Answer)
-    ensures { IsLeftAs left result.0 result.1 }
-{
-    match left {
-        NotRotated::Kept(refusal, kernel) => {
-            (Standing::Stands(kernel), Answer::Refused(refusal))
-        }
-        NotRotated::Ended(refusal, device) => {
-            (Standing::Ended(device), Answer::Refused(refusal))
-        }
-    }
-}
-
-// Turns the log over. The tests are those of the rotation: what is refused by them leaves the kernel itself.
+// Turns the log over.
 fn turn_over<D: Device + Drop>(alloc: Global, kernel: Kernel<D>) -> (Standing<D>, Answer)
     ensures { HasBecome D.seen D.may_leave D.moment D.left_since D.faults kernel event.Rotate result.1 result.0 }
 {
-    if kernel.has_failed() {
-        return (
-            Standing::Stands(kernel),
-            Answer::Refused(Refusal::DeviceFailed),
-        );
-    }
-    if !kernel.has_nobody() {
-        return (Standing::Stands(kernel), Answer::Refused(Refusal::Busy));
-    }
-    match rotate(alloc, kernel, FRAMES) {
-        Ok(kernel) => (Standing::Stands(kernel), Answer::Rotated),
-        Err(left) => refused(left),
+    let (standing, outcome) = rotate(alloc, kernel, FRAMES);
+    match outcome {
+        Ok(()) => (standing, Answer::Rotated),
+        Err(refusal) => (standing, Answer::Refused(refusal)),
     }
 }
 
@@ -175,8 +151,8 @@ fn make_on<D: Device + Drop>(
     }
 }
 
-/// Makes an event on what stands, and gives what stands then with the answer. Once a rotation has ended the kernel,
-/// each event is refused with 2.
+/// Makes an event on what stands, and gives what stands then with the answer. Once the device failed in a rotation that
+/// left no kernel, each event is refused with 2.
 pub(crate) fn make<D: Device + Drop>(
     alloc: Global,
     standing: Standing<D>,

@@ -12,11 +12,10 @@ mod commit_order;
 mod crash;
 mod event_calls;
 mod events;
-mod kernel_or_device;
 mod schedules;
 mod stopping_device;
 
 pub use crash::{CrashRun, crash_run};
 pub use events::{Answer, Event};
-pub use kernel_or_device::Standing;
+pub use mt_restart::Standing;
 pub use schedules::run_schedule;

@@ -20,8 +20,8 @@ pub returns-in-Err-clause-cut : goal.returns-in-Err-clause-cut
 returns-in-Err-clause-cut g c =
     let D = g.D.Device in
     let none : c.loop-at.live ≡ None = is_nothing c.loop-at.live c.is_none.result c.is_none.ensures c.if-is_none.true in
-    through_not_turned D.seen D.may_leave D.faults c.args.stop c.args.session c.args.kernel c.args.lines.now c.loop-at.at c.loop-at.live c.in-Err.why c.in-Err.device _ _ _ c.loop-at.kernel c.end_refused.result
-    none c.loop-at.invariant c.in-Err.ensures.out c.end_refused.ensures
+    through_not_turned D.seen D.may_leave D.faults c.args.stop c.args.session c.args.kernel c.args.lines.now c.loop-at.at c.loop-at.live c.in-Err.device _ _ _ c.loop-at.kernel c.end_refused-why.result
+    none c.loop-at.invariant c.in-Err.ensures.out c.end_refused-why.ensures
 
 pub returns-in-Err-run_line-clause-cut : goal.returns-in-Err-run_line-clause-cut
 returns-in-Err-run_line-clause-cut g c =

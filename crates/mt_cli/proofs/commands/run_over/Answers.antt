@@ -1,6 +1,5 @@
 use Rattle.std.proofs.Common.{refl}
 use Rattle.std.proofs.KnownBytes.{Keeps-refl}
-use Rattle.mt_alone.specs.Turnovers.{why_in}
 use Rattle.mt_cli.proofs.Trials.{short_of, stopped_end, tried_end, tried_of}
 use Rattle.mt_cli.specs.Performs.{unmade, cut}
 use Rattle.mt_cli.proofs.commands.run_over.Goals as goal
@@ -27,7 +26,7 @@ returns-in-Err-run_script-clause-cut g c =
     let D = g.D.Device in
     let left = c.in-Err-run_script.left in
     rw (c.ended-in-Err-run_script.ensures, c.into_device-why.ensures.why)
-    (cut (why_in left) _ (short_of D c.in-Ok.kernel c.args.script.now.lines.items _ _ left c.in-Ok.ensures.first c.in-Err-run_script.ensures.cut) refl)
+    (cut left.why _ (short_of D c.in-Ok.kernel c.args.script.now.lines.items _ _ left c.in-Ok.ensures.first c.in-Err-run_script.ensures.cut) refl)
 
 pub returns-in-Err-run_script-clause-tried : goal.returns-in-Err-run_script-clause-tried
 returns-in-Err-run_script-clause-tried g c = rw c.ended-in-Err-run_script.ensures tt

@@ -2,7 +2,6 @@ use Rattle.std.proofs.Common.{◌≡◌, ◌∙◌, length, ap, sym, arith}
 use Rattle.mt_index.specs.Checks.{bytes_of}
 use Rattle.mt_log.specs.Words.{has_failed}
 use Rattle.mt_op.specs.Begun.{ShowsOpening}
-use Rattle.mt_op.specs.declared.operations.Operations.{Operations}
 use Rattle.mt_pool.specs.Kept.{IsKept}
 use Rattle.mt_pool.specs.Views.{pages}
 use Rattle.mt_pool.specs.declared.store.Store.{Store}

@@ -8,7 +8,7 @@ use Rattle.mt_restart.proofs.Calls.{not_either}
 use Rattle.mt_log.specs.Masters.{IsRuling}
 use Rattle.mt_log.specs.NextSlot.{next_slot}
 use Rattle.mt_restart.proofs.Ruled.{one_rules}
-use Rattle.mt_restart.proofs.Again.{over_stands, read_stands, when_over}
+use Rattle.mt_restart.proofs.Again.{over_stands, read_stands, read_synced, when_over}
 use Rattle.mt_restart.proofs.recovery.recover.Goals as goal
 
 pub turn-requires-clause-only : goal.turn-requires-clause-only
@@ -27,8 +27,8 @@ returns-in_err-found g c = record {
   settled = λ relations counters b found other.
       let D = g.D.Device in
       read_stands D.seen D.may_leave D.moment D.left_since g.met.D.Device.only_now g.met.D.Device.counts_now c.args.device.now c.sync.new.self c.find.new.device c.sync.ensures.seen c.find.ensures.reads relations counters b found c.in_ok-sync.ensures.durable;
-  unwritten = let p = err_from_is_err_and c.from_residual-in_err-found.result c.from_residual-in_err-found.ensures.1 in
-      rw (p.1, p.2) (λ not. c.find.ensures.reads.same ∙ c.sync.ensures.seen);
+  reads = let D = g.D.Device in let p = err_from_is_err_and c.from_residual-in_err-found.result c.from_residual-in_err-found.ensures.1 in
+      rw (p.1, p.2) (λ not. read_synced D.seen D.may_leave D.moment D.left_since g.met.D.Device.only_now c.args.device.now c.sync.new.self c.find.new.device c.sync.ensures.seen c.sync.ensures.time c.sync.ensures.crash c.find.ensures.reads);
   -- the same cause, of a device that failed in no call before
   cause = let D = g.D.Device in let p = err_from_is_err_and c.from_residual-in_err-found.result c.from_residual-in_err-found.ensures.1 in let new = c.find.new.device in
       rw (p.1, p.2) (subst (λ (n : ℕ). IsCauseToStop (D.seen c.args.device.now) (n < D.faults new) c.in_err-found.field-0.0) (c.in_ok-sync.ensures.cause.quiet refl)
@@ -56,7 +56,7 @@ returns-in_err-log g c = record {
       over_stands D.seen D.may_leave D.moment D.left_since g.met.D.Device.only_now g.met.D.Device.counts_now o s n c.sync.ensures.seen c.find.ensures.reads relations counters b found
       c.slots_are_read_back.ensures c.only_own_pages_matter.ensures c.args.frames c.in_ok-found.found c.in_ok-found.ensures.found (c.in_ok-found.ensures.shows relations counters b (subst (λ (x : List ℕ). CanRestart relations counters x b) (sym c.sync.ensures.seen) found))
       c.deref.result.now c.deref.ensures.value c.turn.new.device c.turn.ensures.moments;
-  unwritten = let p = err_from_is_err_and c.from_residual-in_err-log.result c.from_residual-in_err-log.ensures.1 in
+  reads = let p = err_from_is_err_and c.from_residual-in_err-log.result c.from_residual-in_err-log.ensures.1 in
       rw (p.1, p.2) (λ not. absurd (not c.in_err-log.ensures.cause.0));
   -- the device failed in the turn, and in no call before
   cause = let D = g.D.Device in let old = D.faults c.args.device.now in let new = D.faults c.turn.new.device in
@@ -98,7 +98,7 @@ returns g c = record {
       over_stands D.seen D.may_leave D.moment D.left_since g.met.D.Device.only_now g.met.D.Device.counts_now o s n c.sync.ensures.seen c.find.ensures.reads relations counters b found
       c.slots_are_read_back.ensures c.only_own_pages_matter.ensures c.args.frames c.in_ok-found.found c.in_ok-found.ensures.found (c.in_ok-found.ensures.shows relations counters b (subst (λ (x : List ℕ). CanRestart relations counters x b) (sym c.sync.ensures.seen) found))
       c.deref.result.now c.deref.ensures.value c.turn.new.device c.turn.ensures.moments;
-  unwritten = search rules;
+  reads = search rules;
   cause = search rules;
   quiet = λ not. c.in_ok-log.ensures.quiet ∙ c.in_ok-found.ensures.quiet (λ e. cc) ∙ c.in_ok-sync.ensures.cause.quiet refl;
 }

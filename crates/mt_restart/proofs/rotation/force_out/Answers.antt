@@ -1,4 +1,4 @@
-use Rattle.std.proofs.Common.{◌≡◌, ◌∙◌, ◌-◌, ◌+◌, ◌<◌, ℕ, [], suc, arith, refl, subst, sym, append-nil}
+use Rattle.std.proofs.Common.{◌≡◌, ◌∙◌, ◌-◌, ◌+◌, ◌<◌, ℕ, [], suc, arith, refl, subst, sym, append-nil, true}
 use Rattle.mt_base.specs.declared.refusal.Refusal.{Refusal}
 use Rattle.mt_log.specs.Words.{durable}
 use Rattle.std.proofs.lemmas.Result.{err_from_is_err_and}
@@ -15,6 +15,7 @@ loop-step-init g c =
     let D = g.D.Device in let k = c.args.kernel.now in
     record {
       keeps = keeps_itself D.seen D.may_leave D.moment D.left_since g.met.D.Device.only_now k;
+      well = c.requires.well;
       nobody = c.requires.nobody;
       grows = ([], sym (append-nil (durable k.core.operations.store.log)));
       quiet = refl;
@@ -30,7 +31,7 @@ returns-in_err-force_step-clause-keeps g c =
 pub returns-in_err-force_step-clause-cause : goal.returns-in_err-force_step-clause-cause
 returns-in_err-force_step-clause-cause g c =
     let r = err_from_is_err_and c.from_residual.result c.from_residual.ensures.1 in
-    rw (r.1, r.2) (force_cause g.D.Device.faults c.loop-step.kernel c.force_step.new.self c.in_err-force_step.field-0.0 c.in_err-force_step.ensures.cause c.in_err-force_step.ensures.fails.1)
+    rw (r.1, r.2) (force_cause g.D.Device.seen g.D.Device.faults c.loop-step.kernel c.force_step.new.self c.in_err-force_step.field-0.0 c.in_err-force_step.ensures.cause c.in_err-force_step.ensures.fails.1 c.in_err-force_step.ensures.memory c.loop-step.invariant.well)
 
 pub returns-in-Idle-clause-keeps : goal.returns-in-Idle-clause-keeps
 returns-in-Idle-clause-keeps g c =
@@ -41,6 +42,7 @@ pub returns-in-Idle-clause-forced : goal.returns-in-Idle-clause-forced
 returns-in-Idle-clause-forced g c =
     let D = g.D.Device in let m = c.loop-step.kernel in let n = c.force_step.new.self in
     record {
+      well = c.in_ok-force_step.ensures.well (refl {a = true});
       nobody = nobody_still m.core n.core c.loop-step.invariant.nobody c.force_step.ensures.states;
       forced = idle_durable m.core.operations.store.log n.core.operations.store.log (rw c.in-Idle.is at c.in_ok-force_step.ensures.log).0;
       grows = grows_forced D.seen D.may_leave c.args.kernel.now m n c.in_ok-force_step.field-0 c.loop-step.invariant.grows c.in_ok-force_step.ensures.log;
@@ -52,6 +54,7 @@ loop-step-preserved g c =
     let D = g.D.Device in let i = c.loop-step.invariant in let e = c.force_step.ensures in let m = c.loop-step.kernel in let n = c.force_step.new.self in
     record {
       keeps = keeps_forced D.seen D.may_leave D.moment D.left_since g.met.D.Device.only_now c.args.kernel.now m n c.force_step.result c.requires.nobody i.nobody m.well i.keeps i.grows e.forced e.log e.restarts e.schema e.moments;
+      well = c.in_ok-force_step.ensures.well (refl {a = true});
       nobody = nobody_still m.core n.core i.nobody e.states;
       grows = grows_forced D.seen D.may_leave c.args.kernel.now m n c.in_ok-force_step.field-0 i.grows c.in_ok-force_step.ensures.log;
       quiet = e.quiet (not_refused c.force_step.result c.in_ok-force_step.field-0 Refusal.DeviceFailed c.in_ok-force_step.was) ∙ i.quiet;

@@ -1,4 +1,5 @@
-use Rattle.std.proofs.Common.{◌≡◌, ◌-◌}
+use Rattle.std.proofs.Common.{◌≡◌, ◌-◌, false}
+use Rattle.mt_txn.specs.Shown.{is_failed}
 use Rattle.mt_txn.specs.Turned.{HasNobody}
 use Rattle.mt_restart.proofs.Rotations.{IsNear}
 use Rattle.mt_restart.specs.Rotated.{Grows, Keeps}
@@ -9,6 +10,7 @@ invariant-loop-step g l =
     let D = g.D.Device in
     record {
       keeps : Keeps D.seen D.may_leave D.moment D.left_since l.initial.kernel l.kernel;
+      well : is_failed l.kernel ≡ false;
       nobody : HasNobody l.kernel;
       grows : Grows l.initial.kernel l.kernel;
       quiet : D.faults l.kernel.core.operations.store.device ≡ D.faults l.initial.kernel.core.operations.store.device;

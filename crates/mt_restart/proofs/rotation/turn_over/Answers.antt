@@ -1,4 +1,4 @@
-use Rattle.std.proofs.Common.{rules, ◌∙◌, ◌<◌, sym, ap, subst}
+use Rattle.std.proofs.Common.{◌∙◌, ◌<◌, ap, arith, inr, refl, subst, sym}
 use Rattle.std.proofs.Props.{props}
 use Rattle.std.proofs.lemmas.Int.{ints}
 use mathlib.Core.Logic.{∥∥₁_elim, ∥∥₁_map, ∥∥₁_prop}
@@ -6,79 +6,107 @@ use Rattle.mt_base.specs.declared.refusal.Refusal.{Refusal}
 use Rattle.mt_log.specs.Words.{appended}
 use Rattle.mt_log.specs.Masters.{IsRuling}
 use Rattle.mt_model.specs.History.{after}
+use Rattle.mt_model.specs.Model.{Base}
 use Rattle.mt_op.specs.Begun.{AreImages}
 use Rattle.mt_op.specs.declared.operations.Operations.{Operations}
-use Rattle.mt_replay.specs.Stands.{CanRestart}
 use Rattle.mt_txn.specs.Restarted.{FindsMeanwhile}
-use Rattle.mt_restart.specs.Recovered.{IsCauseToStop}
+use Rattle.mt_txn.specs.Shown.{Restarts}
+use Rattle.mt_restart.specs.Recovered.{IsRecovered}
 use Rattle.mt_restart.proofs.Calls.{not_refused, refused_so}
 use Rattle.mt_restart.proofs.Opened.{base_in_bounds}
-use Rattle.mt_restart.proofs.Rotations.{end_cause, found_over, goes_on, goes_over}
+use Rattle.mt_restart.proofs.EarlyCauses.{early_none}
+use Rattle.mt_restart.proofs.Rotations.{can_attach, device_now, device_was, fails_as, fault_cause, found_over, goes_on, goes_over, keeps_attached, represents, rest_of, stop_cause}
 use Rattle.mt_restart.proofs.rotation.turn_over.Goals as goal
 
-pub join-requires-clause-goes_on : goal.join-requires-clause-goes_on
-join-requires-clause-goes_on g c =
-    let D = g.D.Device in let k = c.args.kernel in let r = c.in-Ok.recovered in
-    ∥∥₁_elim k.starts ∥∥₁_prop (λ (first, starts).
-    ∥∥₁_map (c.rests_on_its_book.ensures first (D.seen k.core.operations.store.device) starts c.requires.nobody c.requires.forced (g.met.D.Device.present k.core.operations.store.device)) (λ can.
-    let here : CanRestart k.relations k.counters (D.seen c.part-device.result.0) (after first k.core.book.items) = subst (λ (d : _). CanRestart k.relations k.counters (D.seen d) (after first k.core.book.items)) (sym c.part-device.ensures.device) can in (
+pub parts_over-operations-requires : goal.parts_over-operations-requires
+parts_over-operations-requires g c = record {
+  recovered = (c.args.frames, subst (λ (d : _). IsRecovered g.D.Device.seen g.D.Device.may_leave c.args.frames d c.in-Ok.recovered) (sym c.part-device.ensures.device) c.in-Ok.ensures.recovered);
+}
+
+pub join-kernel-requires-clause-goes_on : goal.join-kernel-requires-clause-goes_on
+join-kernel-requires-clause-goes_on g c =
+    let D = g.D.Device in let k = c.args.kernel in let d = c.detach-device.result.0 in let rest = c.detach-device.result.1 in let is = c.detach-device.ensures in let e = c.recover.new.device in
+    let r = c.in-Ok.recovered in let here = represents k rest d is D.seen D.may_leave c.rests_on_its_book.ensures (g.met.D.Device.present k.core.operations.store.device) c.requires.nobody c.requires.forced in
+    ∥∥₁_elim k.starts ∥∥₁_prop (λ (first, starts). ∥∥₁_map (here first starts) (λ can. (
       first,
       k.core,
-      goes_on D.seen D.may_leave c.only_own_pages_matter.ensures k first c.part-device.result.1 c.parts_over-operations.result.0 c.parts_over-operations.result.1 c.args.frames r.restored.pages.items r.beside c.part-device.ensures.rest c.requires.nobody starts c.in-Ok.ensures.recovered.beside
-          (c.in-Ok.ensures.shows k.relations k.counters (after first k.core.book.items) here) (base_in_bounds k.relations k.counters (D.seen c.part-device.result.0) (after first k.core.book.items) here) c.parts_over-operations.ensures.opens,
+      goes_on D.seen D.may_leave c.only_own_pages_matter.ensures k first c.part-device.result.1 c.parts_over-operations.result.0 c.parts_over-operations.result.1 c.args.frames r.restored.pages.items r.beside (rest_of k rest d is e c.part-device.result.1 c.part-device.ensures.rest) c.requires.nobody starts c.in-Ok.ensures.recovered.beside
+          (c.in-Ok.ensures.shows k.relations k.counters (after first k.core.book.items) can) (base_in_bounds k.relations k.counters (D.seen d) (after first k.core.book.items) can) c.parts_over-operations.ensures.opens,
     )))
 
-pub returns-in-Ok : goal.returns-in-Ok
-returns-in-Ok g c = record {
-  goes_on = let D = g.D.Device in let k = c.args.kernel in let r = c.in-Ok.recovered in
-      goes_over D.seen D.may_leave c.only_own_pages_matter.ensures k c.join.result c.part-device.result.1 c.parts_over-operations.result.0 c.parts_over-operations.result.1 c.part-device.ensures.rest (λ first starts.
-      ∥∥₁_map (c.rests_on_its_book.ensures first (D.seen k.core.operations.store.device) starts c.requires.nobody c.requires.forced (g.met.D.Device.present k.core.operations.store.device)) (λ can.
-      let here : CanRestart k.relations k.counters (D.seen c.part-device.result.0) (after first k.core.book.items) = subst (λ (d : _). CanRestart k.relations k.counters (D.seen d) (after first k.core.book.items)) (sym c.part-device.ensures.device) can in
-      goes_on D.seen D.may_leave c.only_own_pages_matter.ensures k first c.part-device.result.1 c.parts_over-operations.result.0 c.parts_over-operations.result.1 c.args.frames r.restored.pages.items r.beside c.part-device.ensures.rest c.requires.nobody starts c.in-Ok.ensures.recovered.beside
-      (c.in-Ok.ensures.shows k.relations k.counters (after first k.core.book.items) here) (base_in_bounds k.relations k.counters (D.seen c.part-device.result.0) (after first k.core.book.items) here) c.parts_over-operations.ensures.opens))
-      c.join.ensures.resumed c.join.ensures.schema;
-  begun = subst (λ (o : Operations g.row.D.Denot). AreImages (appended o.store.log)) (sym c.join.ensures.operations) c.parts_over-operations.ensures.fresh.images;
-  well = c.join.ensures.fails ∙ c.parts_over-operations.ensures.well;
-  -- the slot that the kernel names rules its device
-  once = let D = g.D.Device in let k = c.args.kernel in let was = k.core.operations.store.ruling in
-      ap (λ (o : Operations g.row.D.Denot). o.store.ruling) c.join.ensures.operations ∙ c.parts_over-operations.ensures.ruling
-      ∙ ∥∥₁_elim k.well (hlevel (props, ints)) (λ (origin, base, begun, safe).
-      c.in-Ok.ensures.next was (subst (λ (d : _). IsRuling (D.seen d) was) (sym c.part-device.ensures.device) (safe.fit.right.kept.rules (D.seen k.core.operations.store.device) (g.met.D.Device.present k.core.operations.store.device))));
-  moments = λ first starts.
-      let D = g.D.Device in let k = c.args.kernel in
-      let device = ap (λ (o : Operations g.row.D.Denot). o.store.device) c.join.ensures.operations ∙ c.parts_over-operations.ensures.device in
-      subst (λ (d : _). FindsMeanwhile D.moment D.left_since k.relations k.counters first k.core d) (sym device)
-      (found_over D.seen D.may_leave D.moment D.left_since g.met.D.Device.only_now k first c.part-device.result.0 c.recover.new.device c.part-device.ensures.device (g.met.D.Device.present k.core.operations.store.device) c.requires.nobody starts k.schema
-      (∥∥₁_map (c.rests_on_its_book.ensures first (D.seen k.core.operations.store.device) starts c.requires.nobody c.requires.forced (g.met.D.Device.present k.core.operations.store.device)) (λ can.
-      c.recover.ensures.moments k.relations k.counters (after first k.core.book.items) (subst (λ (d : _). CanRestart k.relations k.counters (D.seen d) (after first k.core.book.items)) (sym c.part-device.ensures.device) can))));
-  settled = search rules;
-  cause = search rules;
-  quiet = let faults = g.D.Device.faults in
-      ap (λ (o : Operations g.row.D.Denot). faults o.store.device) c.join.ensures.operations ∙ ap faults c.parts_over-operations.ensures.device
-      ∙ c.recover.ensures.quiet (not_refused c.recover.result c.in-Ok.recovered Refusal.DeviceFailed c.in-Ok.is) ∙ ap faults c.part-device.ensures.device;
-}
+pub returns-in-Ok-clause-rotated : goal.returns-in-Ok-clause-rotated
+returns-in-Ok-clause-rotated g c =
+    let D = g.D.Device in let k = c.args.kernel in let d = c.detach-device.result.0 in let rest = c.detach-device.result.1 in let is = c.detach-device.ensures in let e = c.recover.new.device in
+    let r = c.in-Ok.recovered in let here = represents k rest d is D.seen D.may_leave c.rests_on_its_book.ensures (g.met.D.Device.present k.core.operations.store.device) c.requires.nobody c.requires.forced in
+    let device = ap (λ (o : Operations g.row.D.Denot). o.store.device) c.join-kernel.ensures.operations ∙ c.parts_over-operations.ensures.device ∙ c.part-device.ensures.device in
+    record {
+      may = early_none k c.requires.well c.requires.nobody;
+      over = goes_over D.seen D.may_leave c.only_own_pages_matter.ensures k c.join-kernel.result c.part-device.result.1 c.parts_over-operations.result.0 c.parts_over-operations.result.1 (rest_of k rest d is e c.part-device.result.1 c.part-device.ensures.rest)
+          (λ first starts. ∥∥₁_map (here first starts) (λ can. goes_on D.seen D.may_leave c.only_own_pages_matter.ensures k first c.part-device.result.1 c.parts_over-operations.result.0 c.parts_over-operations.result.1 c.args.frames r.restored.pages.items r.beside (rest_of k rest d is e c.part-device.result.1 c.part-device.ensures.rest) c.requires.nobody starts c.in-Ok.ensures.recovered.beside
+          (c.in-Ok.ensures.shows k.relations k.counters (after first k.core.book.items) can) (base_in_bounds k.relations k.counters (D.seen d) (after first k.core.book.items) can) c.parts_over-operations.ensures.opens))
+          c.join-kernel.ensures.resumed c.join-kernel.ensures.schema;
+      begun = subst (λ (o : Operations g.row.D.Denot). AreImages (appended o.store.log)) (sym c.join-kernel.ensures.operations) c.parts_over-operations.ensures.fresh.images;
+      well = c.join-kernel.ensures.fails ∙ c.parts_over-operations.ensures.well;
+      -- the slot that the kernel names rules its device
+      once = let was = k.core.operations.store.ruling in
+          ap (λ (o : Operations g.row.D.Denot). o.store.ruling) c.join-kernel.ensures.operations ∙ c.parts_over-operations.ensures.ruling
+          ∙ ∥∥₁_elim k.well (hlevel (props, ints)) (λ (origin, base, begun, safe).
+          c.in-Ok.ensures.next was (subst (λ (x : _). IsRuling (D.seen x) was) (sym (device_was k rest d is)) (safe.fit.right.kept.rules (D.seen k.core.operations.store.device) (g.met.D.Device.present k.core.operations.store.device))));
+      quiet = ap D.faults device ∙ c.recover.ensures.quiet (not_refused c.recover.result r Refusal.DeviceFailed c.in-Ok.is) ∙ ap D.faults (device_was k rest d is);
+    }
 
-pub returns-in-Err : goal.returns-in-Err
-returns-in-Err g c = record {
-  goes_on = search rules;
-  begun = search rules;
-  well = search rules;
-  once = search rules;
-  moments = λ first starts.
-      let D = g.D.Device in let k = c.args.kernel in
-      found_over D.seen D.may_leave D.moment D.left_since g.met.D.Device.only_now k first c.part-device.result.0 c.recover.new.device c.part-device.ensures.device (g.met.D.Device.present k.core.operations.store.device) c.requires.nobody starts k.schema
-      (∥∥₁_map (c.rests_on_its_book.ensures first (D.seen k.core.operations.store.device) starts c.requires.nobody c.requires.forced (g.met.D.Device.present k.core.operations.store.device)) (λ can.
-      c.recover.ensures.moments k.relations k.counters (after first k.core.book.items) (subst (λ (d : _). CanRestart k.relations k.counters (D.seen d) (after first k.core.book.items)) (sym c.part-device.ensures.device) can)));
-  settled = λ first starts other x left.
-      let D = g.D.Device in let k = c.args.kernel in
-      ∥∥₁_map (c.rests_on_its_book.ensures first (D.seen k.core.operations.store.device) starts c.requires.nobody c.requires.forced (g.met.D.Device.present k.core.operations.store.device)) (λ can.
-      c.recover.ensures.settled k.relations k.counters (after first k.core.book.items) (subst (λ (d : _). CanRestart k.relations k.counters (D.seen d) (after first k.core.book.items)) (sym c.part-device.ensures.device) can)
-      (refused_so c.recover.result c.in-Err.refusal Refusal.DeviceFailed c.in-Err.is other) x left);
-  cause = let D = g.D.Device in let k = c.args.kernel in
-      ∥∥₁_elim k.starts ∥∥₁_prop (λ (first, starts).
-      ∥∥₁_map (c.rests_on_its_book.ensures first (D.seen k.core.operations.store.device) starts c.requires.nobody c.requires.forced (g.met.D.Device.present k.core.operations.store.device)) (λ can.
-      end_cause D.seen D.faults k.core.operations.store.device c.recover.new.device c.in-Err.refusal
-      (subst (λ (d : _). IsCauseToStop (D.seen d) (D.faults d < D.faults c.recover.new.device) c.in-Err.refusal) c.part-device.ensures.device c.in-Err.ensures.cause)
-      (c.in-Err.ensures.no_other_refusal k.relations k.counters (after first k.core.book.items) (subst (λ (d : _). CanRestart k.relations k.counters (D.seen d) (after first k.core.book.items)) (sym c.part-device.ensures.device) can))));
-  quiet = λ not. c.recover.ensures.quiet (refused_so c.recover.result c.in-Err.refusal Refusal.DeviceFailed c.in-Err.is not) ∙ ap g.D.Device.faults c.part-device.ensures.device;
-}
+pub returns-in-Ok-clause-moments : goal.returns-in-Ok-clause-moments
+returns-in-Ok-clause-moments g c = λ first starts.
+    let D = g.D.Device in let k = c.args.kernel in let d = c.detach-device.result.0 in let rest = c.detach-device.result.1 in let is = c.detach-device.ensures in let e = c.recover.new.device in
+    let here = represents k rest d is D.seen D.may_leave c.rests_on_its_book.ensures (g.met.D.Device.present k.core.operations.store.device) c.requires.nobody c.requires.forced in
+    let device = ap (λ (o : Operations g.row.D.Denot). o.store.device) c.join-kernel.ensures.operations ∙ c.parts_over-operations.ensures.device ∙ c.part-device.ensures.device in
+    subst (λ (x : _). FindsMeanwhile D.moment D.left_since k.relations k.counters first k.core x) (sym device)
+    (found_over D.seen D.may_leave D.moment D.left_since g.met.D.Device.only_now k first d e (device_was k rest d is) (g.met.D.Device.present k.core.operations.store.device) c.requires.nobody starts k.schema
+    (∥∥₁_map (here first starts) (λ can. c.recover.ensures.moments k.relations k.counters (after first k.core.book.items) can)))
+
+pub returns-in-DeviceFailed-clause-rotated : goal.returns-in-DeviceFailed-clause-rotated
+returns-in-DeviceFailed-clause-rotated g c =
+    let D = g.D.Device in let k = c.args.kernel in let d = c.detach-device.result.0 in let rest = c.detach-device.result.1 in let is = c.detach-device.ensures in let e = c.recover.new.device in (
+      refl,
+      record {
+        may = early_none k c.requires.well c.requires.nobody;
+        failed = let failed : D.faults d < D.faults e = fault_cause D.seen D.faults d e c.in-Err.refusal c.in-DeviceFailed.is c.in-Err.ensures.cause in
+            let was = ap D.faults (device_was k rest d is) in let now = ap D.faults c.part-device-in-DeviceFailed.ensures.device in omega (arith, failed, was, now);
+      },
+    )
+
+pub returns-in-DeviceFailed-clause-moments : goal.returns-in-DeviceFailed-clause-moments
+returns-in-DeviceFailed-clause-moments g c = λ first starts.
+    let D = g.D.Device in let k = c.args.kernel in let d = c.detach-device.result.0 in let rest = c.detach-device.result.1 in let is = c.detach-device.ensures in let e = c.recover.new.device in
+    let here = represents k rest d is D.seen D.may_leave c.rests_on_its_book.ensures (g.met.D.Device.present k.core.operations.store.device) c.requires.nobody c.requires.forced in
+    subst (λ (x : _). FindsMeanwhile D.moment D.left_since k.relations k.counters first k.core x) (sym c.part-device-in-DeviceFailed.ensures.device)
+    (found_over D.seen D.may_leave D.moment D.left_since g.met.D.Device.only_now k first d e (device_was k rest d is) (g.met.D.Device.present k.core.operations.store.device) c.requires.nobody starts k.schema
+    (∥∥₁_map (here first starts) (λ can. c.recover.ensures.moments k.relations k.counters (after first k.core.book.items) can)))
+
+pub attach-requires : goal.attach-requires
+attach-requires g c =
+    let D = g.D.Device in let k = c.args.kernel in let d = c.detach-device.result.0 in let rest = c.detach-device.result.1 in let is = c.detach-device.ensures in let e = c.recover.new.device in
+    can_attach k rest d is D.seen D.may_leave D.moment D.left_since e (c.in-Err.ensures.reads c.in_default.not-DeviceFailed) k.well k.starts
+
+pub returns-in_default : goal.returns-in_default
+returns-in_default g c =
+    let D = g.D.Device in let k = c.args.kernel in let d = c.detach-device.result.0 in let rest = c.detach-device.result.1 in let is = c.detach-device.ensures in let e = c.recover.new.device in
+    let here = represents k rest d is D.seen D.may_leave c.rests_on_its_book.ensures (g.met.D.Device.present k.core.operations.store.device) c.requires.nobody c.requires.forced in let n = c.attach.result in
+    let reads = c.in-Err.ensures.reads c.in_default.not-DeviceFailed in
+    let now = device_now k rest d is D.seen D.may_leave D.moment D.left_since e reads n c.attach.ensures in
+    let found : (first : Base) → Restarts D.seen D.may_leave first k → FindsMeanwhile D.moment D.left_since k.relations k.counters first k.core n.core.operations.store.device = λ first starts. subst (λ (x : _). FindsMeanwhile D.moment D.left_since k.relations k.counters first k.core x) (sym now)
+    (found_over D.seen D.may_leave D.moment D.left_since g.met.D.Device.only_now k first d e (device_was k rest d is) (g.met.D.Device.present k.core.operations.store.device) c.requires.nobody starts k.schema
+    (∥∥₁_map (here first starts) (λ can. c.recover.ensures.moments k.relations k.counters (after first k.core.book.items) can))) in
+    record {
+      rotated = record {
+        keeps = keeps_attached k rest d is D.seen D.may_leave D.moment D.left_since e reads n c.attach.ensures found;
+        cause = inr (
+          early_none k c.requires.well c.requires.nobody,
+          stop_cause D.seen D.faults d e n c.in-Err.refusal c.in-Err.ensures.cause
+              (∥∥₁_elim k.starts ∥∥₁_prop (λ (first, starts). ∥∥₁_map (here first starts) (λ can. c.in-Err.ensures.no_other_refusal k.relations k.counters (after first k.core.book.items) can)))
+              c.in_default.not-DeviceFailed (ap D.seen now ∙ reads.same) (fails_as k rest d is D.seen D.may_leave D.moment D.left_since e reads n c.attach.ensures ∙ c.requires.well),
+        );
+        quiet = λ not. ap D.faults now ∙ c.recover.ensures.quiet (refused_so c.recover.result c.in-Err.refusal Refusal.DeviceFailed c.in-Err.is not) ∙ ap D.faults (device_was k rest d is);
+      };
+      moments = found;
+    }

@@ -3,7 +3,7 @@ use Rattle.mt_disk.specs.LeftBy.{LeftBy}
 use Rattle.mt_disk.specs.Memory.{MayLeave, only_present}
 use Rattle.mt_disk.specs.declared.memory.MemDevice.{MemDevice}
 use Rattle.mt_world.proofs.StopLemmas.{crash_of, stopped_same}
-use Rattle.mt_world.specs.Standings.{device_at}
+use Rattle.mt_restart.specs.Standings.{device_at}
 use Rattle.mt_world.specs.Stopping.{StopsAt, below}
 use Rattle.mt_world.specs.declared.stopping_device.StoppingDevice.{StoppingDevice}
 use Rattle.mt_world.specs.Reported.{acknowledged, commit_order}

@@ -5,7 +5,7 @@ use Rattle.mt_world.proofs.StandingLemmas.{RunsTo, found_to, has_run_to, runs_ne
 use Rattle.mt_world.specs.Crashes.{device_under}
 use Rattle.mt_world.specs.declared.events.Answer.{Answer}
 use Rattle.mt_world.specs.declared.events.Event.{Event}
-use Rattle.mt_world.specs.declared.kernel_or_device.Standing.TheVariants.{Stands}
+use Rattle.mt_restart.specs.declared.standing.Standing.TheVariants.{Stands}
 use Rattle.mt_world.proofs.schedules.make_all.Goals as goal
 
 pub loop-event-init : goal.loop-event-init

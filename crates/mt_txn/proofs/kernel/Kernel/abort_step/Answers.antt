@@ -1,6 +1,5 @@
-use Rattle.std.proofs.Common.{◌≡◌, ◌∙◌, Bool, true, Option, Some, None, ap, refl, sym}
+use Rattle.std.proofs.Common.{◌≡◌, ◌∙◌, Bool, true, Some, None, ap, refl, sym}
 use Rattle.std.specs.Prelude.{◌||◌}
-use Rattle.mt_base.specs.declared.refusal.Refusal.{Refusal}
 use Rattle.mt_base.specs.declared.refusal.Refusal.TheVariants.{DeviceFailed}
 use Rattle.mt_log.specs.Words.{has_failed}
 use Rattle.mt_txn.specs.Causes.{abort_cause}

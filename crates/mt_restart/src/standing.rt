@@ -1,19 +1,19 @@
-// What is there after events: a kernel, or the device alone if a rotation has ended it.
+// What is there after a rotation: a kernel, or the device alone if it failed.
+ghost use Rattle.std.specs.Prelude.{◌≡◌};
+ghost use Rattle.mt_restart.specs.Standings.{device_at};
+
 use mt_disk::Device;
 use mt_txn::Kernel;
 
-/// What stands after events: a kernel, or what a rotation that was refused has left of it.
+/// A kernel, or the device that failed while the kernel's log was turned over.
 pub enum Standing<D: Device> {
-    /// The kernel that the events led to.
+    /// The kernel.
     Stands(Kernel<D>),
-    /// A rotation was refused, and the kernel is gone with its book. The device is to be opened again.
+    /// The device, which failed in a rotation: the kernel is gone with its book. It is to be opened again.
     Ended(D),
 }
 
 impl<D: Device + Drop> Standing<D> {
-    ghost use Rattle.std.specs.Prelude.{◌≡◌};
-    ghost use Rattle.mt_world.specs.Standings.{device_at};
-
     /// The device, with which everything else is dropped. It takes no memory.
     pub fn into_device(self) -> D
         ensures { result ≡ device_at self }

@@ -112,7 +112,7 @@ module _ {D : Type 0} {g : Ghosts D} (seen : D → List ℕ) (may_leave : D → 
           schema = x.over.schema;
         }
 
-    -- the kernel is left behind its force
+    -- the kernel is left after its force
     late_turn : (k n : Kernel D g) (why : Refusal) → Starts k → Well k → Well n → IsLeft seen may_leave moment left_since faults k why n → early_cause k ≡ None → IsKeptCause seen n why → Turns k (Refused why) n
     late_turn k n why begun tied still_tied x may cause =
         let well = may_well k may in let nobody = may_nobody k may in

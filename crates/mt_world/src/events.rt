@@ -48,7 +48,6 @@ pub enum Answer {
     Flushed(Flushed),
     /// The log is turned over, and the state is as before.
     Rotated,
-    /// It was refused, and the state is as before. A rotation may have ended the kernel; then no kernel stands after
-    /// it.
+    /// It was refused, and the state is as before. If the device failed in a rotation, no kernel may stand after it.
     Refused(Refusal),
 }

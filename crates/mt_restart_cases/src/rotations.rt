@@ -11,8 +11,8 @@ use mt_txn::Kernel;
 use std::alloc::Global;
 use std::test::Fail;
 
-/// Where the first master slot has its epoch.
-const EPOCH_PLACE: usize = 5;
+/// The offset of the epoch of the first master slot.
+const EPOCH_OFFSET: usize = 5;
 
 /// The last epoch but one.
 const LAST_BUT_ONE: [u8; 8] = [0x7F, 0xFF, 0xFF, 0xFF, 0xFF, 0xFF, 0xFF, 0xFF];
@@ -22,7 +22,7 @@ fn last_kernel(alloc: Global) -> Result<Kernel<MemDevice>, Refusal> {
     let schema = Schema::new(alloc, 64, 4, 2, &[(0, 10, 5)])?;
     let mut device = device_of(alloc)?;
     format(&mut device, &schema)?;
-    put(&mut device, EPOCH_PLACE, &LAST_BUT_ONE)?;
+    put(&mut device, EPOCH_OFFSET, &LAST_BUT_ONE)?;
     match open(alloc, device, 64) {
         Ok(kernel) => Ok(kernel),
         Err((why, _device)) => Err(why),

@@ -44,6 +44,11 @@ pub record AreEqual (old new : List ℕ) (from at : ℕ) : Type 0 where
   pub within : at ≤ length old
   pub equal : (k : ℕ) → from ≤ k → k < at → get_or old k 0 ≡ get_or new k 0
 
+-- no byte from a place on up to another differs, and there one does if that is before an end
+pub record DiffersWithin (old new : List ℕ) (from end at : ℕ) : Type 0 where
+  pub before : AreEqual old new from at
+  pub differs : at < end → get_or old at 0 ≢ get_or new at 0
+
 -- the first place from one on at which a byte differs, or the length
 pub record FirstDiffers (old new : List ℕ) (from at : ℕ) : Type 0 where
   pub before : AreEqual old new from at

@@ -3,3 +3,4 @@ pub mod Limits
 pub mod Modes
 pub mod Ranges
 pub mod Refusal
+pub mod Touched

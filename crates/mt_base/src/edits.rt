@@ -3,10 +3,12 @@ ghost use Rattle.std.specs.Prelude.{◌≡◌, ◌≢◌, ◌+◌, ◌*◌, ◌<
 ghost use Rattle.std.specs.Int.{w64, to_le_bytes};
 ghost use Rattle.mt_base.specs.declared.limits.TheConstants.{PAGE_BYTES};
 ghost use Rattle.mt_base.specs.Ranges.{part, Same};
-ghost use Rattle.mt_base.specs.Edits.{patched, log_size, IsShortest, AreEqual, FirstDiffers, EndsRun, Edited};
+ghost use Rattle.mt_base.specs.Touched.{TouchesOnly};
+ghost use Rattle.mt_base.specs.Edits.{patched, log_size, IsShortest, AreEqual, FirstDiffers, DiffersWithin, EndsRun, Edited};
 
 use crate::bytes::Bytes;
 use crate::ranges::part_of;
+use crate::touched::TouchedBytes;
 use std::alloc::{AllocError, Global};
 
 // The bytes that are compared at once.
@@ -28,8 +30,15 @@ pub struct Edit {
 /// The edits that make the one page to the other. Each begins and ends with a byte that changes, and a range ends
 /// where fifteen bytes in a row stay. So together they take no more of a log than one edit of the whole page would.
 /// No byte differs: no edit. The only error is want of memory.
-pub fn edits_of(alloc: Global, old: &[u8], new: &[u8]) -> Result<Vec<Edit>, AllocError>
-    requires same { length old.now ≡ length new.now }
+///
+/// Of the bytes that were not touched, only those right after an edit are compared.
+pub fn edits_of(
+    alloc: Global,
+    old: &[u8],
+    new: &[u8],
+    touched: TouchedBytes,
+) -> Result<Vec<Edit>, AllocError>
+    requires touched { TouchesOnly touched old.now new.now }
     requires fits { length old.now ≤ PAGE_BYTES }
     ensures made { IfOk result (λ edits. patched edits.items old.now ≡ new.now) }
     ensures short { IfOk result (λ edits. All (IsShortest old.now new.now) edits.items) }
@@ -38,7 +47,7 @@ pub fn edits_of(alloc: Global, old: &[u8], new: &[u8]) -> Result<Vec<Edit>, Allo
     let mut edits = Vec::new(alloc);
     let mut last = 0;
     while last < old.len() {
-        last = step(alloc, &mut edits, old, new, last)?;
+        last = step(alloc, &mut edits, old, new, touched, last)?;
     }
     Ok(edits)
 }
@@ -49,16 +58,17 @@ fn step(
     edits: &mut Vec<Edit>,
     old: &[u8],
     new: &[u8],
+    touched: TouchedBytes,
     last: usize,
 ) -> Result<usize, AllocError>
-    requires same { length old.now ≡ length new.now }
+    requires touched { TouchesOnly touched old.now new.now }
     requires fits { length old.now ≤ PAGE_BYTES }
     requires so_far { Edited old.now new.now edits.old.items last }
     requires there { last < length old.now }
     ensures edited { IfOk result (λ end. Edited old.now new.now edits.new.items end) }
     ensures further { IfOk result (λ end. last < end) }
 {
-    let start = first_difference(old, new, last);
+    let start = first_difference(old, new, touched, last);
     if start == old.len() {
         return Ok(start);
     }
@@ -71,29 +81,48 @@ fn step(
     Ok(end)
 }
 
-// The first place from one on at which a byte differs, or the length.
-fn first_difference(old: &[u8], new: &[u8], from: usize) -> usize
-    requires same { length old.now ≡ length new.now }
+// The first place from one on at which a byte differs, or the length. Only bytes that may have been touched are
+// compared.
+fn first_difference(old: &[u8], new: &[u8], touched: TouchedBytes, from: usize) -> usize
+    requires touched { TouchesOnly touched old.now new.now }
     requires fits { length old.now ≤ PAGE_BYTES }
     requires there { from ≤ length old.now }
     ensures { FirstDiffers old.now new.now from result }
 {
-    let mut at = equal_blocks(old, new, from);
-    while at < old.len() && old[at] == new[at] {
+    let head = difference_within(old, new, from, touched.head);
+    if head < touched.head {
+        return head;
+    }
+    let end = touched.start + touched.count;
+    let at = difference_within(old, new, from.max(touched.start), end);
+    if at < end { at } else { old.len() }
+}
+
+// The first place from one on at which a byte differs, looked for up to an end.
+fn difference_within(old: &[u8], new: &[u8], from: usize, end: usize) -> usize
+    requires same { length old.now ≡ length new.now }
+    requires fits { length old.now ≤ PAGE_BYTES }
+    requires there { from ≤ length old.now }
+    requires within { end ≤ length old.now }
+    ensures { DiffersWithin old.now new.now from end result }
+{
+    let mut at = equal_blocks(old, new, from, end);
+    while at < end && old[at] == new[at] {
         at += 1;
     }
     at
 }
 
-// Where the blocks from a place on that are equal end.
-fn equal_blocks(old: &[u8], new: &[u8], from: usize) -> usize
+// Where the blocks from a place on that are equal end, looked for up to an end.
+fn equal_blocks(old: &[u8], new: &[u8], from: usize, end: usize) -> usize
     requires same { length old.now ≡ length new.now }
     requires fits { length old.now ≤ PAGE_BYTES }
     requires there { from ≤ length old.now }
+    requires within { end ≤ length old.now }
     ensures { AreEqual old.now new.now from result }
 {
     let mut at = from;
-    while at + BLOCK_BYTES <= old.len() && same_block(old, new, at) {
+    while at + BLOCK_BYTES <= end && same_block(old, new, at) {
         at += BLOCK_BYTES;
     }
     at

@@ -11,6 +11,7 @@ mod modes;
 mod numbers;
 pub mod ranges;
 mod refusal;
+mod touched;
 
 pub use bytes::Bytes;
 pub use edits::{Edit, edits_of};
@@ -18,3 +19,4 @@ pub use history::History;
 pub use modes::{LockMode, Mode};
 pub use numbers::{CtrNo, LogPos, OpNo, PageNo, RecordName, RelNo, TxnNo};
 pub use refusal::Refusal;
+pub use touched::TouchedBytes;

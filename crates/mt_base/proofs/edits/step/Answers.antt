@@ -1,4 +1,4 @@
-use Rattle.std.proofs.Common.{rules, arith, refl, ◌∙◌, ◌≡◌, ◌++◌, ◌∷◌, []}
+use Rattle.std.proofs.Common.{rules, arith, refl, sym, ◌∙◌, ◌≡◌, ◌++◌, ◌∷◌, []}
 use Rattle.mt_base.specs.declared.edits.Edit.{Edit}
 use Rattle.mt_base.proofs.Editing.{edited_rest, edited_more}
 use Rattle.mt_base.proofs.edits.step.Goals as goal
@@ -10,5 +10,5 @@ pub returns-clause-edited : goal.returns-clause-edited
 returns-clause-edited c =
     let e : Edit = record { start = c.first_difference-start.result; bytes = c.in_ok-bytes.bytes } in
     let items : c.push.new.self.items ≡ c.args.edits.now.items ++ e ∷ [] = c.in_ok-push.ensures.items in
-    rw items (edited_more c.args.old.now c.args.new.now c.args.edits.now.items e c.args.last c.first_difference-start.result c.run_end-end.result c.requires.same c.requires.so_far c.first_difference-start.ensures (omega arith)
+    rw items (edited_more c.args.old.now c.args.new.now c.args.edits.now.items e c.args.last c.first_difference-start.result c.run_end-end.result (sym c.requires.touched.size) c.requires.so_far c.first_difference-start.ensures (omega arith)
     c.run_end-end.ensures refl (c.in_ok-bytes.ensures ∙ c.part_of.ensures))

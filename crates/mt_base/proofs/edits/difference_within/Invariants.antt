@@ -1,6 +1,6 @@
 use Rattle.std.proofs.Common.{◌-◌, length}
 use Rattle.mt_base.specs.Edits.{AreEqual}
-use Rattle.mt_base.proofs.edits.first_difference.Given as goal
+use Rattle.mt_base.proofs.edits.difference_within.Given as goal
 
 abbrev pub invariant-loop-at : goal.invariant-loop-at
 invariant-loop-at l = AreEqual l.old l.new l.from l.at

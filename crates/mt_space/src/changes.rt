@@ -2,7 +2,7 @@
 ghost use Rattle.std.specs.Prelude.{◌≡◌, ◌≢◌, ◌≤◌, ◌+◌, ℕ, List, [], length, IfOk, OnOk};
 ghost use Rattle.mt_base.specs.declared.limits.TheConstants.{PAGE_BYTES};
 
-use mt_base::{Edit, PageNo, edits_of};
+use mt_base::{Edit, PageNo, TouchedBytes, edits_of};
 use std::alloc::{AllocError, Global};
 
 /// What changes in one page.
@@ -22,6 +22,7 @@ pub struct Changes {
 }
 
 impl Changes {
+    ghost use Rattle.mt_base.specs.Touched.{TouchesOnly};
     ghost use Rattle.mt_space.specs.Changes.{PageBytes, replaced, after, IsUntouched, AreShort};
 
     /// No change so far.
@@ -34,10 +35,17 @@ impl Changes {
     }
 
     /// Notes what changes in a page that no earlier change names, in ranges as short as a log wants them.
-    /// If no byte differs nothing is noted. The only error is want of memory.
-    pub fn note(&mut self, page: PageNo, old: &[u8], new: &[u8]) -> Result<(), AllocError>
+    /// If no byte differs nothing is noted. Who changed the page says which bytes were touched, and only these are
+    /// compared. The only error is want of memory.
+    pub fn note(
+        &mut self,
+        page: PageNo,
+        old: &[u8],
+        new: &[u8],
+        touched: TouchedBytes,
+    ) -> Result<(), AllocError>
         requires old_whole { length old.now ≡ PAGE_BYTES }
-        requires new_whole { length new.now ≡ PAGE_BYTES }
+        requires touched { TouchesOnly touched old.now new.now }
         ensures noted { OnOk result ((pages : PageBytes) → after self.old.list.items pages page ≡ old.now
             → after self.new.list.items pages ≡ replaced page new.now (after self.old.list.items pages)) }
         ensures short { OnOk result ((pages : PageBytes) → pages page ≡ old.now → IsUntouched self.old.list.items page
@@ -47,7 +55,7 @@ impl Changes {
         ensures count { OnOk result (length self.new.list.items ≤ length self.old.list.items + 1) }
         ensures same { OnOk result (new.now ≡ old.now → self.new ≡ self.old) }
     {
-        let edits = edits_of(*self.list.allocator(), old, new)?;
+        let edits = edits_of(*self.list.allocator(), old, new, touched)?;
         if edits.is_empty() {
             return Ok(());
         }

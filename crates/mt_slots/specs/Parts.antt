@@ -2,7 +2,9 @@
 use Rattle.std.specs.Prelude.{◌≡◌, ◌≢◌, ◌⊎◌, ℕ, ◌+◌, ◌*◌, ◌/◌, ◌%◌, ◌<◌, ◌≤◌, List, [], ◌∷◌, ◌++◌, length, Some}
 use Rattle.std.proofs.Math.ListN.{get_or}
 use Rattle.mt_base.specs.declared.limits.TheConstants.{PAGE_BYTES}
-use Rattle.mt_base.specs.Ranges.{Has, Same, part}
+use Rattle.mt_base.specs.Ranges.{Has, Same, Torn, part}
+use Rattle.mt_base.specs.declared.touched.TouchedBytes.{TouchedBytes}
+use Rattle.mt_base.specs.Touched.{TouchesOnly}
 use Rattle.mt_slots.specs.Page.{Row, count, offset, size, row_at, slot, live_bytes, IsFree, IsShaped, IsSlot, Fits, Opens, Sets}
 
 -- slot i of a page whose table ends at `low`, with a record of the schema if it holds one
@@ -47,6 +49,10 @@ HasPlace page i n bytes = (at : ℕ) × IsPlace page i n at bytes
 -- the records of the other slots stay where they are
 abbrev pub StaysPut : List ℕ → List ℕ → ℕ → Type 0
 StaysPut old new i = (j : ℕ) → j < count old → j ≢ i → offset new j ≡ offset old j
+
+-- only these bytes change, even if the head of slot i was another before
+abbrev pub Touches : TouchedBytes → ℕ → List ℕ → List ℕ → Type 0
+Touches touched i old new = (before : List ℕ) → Torn (8 + 4 * i) 4 before old → TouchesOnly touched before new
 
 -- a record of the page begins here
 pub record Begins (page : List ℕ) (n low : ℕ) : Type 0 where

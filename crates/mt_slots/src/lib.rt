@@ -4,7 +4,7 @@
 //!
 //! A record lies right below the lowest one if there is room, else in the first gap that takes it. Only if no
 //! gap does are the records packed at the page's end first. So an insert changes three short ranges: the slots'
-//! count, one slot's head, and the record's own bytes.
+//! count, one slot's head, and the record's own bytes. Each change answers which bytes it may have touched.
 #![tactic(auto)]
 
 mod compaction;
@@ -17,4 +17,4 @@ mod record_changes;
 pub use contents::{RecordView, get, live, room};
 pub use page_rules::check;
 pub use placement::ROW_HEAD_BYTES;
-pub use record_changes::{empty, insert, remove, replace};
+pub use record_changes::{Insertion, empty, insert, remove, replace};

@@ -3,7 +3,7 @@ ghost use Rattle.std.specs.Prelude.{◌≡◌, ◌≢◌, ◌+◌, ◌*◌, ◌<
 ghost use Rattle.mt_base.specs.declared.limits.TheConstants.{PAGE_BYTES};
 ghost use Rattle.mt_base.specs.Ranges.{Wrote};
 ghost use Rattle.mt_slots.specs.Page.{IsShaped, IsFree, Opens, count, offset, size, live_bytes};
-ghost use Rattle.mt_slots.specs.Parts.{IsPlace, HasPlace, StaysPut, Begins, row_text, PutsRow};
+ghost use Rattle.mt_slots.specs.Parts.{IsPlace, HasPlace, StaysPut, Begins, row_text, PutsRow, Touches};
 
 use crate::compaction::compact;
 use crate::contents::Survey;
@@ -11,9 +11,9 @@ use crate::heads::{
     PAGE_HEAD_BYTES, SLOT_BYTES, offset_of, set_count, set_head, size_of, slot_count,
 };
 use crate::page_rules::is_free;
-use mt_base::RelNo;
 use mt_base::limits::PAGE_BYTES;
 use mt_base::ranges::put;
+use mt_base::{RelNo, TouchedBytes};
 
 /// Bytes of a record before its key and value.
 pub const ROW_HEAD_BYTES: usize = 4;
@@ -47,7 +47,7 @@ fn write_row(page: &mut [u8], at: usize, relation: RelNo, key: &[u8], value: &[u
     put(page, at + ROW_HEAD_BYTES + key.len(), value);
 }
 
-// Puts a record into slot i, at a place that is free.
+// Puts a record into slot i, at a place that is free. Answers which bytes that touched, the slot's head among them.
 pub(crate) fn place_row(
     page: &mut [u8],
     i: usize,
@@ -56,7 +56,7 @@ pub(crate) fn place_row(
     relation: RelNo,
     key: &[u8],
     value: &[u8],
-)
+) -> TouchedBytes
     requires shaped { IsShaped page.old }
     requires place { IsPlace page.old i slots at (4 + length key.now + length value.now) }
     requires relation_fits { relation < 256 }
@@ -64,10 +64,17 @@ pub(crate) fn place_row(
     ensures puts { PutsRow page.old page.new i slots
         (record { relation = relation; key = key.now; value = value.now }) }
     ensures stays { StaysPut page.old page.new i }
+    ensures touched { Touches result i page.old page.new }
 {
+    let count = row_bytes(key, value);
     write_row(page, at, relation, key, value);
-    set_head(page, i, at, row_bytes(key, value));
+    set_head(page, i, at, count);
     set_count(page, slots);
+    TouchedBytes {
+        head: PAGE_HEAD_BYTES + SLOT_BYTES * slots,
+        start: at,
+        count,
+    }
 }
 
 // How many slots the table has once the slot `empty` is taken.
@@ -103,7 +110,7 @@ fn gap(page: &[u8], i: usize, low: usize, bytes: usize) -> Option<usize>
 }
 
 // Puts a record into slot i, for which there is room: below all records, into a gap, or after a
-// compaction if there is none.
+// compaction if there is none. Answers which bytes that touched, the slot's head among them.
 pub(crate) fn settle(
     page: &mut [u8],
     i: usize,
@@ -112,7 +119,7 @@ pub(crate) fn settle(
     relation: RelNo,
     key: &[u8],
     value: &[u8],
-)
+) -> TouchedBytes
     requires shaped { IsShaped page.old }
     requires live { found.live ≡ live_bytes page.old (count page.old) }
     requires lowest { (j : ℕ) → j < count page.old → size page.old j ≢ 0 → found.low ≤ offset page.old j }
@@ -125,17 +132,16 @@ pub(crate) fn settle(
     ensures puts { PutsRow page.old page.new i slots
         (record { relation = relation; key = key.now; value = value.now }) }
     ensures stays { HasPlace page.old i slots (4 + length key.now + length value.now) → StaysPut page.old page.new i }
+    ensures touched { Touches result i page.old page.new }
 {
     let bytes = row_bytes(key, value);
     let table = PAGE_HEAD_BYTES + SLOT_BYTES * slots;
     if table + bytes <= found.low {
-        place_row(page, i, slots, found.low - bytes, relation, key, value);
-        return;
+        return place_row(page, i, slots, found.low - bytes, relation, key, value);
     }
     if table <= found.low {
         if let Some(at) = gap(page, i, table, bytes) {
-            place_row(page, i, slots, at, relation, key, value);
-            return;
+            return place_row(page, i, slots, at, relation, key, value);
         }
     }
     compact(page, i, slots, bytes);
@@ -148,4 +154,5 @@ pub(crate) fn settle(
         key,
         value,
     );
+    TouchedBytes::whole()
 }

@@ -1,6 +1,7 @@
-use Rattle.std.proofs.Common.{◌≡◌, ◌<◌, ◌+◌, subst, ℕ, set, Some, arith}
-use Rattle.std.proofs.lemmas.Bool.{OnTrue_at, OnTrue_from, OnFalse_at, OnFalse_from}
-use Rattle.mt_slots.specs.Page.{Row, count, size, row_length, room_of, slot, slots, Sets}
+use Rattle.std.proofs.Common.{◌≡◌, subst, ℕ, Option, Some, None, arith}
+use Rattle.std.specs.Option.{IfNone}
+use Rattle.std.proofs.lemmas.Option.{IfSome_then}
+use Rattle.mt_slots.specs.Page.{count, size}
 use Rattle.mt_slots.proofs.Checked.{live_slot, sets_row, too_long}
 use Rattle.mt_slots.proofs.Listed.{sets_list}
 use Rattle.mt_slots.proofs.record_changes.replace.Goals as goal
@@ -15,14 +16,19 @@ pub replace_live-requires-clause-live : goal.replace_live-requires-clause-live
 replace_live-requires-clause-live c = λ none. (live_slot c.args.page.now c.args.slot c.requires.live).1 (subst (λ (k : ℕ). size c.args.page.now k ≡ 0) c.from.ensures none)
 
 pub returns-clause-done : goal.returns-clause-done
-returns-clause-done c = OnTrue_from c.replace_live.result ((r : Row) → slot c.args.page.now c.args.slot ≡ Some r → Sets c.args.page.now c.replace_live.new.page c.args.slot (Some (record r { value = c.args.value.now })) (count c.args.page.now)) (λ yes r is.
-    sets_row c.args.page.now c.replace_live.new.page c.from.result c.args.slot (count c.args.page.now) c.args.value.now r c.from.ensures is (OnTrue_at yes c.replace_live.ensures.done))
+returns-clause-done c = IfSome_then c.replace_live.result c.replace_live.ensures.done (λ touched sets r is.
+    sets_row c.args.page.now c.replace_live.new.page c.from.result c.args.slot (count c.args.page.now) c.args.value.now r c.from.ensures is sets)
 
 pub returns-clause-list : goal.returns-clause-list
-returns-clause-list c = OnTrue_from c.replace_live.result ((r : Row) → slot c.args.page.now c.args.slot ≡ Some r → slots c.replace_live.new.page ≡ set (slots c.args.page.now) c.args.slot (Some (record r { value = c.args.value.now }))) (λ yes r is.
+returns-clause-list c = IfSome_then c.replace_live.result c.replace_live.ensures.done (λ touched sets r is.
     sets_list c.args.page.now c.replace_live.new.page c.args.slot (Some (record r { value = c.args.value.now })) (live_slot c.args.page.now c.args.slot c.requires.live).0
-    (sets_row c.args.page.now c.replace_live.new.page c.from.result c.args.slot (count c.args.page.now) c.args.value.now r c.from.ensures is (OnTrue_at yes c.replace_live.ensures.done)))
+    (sets_row c.args.page.now c.replace_live.new.page c.from.result c.args.slot (count c.args.page.now) c.args.value.now r c.from.ensures is sets))
+
+-- what follows from what a clause says of no value
+then_none : {X P Q : Type 0} (o : Option X) → IfNone o P → (P → Q) → IfNone o Q
+then_none None is then = then is
+then_none (Some x) is then = tt
 
 pub returns-clause-full : goal.returns-clause-full
-returns-clause-full c = OnFalse_from c.replace_live.result ((r : Row) → slot c.args.page.now c.args.slot ≡ Some r → room_of c.args.page.now + row_length r < row_length (record r { value = c.args.value.now })) (λ no r is.
-    too_long c.args.page.now c.from.result c.args.slot c.args.value.now r c.requires.shaped c.from.ensures is (OnFalse_at no c.replace_live.ensures.full))
+returns-clause-full c = then_none c.replace_live.result c.replace_live.ensures.full (λ full r is.
+    too_long c.args.page.now c.from.result c.args.slot c.args.value.now r c.requires.shaped c.from.ensures is full)

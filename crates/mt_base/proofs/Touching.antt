@@ -1,38 +1,9 @@
--- Bytes that a change leaves.
-use Rattle.std.proofs.Common.{◌≡◌, inl, inr, ⊎_elim, ◌⊎◌, ℕ, ◌+◌, ◌<◌, ◌≤◌, List, length, get_or, max, sym, ◌∙◌, arith}
+-- What is compared of two pages.
+use Rattle.std.proofs.Common.{◌≡◌, inl, inr, ⊎_elim, ◌⊎◌, ℕ, ◌+◌, ◌<◌, ◌≤◌, List, length, get_or, max, sym, arith}
 use Rattle.std.proofs.lemmas.Bool.{cases_lt}
-use Rattle.mt_base.specs.Ranges.{Torn}
 use Rattle.mt_base.specs.Edits.{AreEqual, DiffersWithin, FirstDiffers}
 use Rattle.mt_base.specs.declared.touched.TouchedBytes.{TouchedBytes}
 use Rattle.mt_base.specs.Touched.{TouchesOnly}
-use Rattle.mt_base.proofs.Places.{get_torn}
-
--- two changes, one after the other
-pub touches_trans : (t : TouchedBytes) (a b c : List ℕ) → TouchesOnly t a b → TouchesOnly t b c → TouchesOnly t a c
-touches_trans t a b c first second = record {
-  size = second.size ∙ first.size;
-  head = first.head;
-  range = first.range;
-  rest = λ i late apart. second.rest i late apart ∙ first.rest i late apart;
-}
-
--- a torn range within the head
-pub touches_head : (t : TouchedBytes) (at n : ℕ) (old new : List ℕ) → Torn at n old new → at + n ≤ t.head → t.head ≤ length old → t.start + t.count ≤ length old → TouchesOnly t old new
-touches_head t at n old new torn within head range = record {
-  size = torn.size;
-  head = head;
-  range = range;
-  rest = λ i late apart. torn.above i (omega arith);
-}
-
--- a torn range within the range
-pub touches_range : (t : TouchedBytes) (at n : ℕ) (old new : List ℕ) → Torn at n old new → t.start ≤ at → at + n ≤ t.start + t.count → t.head ≤ length old → t.start + t.count ≤ length old → TouchesOnly t old new
-touches_range t at n old new torn low high head range = record {
-  size = torn.size;
-  head = head;
-  range = range;
-  rest = λ i late apart. get_torn at n i old new torn (⊎_elim (λ before. inl (omega arith)) (λ after. inr (omega arith)) apart);
-}
 
 -- the bytes that are not compared are equal
 untouched : (old new : List ℕ) (t : TouchedBytes) (from a m b k : ℕ) → TouchesOnly t old new → AreEqual old new from a → t.head ≤ a → AreEqual old new m b → m ≡ max from t.start

@@ -1,11 +1,9 @@
 -- Pages of which one is replaced, and lists of changes.
-use Rattle.std.proofs.Common.{◌≡◌, ◌≢◌, ◌+◌, ◌<◌, ◌≤◌, inl, inr, ⊎_elim, ℕ, List, [], ◌∷◌, ◌++◌, Option, None, Some, length, get_or, refl, sym, ◌∙◌, ap, subst, arith}
+use Rattle.std.proofs.Common.{◌≡◌, ◌≢◌, inl, inr, ℕ, List, [], ◌∷◌, ◌++◌, Option, None, Some, refl, sym, ◌∙◌, ap, subst, arith}
 use mathlib.Core.Path.{fun_ext}
 use Rattle.std.proofs.lemmas.Bool.{cases_eq}
 use Rattle.std.proofs.lemmas.Bool.Decides.{nat_tests}
 use Rattle.mt_base.specs.Edits.{patched}
-use Rattle.mt_base.specs.declared.touched.TouchedBytes.{TouchedBytes}
-use Rattle.mt_base.specs.Touched.{TouchesOnly}
 use Rattle.mt_space.specs.declared.changes.PageChange.{PageChange}
 use Rattle.mt_space.specs.Changes.{PageBytes, replaced, after, IsUntouched, IsShort, AreShort}
 
@@ -23,15 +21,6 @@ replaced_same p bytes pages is = fun_ext (λ q. elim (cases_eq q p) [
   | inl same ↦ replaced_here p q bytes pages same ∙ sym is ∙ sym (ap pages same)
   | inr other ↦ replaced_other p q bytes pages other
 ])
-
--- a page of which one byte alone may change
-pub touches_one : (t : TouchedBytes) (p : ℕ) (old new : List ℕ) → t.head ≡ 0 → t.start ≡ p → t.count ≡ 1 → p < length old → length new ≡ length old → ((q : ℕ) → q ≢ p → get_or new q 0 ≡ get_or old q 0) → TouchesOnly t old new
-touches_one t p old new head start count within size others = record {
-  size = size;
-  head = omega arith;
-  range = omega arith;
-  rest = λ i late apart. others i (λ same. ⊎_elim (λ (before : i + 1 ≤ t.start). omega arith) (λ (after : t.start + t.count ≤ i). omega arith) apart);
-}
 
 -- one change more
 pub after_push : (cs : List PageChange) (c : PageChange) (pages : PageBytes) → after (cs ++ c ∷ []) pages ≡ replaced c.page (patched c.edits.items (after cs pages c.page)) (after cs pages)

@@ -13,7 +13,7 @@ mod space;
 mod views;
 
 pub use changes::{Changes, PageChange};
-pub use map::first_free;
+pub use map::{first_free, kind_byte};
 pub use patches::patch;
 pub use space::Space;
 pub use views::Pages;

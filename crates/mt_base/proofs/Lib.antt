@@ -2,4 +2,4 @@ mod Fieldless
 mod Editing
 pub mod Places
 pub mod Removing
-pub mod Touching
+mod Touching

@@ -11,10 +11,10 @@ ghost use Rattle.mt_file.specs.Plans.{IsNamed, IsReady, IsPut, IsShortPlan, IfDo
 ghost use Rattle.mt_file.specs.Puts.{PutsRecord};
 
 use crate::step::{Plan, Step};
-use mt_base::{Mode, PageNo, RecordName, RelNo};
+use mt_base::{Mode, PageNo, RecordName, RelNo, TouchedBytes};
 use mt_slots::{empty, insert};
 use mt_space::pages::{MAP, RECORDS};
-use mt_space::{Changes, Pages, first_free};
+use mt_space::{Changes, Pages, first_free, kind_byte};
 use std::alloc::{AllocError, Global};
 
 /// Plans to put a record into the page `room`, which holds records; into a new page, the smallest free one,
@@ -91,13 +91,16 @@ fn put_into<V: Pages>(
         return Ok(Step::Need(page, Mode::Write));
     };
     let mut new = *old;
-    let Some(slot) = insert(&mut new, relation, key, value) else {
+    let Some(insertion) = insert(&mut new, relation, key, value) else {
         return Ok(Step::Full);
     };
-    changes.note(page, old, &new)?;
+    changes.note(page, old, &new, insertion.touched)?;
     Ok(Step::Done(Plan {
         changes,
-        name: RecordName { page, slot },
+        name: RecordName {
+            page,
+            slot: insertion.slot,
+        },
     }))
 }
 
@@ -128,8 +131,8 @@ fn put_new<V: Pages>(
     };
     let new_map = with_kind(map, page, RECORDS);
     let (new, slot) = page_of_one(relation, key, value);
-    changes.note(map_page, map, &new_map)?;
-    changes.note(page, old, &new)?;
+    changes.note(map_page, map, &new_map, kind_byte(page))?;
+    changes.note(page, old, &new, TouchedBytes::whole())?;
     Ok(Step::Done(Plan {
         changes,
         name: RecordName { page, slot },
@@ -160,7 +163,7 @@ pub(crate) fn page_of_one(relation: RelNo, key: &[u8], value: &[u8]) -> ([u8; 40
     let mut page = [0u8; 4096];
     empty(&mut page);
     match insert(&mut page, relation, key, value) {
-        Some(slot) => (page, slot),
+        Some(insertion) => (page, insertion.slot),
         None => (page, 0), // an empty page has room
     }
 }

@@ -10,7 +10,7 @@ use crate::step::{Plan, Step};
 use mt_base::{Mode, PageNo, RecordName};
 use mt_slots::{live, remove};
 use mt_space::pages::{FREE, MAP};
-use mt_space::{Changes, Pages};
+use mt_space::{Changes, Pages, kind_byte};
 use std::alloc::{AllocError, Global};
 
 /// Plans to take away the record under a name. That name holds nothing then, and no other changes. If it was the
@@ -33,10 +33,10 @@ pub fn plan_remove<V: Pages>(alloc: Global, views: &V, name: RecordName) -> Resu
         return Ok(Step::Need(name.page, Mode::Write));
     };
     let mut new = *old;
-    remove(&mut new, name.slot);
+    let touched = remove(&mut new, name.slot);
     let mut changes = Changes::new(alloc);
     if live(&new) != 0 {
-        changes.note(name.page, old, &new)?;
+        changes.note(name.page, old, &new, touched)?;
         return Ok(Step::Done(Plan { changes, name }));
     }
     let map_page = PageNo::new(MAP);
@@ -44,6 +44,6 @@ pub fn plan_remove<V: Pages>(alloc: Global, views: &V, name: RecordName) -> Resu
         return Ok(Step::Need(map_page, Mode::Write));
     };
     let new_map = with_kind(map, name.page, FREE);
-    changes.note(map_page, map, &new_map)?;
+    changes.note(map_page, map, &new_map, kind_byte(name.page))?;
     Ok(Step::Done(Plan { changes, name }))
 }

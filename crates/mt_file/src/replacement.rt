@@ -11,7 +11,7 @@ ghost use Rattle.mt_file.specs.Puts.{MovesRecord, WritesWhole};
 
 use crate::insertion::{page_of_one, put};
 use crate::step::{Plan, Step};
-use mt_base::{Mode, PageNo, RecordName, RelNo};
+use mt_base::{Mode, PageNo, RecordName, RelNo, TouchedBytes};
 use mt_slots::{get, live, remove, replace};
 use mt_space::{Changes, Pages};
 use std::alloc::{AllocError, Global};
@@ -54,8 +54,8 @@ pub fn plan_replace<V: Pages>(
         return Ok(Step::Done(Plan { changes, name }));
     }
     let mut new = *old;
-    if replace(&mut new, name.slot, value) {
-        changes.note(name.page, old, &new)?;
+    if let Some(touched) = replace(&mut new, name.slot, value) {
+        changes.note(name.page, old, &new, touched)?;
         return Ok(Step::Done(Plan { changes, name }));
     }
     plan_move(views, changes, name, old, value, room)
@@ -100,7 +100,7 @@ fn plan_move<V: Pages>(
     let relation = row.relation;
     let key = row.key;
     let mut new = *old;
-    remove(&mut new, slot);
+    let touched = remove(&mut new, slot);
     if live(&new) == 0 {
         let plan = write_whole(changes, page, old, relation, key, value)?;
         return Ok(Step::Done(plan));
@@ -108,7 +108,7 @@ fn plan_move<V: Pages>(
     if room == Some(page) {
         return Ok(Step::Full);
     }
-    changes.note(page, old, &new)?;
+    changes.note(page, old, &new, touched)?;
     put(views, changes, room, relation, key, value)
 }
 
@@ -129,7 +129,7 @@ fn write_whole(
         (WritesWhole page old.now (record { relation = relation; key = key.now; value = value.now })) }
 {
     let (new, slot) = page_of_one(relation, key, value);
-    changes.note(page, old, &new)?;
+    changes.note(page, old, &new, TouchedBytes::whole())?;
     Ok(Plan {
         changes,
         name: RecordName { page, slot },

@@ -27,11 +27,11 @@ returns g c = record {
       let at_hand = g.V.Pages.at_hand c.args.views.now in
       let before = after c.args.changes.list.items pages in
       let seen = named_seen at_hand before c.args.page c.in-Some.old.now ready c.in-Some.ensures.some in (
-        named_adds at_hand before (after c.note.new.self.list.items pages) c.args.page c.in-Some-insert.slot c.in-Some.old.now c.insert.new.page
+        named_adds at_hand before (after c.note.new.self.list.items pages) c.args.page c.in-Some-insert.insertion.slot c.in-Some.old.now c.insert.new.page
             (record { relation = c.args.relation; key = c.args.key.now; value = c.args.value.now }) ready c.in-Some.ensures.some c.insert.ensures.shaped c.in-Some-insert.ensures.done
             (c.in_ok-note.ensures.noted pages seen),
         refl,
-        named_roomy at_hand before c.args.page c.in-Some-insert.slot c.in-Some.old.now c.insert.new.page
+        named_roomy at_hand before c.args.page c.in-Some-insert.insertion.slot c.in-Some.old.now c.insert.new.page
             (record { relation = c.args.relation; key = c.args.key.now; value = c.args.value.now }) ready c.in-Some.ensures.some c.insert.ensures.shaped c.in-Some-insert.ensures.done,
       );
   short = λ pages ready apart.

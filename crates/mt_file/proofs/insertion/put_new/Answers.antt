@@ -5,6 +5,10 @@ use Rattle.mt_space.specs.Rooms.{mapped, IsFirstFree}
 use Rattle.mt_file.proofs.Planned.{map_seen, map_kind, first_seen, new_adds, new_seen, no_records, untouched_seen}
 use Rattle.mt_file.proofs.insertion.put_new.Goals as goal
 
+pub note-requires-clause-touched : goal.note-requires-clause-touched
+note-requires-clause-touched g c =
+    c.kind_byte.ensures c.in-Some.map.now c.with_kind-new_map.result (search rules) c.with_kind-new_map.ensures.whole c.with_kind-new_map.ensures.others
+
 pub returns : goal.returns
 returns g c = record {
   put = λ pages ready.

@@ -32,12 +32,12 @@ returns-in_default g c = record {
   there = search rules;
 }
 
-pub remove-requires-clause-shaped : goal.remove-requires-clause-shaped
-remove-requires-clause-shaped g c = shaped_of c.args.old.now (∥∥₁_map c.requires.good (λ good.
+pub remove-touched-requires-clause-shaped : goal.remove-touched-requires-clause-shaped
+remove-touched-requires-clause-shaped g c = shaped_of c.args.old.now (∥∥₁_map c.requires.good (λ good.
     (is_held (g.V.Pages.at_hand c.args.views.now) good.0 c.args.name.page c.args.name.slot c.args.old.now good.1 good.2 good.3 good.5 c.requires.there).shaped))
 
-pub remove-requires-clause-there : goal.remove-requires-clause-there
-remove-requires-clause-there g c = ∥∥₁_elim c.requires.good (hlevel props) (λ good.
+pub remove-touched-requires-clause-there : goal.remove-touched-requires-clause-there
+remove-touched-requires-clause-there g c = ∥∥₁_elim c.requires.good (hlevel props) (λ good.
     (is_held (g.V.Pages.at_hand c.args.views.now) good.0 c.args.name.page c.args.name.slot c.args.old.now good.1 good.2 good.3 good.5 c.requires.there).there)
 
 pub put-requires-clause-ready : goal.put-requires-clause-ready
@@ -67,7 +67,7 @@ returns-then-live-eq0 g c = record {
       let same : r ≡ record { relation = c.in-Some.row.relation; key = c.in-Some.row.key.now; value = c.in-Some.row.value.now } = same_row pages p s old r _ held c.in-Some.ensures.found in
       let whole = subst (λ (k : Row). IsWhole pages (after plan.changes.list.items pages) p plan.name.slot k) (sym (ap (λ (k : Row). record k { value = c.args.value.now }) same))
       (c.in_ok-plan.ensures.whole pages held.seen) in
-      let moves = moves_whole pages (after plan.changes.list.items pages) p s plan.name.slot r row old c.remove.new.page file held c.remove.ensures.sets (sym c.live.ensures ∙ c.if-live-eq0.true) whole in
+      let moves = moves_whole pages (after plan.changes.list.items pages) p s plan.name.slot r row old c.remove-touched.new.page file held c.remove-touched.ensures.sets (sym c.live.ensures ∙ c.if-live-eq0.true) whole in
       let here : plan.name.page ≡ p = c.in_ok-plan.ensures.page in (
         inr (
           room_seen pages p s old r row held (c.requires.outgrown r held.live),
@@ -106,15 +106,15 @@ returns g c = record {
       let p = c.args.name.page in
       let s = c.args.name.slot in
       let old = c.args.old.now in
-      let new = c.remove.new.page in
+      let new = c.remove-touched.new.page in
       let before = c.note.new.self.list.items in
       let held = is_held at_hand pages p s old r agrees file is c.requires.there in
       let row : Row = record r { value = c.args.value.now } in
       let over = room_seen pages p s old r row held (c.requires.outgrown r held.live) in
       let other : c.args.room ≢ Some p = named_is_not _ c.args.room p (λ a b. refl) (sym c.eq.ensures ∙ c.if-eq.false) in
       let made : after before pages ≡ replaced p new pages = noted_first c.args.changes.list.items before pages p old new c.requires.none (c.in_ok-note.ensures.noted pages) held.seen in
-      let ready = ready_mid at_hand c.args.room pages (after before pages) p s old new r agrees file named held c.remove.ensures.shaped other made in
-      let drops = drops_one pages (after before pages) p s old new r file held c.remove.ensures.shaped c.remove.ensures.sets (λ z. c.if-live-eq0.false (c.live.ensures ∙ z)) made in
+      let ready = ready_mid at_hand c.args.room pages (after before pages) p s old new r agrees file named held c.remove-touched.ensures.shaped other made in
+      let drops = drops_one pages (after before pages) p s old new r file held c.remove-touched.ensures.shaped c.remove-touched.ensures.sets (λ z. c.if-live-eq0.false (c.live.ensures ∙ z)) made in
       let same : r ≡ record { relation = c.in-Some.row.relation; key = c.in-Some.row.key.now; value = c.in-Some.row.value.now } = same_row pages p s old r _ held c.in-Some.ensures.found in
       let put_row = subst (λ (k : Row). IsPut at_hand c.args.room total before pages k step) (sym (ap (λ (k : Row). record k { value = c.args.value.now }) same)) (put pages ready) in
       let zero = records_not_map pages p file held.records in
@@ -127,12 +127,12 @@ returns g c = record {
       let p = c.args.name.page in
       let s = c.args.name.slot in
       let old = c.args.old.now in
-      let new = c.remove.new.page in
+      let new = c.remove-touched.new.page in
       let before = c.note.new.self.list.items in
       let held = is_held at_hand pages p s old r agrees file is c.requires.there in
       let other : c.args.room ≢ Some p = named_is_not _ c.args.room p (λ a b. refl) (sym c.eq.ensures ∙ c.if-eq.false) in
       let made : after before pages ≡ replaced p new pages = noted_first c.args.changes.list.items before pages p old new c.requires.none (c.in_ok-note.ensures.noted pages) held.seen in
-      let ready = ready_mid at_hand c.args.room pages (after before pages) p s old new r agrees file named held c.remove.ensures.shaped other made in
+      let ready = ready_mid at_hand c.args.room pages (after before pages) p s old new r agrees file named held c.remove-touched.ensures.shaped other made in
       let apart : (q : ℕ) → IsUntouched c.args.changes.list.items q = λ q. subst (λ (cs : List PageChange). IsUntouched cs q) (sym c.requires.none) tt in
       let none : AreShort c.args.changes.list.items pages = subst (λ (cs : List PageChange). AreShort cs pages) (sym c.requires.none) tt in
       short pages ready (apart_mid c.args.room before pages p s old new r file held other made (c.in_ok-note.ensures.short pages held.seen (apart p) none)

@@ -36,8 +36,8 @@ returns-then-has_value-clause-replacement g c = λ pages r agrees file named is.
       λ e. c.new-changes.ensures,
     )
 
-pub returns-then-replace-clause-replacement : goal.returns-then-replace-clause-replacement
-returns-then-replace-clause-replacement g c = λ pages r agrees file named is.
+pub returns-in-Some-replace-clause-replacement : goal.returns-in-Some-replace-clause-replacement
+returns-in-Some-replace-clause-replacement g c = λ pages r agrees file named is.
     let p = c.args.name.page in
     let s = c.args.name.slot in
     let old = c.in-Some.old.now in
@@ -46,13 +46,13 @@ returns-then-replace-clause-replacement g c = λ pages r agrees file named is.
     let row : Row = record r { value = c.args.value.now } in
     let differ : r ≢ row = λ e. c.if-has_value.ensures.no r held.live (ap (λ (k : Row). k.value) e) in
     let made = noted_first c.new-changes.result.list.items c.note.new.self.list.items pages p old new c.new-changes.ensures (c.in_ok-note.ensures.noted pages) held.seen in (
-      inl (refl, refl, stays_one pages (after c.note.new.self.list.items pages) p s old new r row file held c.replace.ensures.shaped (c.if-replace.ensures.done r held.live) made),
+      inl (refl, refl, stays_one pages (after c.note.new.self.list.items pages) p s old new r row file held c.replace.ensures.shaped (c.in-Some-replace.ensures.done r held.live) made),
       λ e. absurd {A = c.note.new.self.list.items ≡ []} (differ e),
     )
 
 pub returns-then-has_value-clause-there : goal.returns-then-has_value-clause-there
 returns-then-has_value-clause-there g c = λ p none before. none_touched c.new-changes.result.list.items p c.new-changes.ensures
 
-pub returns-then-replace-clause-there : goal.returns-then-replace-clause-there
-returns-then-replace-clause-there g c = λ p none before.
+pub returns-in-Some-replace-clause-there : goal.returns-in-Some-replace-clause-there
+returns-in-Some-replace-clause-there g c = λ p none before.
     c.in_ok-note.ensures.others p (off_hand (g.V.Pages.at_hand c.args.views.now) p c.args.name.page c.in-Some.old.now none c.in-Some.ensures.some) (none_touched c.new-changes.result.list.items p c.new-changes.ensures)

@@ -1,6 +1,6 @@
 -- One page of a bucket changes.
-use Rattle.std.proofs.Common.{◌≡◌, ◌≢◌, ℕ, ◌^◌, ◌⊎◌, inl, inr, Bool, true, false, cond, List, [], ◌∷◌, ◌++◌, Some, None, refl, ap, sym, ◌∙◌, subst, arith, get_or}
-use Rattle.std.specs.Bool.{OnTrue, OnFalse}
+use Rattle.std.proofs.Common.{◌≡◌, ◌≢◌, ℕ, ◌^◌, ◌⊎◌, inl, inr, Bool, true, false, cond, List, [], ◌∷◌, ◌++◌, Option, Some, None, refl, ap, sym, ◌∙◌, subst, arith, get_or}
+use Rattle.std.specs.Option.{IfSome, IfNone}
 use Rattle.std.proofs.lemmas.Bool.{cases_eq}
 use Rattle.mt_base.specs.declared.numbers.RecordName.{RecordName}
 use Rattle.mt_bucket.specs.Entries.{Entry, is_at, look, renamed, last_first, without}
@@ -111,19 +111,19 @@ parts_of r k (e ∷ es) old is = go (is_at r k e) refl (parts_of r k es old)
     }
 
 -- it was found, so the call did not answer that it was not
-pub done : (r : ℕ) (k : List ℕ) (es : List Entry) (old : RecordName) (b : Bool) (A : Type 0) → look r k es ≡ Some old → OnTrue b A → OnFalse b (look r k es ≡ None) → A
-done r k es old true A is did none = did
-done r k es old false A is did none = absurd (let e : None ≡ Some old = sym none ∙ is in cc)
+pub done : {X : Type 0} (r : ℕ) (k : List ℕ) (es : List Entry) (old : RecordName) (o : Option X) (A : Type 0) → look r k es ≡ Some old → IfSome o (λ x. A) → IfNone o (look r k es ≡ None) → A
+done r k es old (Some x) A is did none = did
+done r k es old None A is did none = absurd (let e : None ≡ Some old = sym none ∙ is in cc)
 
-pub set_map : (total : ℕ) (pages pages2 : PageBytes) (m : Map) (r : ℕ) (k : List ℕ) (p : ℕ) (old name : RecordName) (page new : List ℕ) (b : Bool) → AreMap total pages m → Holds r k pages p old
-    → pages p ≡ page → Turns p new pages pages2 → KeepsHead page new → OnTrue b (entries new ≡ renamed r k name (entries page)) → OnFalse b (look r k (entries page) ≡ None) → AreMap total pages2 (alter m r k (Some name))
-set_map total pages pages2 m r k p old name page new b a h is t head did none =
+pub set_map : {X : Type 0} (total : ℕ) (pages pages2 : PageBytes) (m : Map) (r : ℕ) (k : List ℕ) (p : ℕ) (old name : RecordName) (page new : List ℕ) (o : Option X) → AreMap total pages m → Holds r k pages p old
+    → pages p ≡ page → Turns p new pages pages2 → KeepsHead page new → IfSome o (λ x. entries new ≡ renamed r k name (entries page)) → IfNone o (look r k (entries page) ≡ None) → AreMap total pages2 (alter m r k (Some name))
+set_map total pages pages2 m r k p old name page new o a h is t head did none =
     same_space total pages pages2 m _ a (t.others 0 off.0)
     (subst (λ (x : ℕ × List ℕ). IsIndex (state_of pages2) (alter m x.0 x.1 (Some name))) (λ j. (w.relation j, w.key j))
     (set_kept (state_of pages) (state_of pages2) m w.entry name p w.front w.back a.index (record {
       on = subst (λ (x : List ℕ). OnChain (state_of pages) x p) (sym w.key) (passed_on (Lacks r k pages) pages k p h.steps h.passed);
       there = ap entries is ∙ w.whole;
-      change = one_page pages pages2 p new _ off t (subst (λ (c : List ℕ). KeepsHead c new) (sym is) head) (done r k (entries page) old b _ here did none ∙ w.set name);
+      change = one_page pages pages2 p new _ off t (subst (λ (c : List ℕ). KeepsHead c new) (sym is) head) (done r k (entries page) old o _ here did none ∙ w.set name);
     })))
   where
     off : (0 ≢ p) × (1 ≢ p)
@@ -135,15 +135,15 @@ set_map total pages pages2 m r k p old name page new b a h is t head did none =
     w : Parts r k (entries page)
     w = parts_of r k (entries page) old here
 
-pub drop_map : (total : ℕ) (pages pages2 : PageBytes) (m : Map) (r : ℕ) (k : List ℕ) (p : ℕ) (old : RecordName) (page new : List ℕ) (b : Bool) → AreMap total pages m → Holds r k pages p old
-    → pages p ≡ page → Turns p new pages pages2 → KeepsHead page new → OnTrue b (entries new ≡ without r k (entries page)) → OnFalse b (look r k (entries page) ≡ None) → AreMap total pages2 (alter m r k None)
-drop_map total pages pages2 m r k p old page new b a h is t head did none =
+pub drop_map : {X : Type 0} (total : ℕ) (pages pages2 : PageBytes) (m : Map) (r : ℕ) (k : List ℕ) (p : ℕ) (old : RecordName) (page new : List ℕ) (o : Option X) → AreMap total pages m → Holds r k pages p old
+    → pages p ≡ page → Turns p new pages pages2 → KeepsHead page new → IfSome o (λ x. entries new ≡ without r k (entries page)) → IfNone o (look r k (entries page) ≡ None) → AreMap total pages2 (alter m r k None)
+drop_map total pages pages2 m r k p old page new o a h is t head did none =
     same_space total pages pages2 m _ a (t.others 0 off.0)
     (subst (λ (x : ℕ × List ℕ). IsIndex (state_of pages2) (alter m x.0 x.1 None)) (λ j. (w.relation j, w.key j))
     (drop_kept (state_of pages) (state_of pages2) m w.entry p w.front w.back a.index (record {
       on = subst (λ (x : List ℕ). OnChain (state_of pages) x p) (sym w.key) (passed_on (Lacks r k pages) pages k p h.steps h.passed);
       there = ap entries is ∙ w.whole;
-      change = one_page pages pages2 p new _ off t (subst (λ (c : List ℕ). KeepsHead c new) (sym is) head) (done r k (entries page) old b _ here did none ∙ w.gone);
+      change = one_page pages pages2 p new _ off t (subst (λ (c : List ℕ). KeepsHead c new) (sym is) head) (done r k (entries page) old o _ here did none ∙ w.gone);
     })))
   where
     off : (0 ≢ p) × (1 ≢ p)

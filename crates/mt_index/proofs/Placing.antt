@@ -1,7 +1,7 @@
 -- An entry goes into a page with room, or into a page behind the last.
-use Rattle.std.proofs.Common.{◌≡◌, ◌≢◌, ℕ, ◌<◌, ◌≤◌, ◌^◌, Bool, true, false, List, [], ◌∷◌, ◌++◌, length, ap, sym, ◌∙◌, subst, arith, get_or, ◌⊎◌, inl, inr, ⊎_elim, refl, Option, Some}
+use Rattle.std.proofs.Common.{◌≡◌, ◌≢◌, ℕ, ◌<◌, ◌≤◌, ◌^◌, Bool, List, [], ◌∷◌, ◌++◌, length, ap, sym, ◌∙◌, subst, arith, get_or, ◌⊎◌, inl, inr, ⊎_elim, refl, Option, Some, None}
 use Rattle.std.specs.Prelude.{IsSome}
-use Rattle.std.specs.Bool.{OnTrue, OnFalse}
+use Rattle.std.specs.Option.{IfSome, IfNone}
 use Rattle.std.proofs.lemmas.Bool.{cases_eq}
 use Rattle.mt_bucket.specs.Entries.{Entry}
 use Rattle.mt_bucket.specs.Page.{depth_of, next_of, count_of, entries, KeepsHead, IsBucket}
@@ -18,9 +18,9 @@ use Rattle.mt_index.proofs.Chaining.{behind_chained, chained_in, chained_of}
 
 -- ---- room
 
-pub pushed : (page new : List ℕ) (e : Entry) (b : Bool) → length (entries page) < 58 → OnTrue b (entries new ≡ entries page ++ e ∷ []) → OnFalse b (count_of page ≡ 58) → entries new ≡ entries page ++ e ∷ []
-pushed page new e true room did full = did
-pushed page new e false room did full = absurd (omega (arith, room, full, entries_length page 8 (count_of page)))
+pub pushed : {X : Type 0} (page new : List ℕ) (e : Entry) (o : Option X) → length (entries page) < 58 → IfSome o (λ x. entries new ≡ entries page ++ e ∷ []) → IfNone o (count_of page ≡ 58) → entries new ≡ entries page ++ e ∷ []
+pushed page new e (Some x) room did full = did
+pushed page new e None room did full = absurd (omega (arith, room, full, entries_length page 8 (count_of page)))
 
 pub put_first : (total : ℕ) (pages pages2 : PageBytes) (m : Map) (e : Entry) (p : ℕ) (new : List ℕ) → AreMap total pages m → HasRoom e.key pages p → Turns p new pages pages2
     → KeepsHead (pages p) new → entries new ≡ entries (pages p) ++ e ∷ [] → First e p (state_of pages) (state_of pages2)

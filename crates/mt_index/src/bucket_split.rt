@@ -16,7 +16,7 @@ use crate::answers::Add;
 use crate::directory::rewired;
 use crate::entry_insertion::{overflow_page, taken_from};
 use mt_base::limits::PAGE_BYTES;
-use mt_base::{Mode, PageNo, RecordName, RelNo};
+use mt_base::{Mode, PageNo, RecordName, RelNo, TouchedBytes};
 use mt_bucket::{depth, empty, has_bit, hash, partition, push, set_depth, set_next};
 use mt_space::pages::{DIRECTORY, MAP};
 use mt_space::{Changes, Pages, first_free};
@@ -57,9 +57,9 @@ impl Halves {
             (record { relation = relation; key = key.now; name = name }) self.old self.new }
     {
         if upper {
-            push(&mut self.up, relation, key, name)
+            push(&mut self.up, relation, key, name).is_some()
         } else {
-            push(&mut self.low, relation, key, name)
+            push(&mut self.low, relation, key, name).is_some()
         }
     }
 
@@ -91,11 +91,12 @@ impl Halves {
         ensures others { IfOk result (λ changes. (p : ℕ) → p ≢ 0 → p ≢ 1 → p ≢ self.now.bucket → p ≢ self.now.fresh
             → IsUntouched changes.list.items p) }
     {
+        let whole = TouchedBytes::whole();
         let mut changes = Changes::new(alloc);
-        changes.note(PageNo::new(MAP), space, &self.space)?;
-        changes.note(PageNo::new(DIRECTORY), directory, &self.directory)?;
-        changes.note(self.bucket, old, &self.low)?;
-        changes.note(self.fresh, spare, &self.up)?;
+        changes.note(PageNo::new(MAP), space, &self.space, whole)?;
+        changes.note(PageNo::new(DIRECTORY), directory, &self.directory, whole)?;
+        changes.note(self.bucket, old, &self.low, whole)?;
+        changes.note(self.fresh, spare, &self.up, whole)?;
         Ok(changes)
     }
 }
@@ -172,6 +173,6 @@ pub(crate) fn plan_split<V: Pages>(
     halves.link(upper, overflow);
     let page = overflow_page(blank, depth(old) + 1, relation, key, name);
     let mut changes = halves.changes(alloc, space, directory, old, spare)?;
-    changes.note(overflow, blank, &page)?;
+    changes.note(overflow, blank, &page, TouchedBytes::whole())?;
     Ok(Add::Changes(changes))
 }

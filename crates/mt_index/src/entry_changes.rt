@@ -50,8 +50,8 @@ pub fn plan_set<V: Pages>(
         return Ok(Amend::Need(page, Mode::Write));
     };
     let mut new = *old;
-    set(&mut new, relation, key, name);
-    Ok(Amend::Changes(change_of(alloc, page, old, &new)?))
+    let touched = set(&mut new, relation, key, name);
+    Ok(Amend::Changes(change_of(alloc, page, old, &new, touched)?))
 }
 
 /// The changes that take the entry of a relation and a key out: of one page of its bucket, by that entry
@@ -90,6 +90,6 @@ pub fn plan_drop<V: Pages>(
         return Ok(Amend::Need(page, Mode::Write));
     };
     let mut new = *old;
-    remove(&mut new, relation, key);
-    Ok(Amend::Changes(change_of(alloc, page, old, &new)?))
+    let touched = remove(&mut new, relation, key);
+    Ok(Amend::Changes(change_of(alloc, page, old, &new, touched)?))
 }

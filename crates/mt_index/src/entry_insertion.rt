@@ -11,10 +11,10 @@ use crate::answers::Add;
 use crate::page_change::change_of;
 use mt_base::limits::PAGE_BYTES;
 use mt_base::ranges::put;
-use mt_base::{Mode, PageNo, RecordName, RelNo};
+use mt_base::{Mode, PageNo, RecordName, RelNo, TouchedBytes};
 use mt_bucket::{depth, empty, push, set_next};
 use mt_space::pages::{BUCKET, MAP};
-use mt_space::{Changes, Pages, first_free};
+use mt_space::{Changes, Pages, first_free, kind_byte};
 use std::alloc::{AllocError, Global};
 
 // Puts the entry into a page of its bucket with room.
@@ -37,8 +37,8 @@ pub(crate) fn plan_put<V: Pages>(
         return Ok(Add::Need(page, Mode::Write));
     };
     let mut new = *old;
-    push(&mut new, relation, key, name);
-    Ok(Add::Changes(change_of(alloc, page, old, &new)?))
+    let touched = push(&mut new, relation, key, name);
+    Ok(Add::Changes(change_of(alloc, page, old, &new, touched)?))
 }
 
 // Chains an overflow page with the entry after the last page of its bucket.
@@ -77,9 +77,9 @@ pub(crate) fn plan_chain<V: Pages>(
     let mut end = *old;
     set_next(&mut end, fresh);
     let mut changes = Changes::new(alloc);
-    changes.note(PageNo::new(MAP), space, &taken)?;
-    changes.note(fresh, spare, &new)?;
-    changes.note(last, old, &end)?;
+    changes.note(PageNo::new(MAP), space, &taken, kind_byte(fresh))?;
+    changes.note(fresh, spare, &new, TouchedBytes::whole())?;
+    changes.note(last, old, &end, TouchedBytes::whole())?;
     Ok(Add::Changes(changes))
 }
 

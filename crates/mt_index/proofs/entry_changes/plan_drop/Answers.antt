@@ -16,8 +16,8 @@ returns-clause-dropped g c pages agree m a =
     let t = c.in_ok-change_of.ensures.turned pages is in
     record {
       there = (c.in-In.field-1, held_map total pages m c.args.relation c.args.key.now c.in-In.page c.in-In.field-1 a held);
-      map = drop_map total pages (after c.in_ok-change_of.field-0.list.items pages) m c.args.relation c.args.key.now c.in-In.page c.in-In.field-1 c.in-Some.old.now c.remove.new.page c.remove.result
-          a held is t c.remove.ensures.head c.remove.ensures.removed c.remove.ensures.none;
+      map = drop_map total pages (after c.in_ok-change_of.field-0.list.items pages) m c.args.relation c.args.key.now c.in-In.page c.in-In.field-1 c.in-Some.old.now c.remove-touched.new.page c.remove-touched.result
+          a held is t c.remove-touched.ensures.head c.remove-touched.ensures.removed c.remove-touched.ensures.none;
       others = λ n away. t.others n (λ e. away (ap (kind pages) e ∙ passed_kind (Lacks c.args.relation c.args.key.now pages) total pages m c.args.key.now c.in-In.page held.steps a held.passed));
       one = c.in_ok-change_of.ensures.one;
       short = c.in_ok-change_of.ensures.short pages is;
@@ -28,9 +28,9 @@ returns-clause-formed g c pages agree m a relations f =
     let is : pages c.in-In.page ≡ c.in-Some.old.now = agree c.in-In.page c.in-Some.old.now c.in-Some.ensures.some in
     let held = c.in-In.ensures.1 pages agree m a in
     let total = g.V.Pages.total c.args.views.now in
-    turns_formed relations total pages (after c.in_ok-change_of.field-0.list.items pages) c.in-In.page c.remove.new.page
+    turns_formed relations total pages (after c.in_ok-change_of.field-0.list.items pages) c.in-In.page c.remove-touched.new.page
     (no_bucket total pages m c.in-In.page a (passed_kind (Lacks c.args.relation c.args.key.now pages) total pages m c.args.key.now c.in-In.page held.steps a held.passed))
-    (c.in_ok-change_of.ensures.turned pages is) (subst (λ x. KeepsHead x c.remove.new.page) (sym is) c.remove.ensures.head) (λ b. c.remove.ensures.kept relations total (subst (IsBucket relations total) is b)) f
+    (c.in_ok-change_of.ensures.turned pages is) (subst (λ x. KeepsHead x c.remove-touched.new.page) (sym is) c.remove-touched.ensures.head) (λ b. c.remove-touched.ensures.kept relations total (subst (IsBucket relations total) is b)) f
 
 pub returns-clause-seen : goal.returns-clause-seen
 returns-clause-seen g c p none = c.in_ok-change_of.ensures.others p (off_hand (g.V.Pages.at_hand c.args.views.now) p c.in-In.page c.in-Some.old.now none c.in-Some.ensures.some)

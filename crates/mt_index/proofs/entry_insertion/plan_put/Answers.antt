@@ -32,13 +32,13 @@ returns g c split = (
       let off = no_bucket total pages m p a two in
       let planned : Adds split total e pages c.in_ok-change_of.field-0.list.items = record {
         added = record {
-          way = Here p (put_first total pages (after c.in_ok-change_of.field-0.list.items pages) m e p c.push.new.page a h t
-              (subst (λ x. KeepsHead x c.push.new.page) (sym is) c.push.ensures.head)
-              (rw is (pushed c.in-Some.old.now c.push.new.page e c.push.result (subst (λ x. length (entries x) < 58) is h.room) c.push.ensures.pushed c.push.ensures.full)));
-          stays = put_stays total pages (after c.in_ok-change_of.field-0.list.items pages) p c.push.new.page off two t;
+          way = Here p (put_first total pages (after c.in_ok-change_of.field-0.list.items pages) m e p c.push-touched.new.page a h t
+              (subst (λ x. KeepsHead x c.push-touched.new.page) (sym is) c.push-touched.ensures.head)
+              (rw is (pushed c.in-Some.old.now c.push-touched.new.page e c.push-touched.result (subst (λ x. length (entries x) < 58) is h.room) c.push-touched.ensures.pushed c.push-touched.ensures.full)));
+          stays = put_stays total pages (after c.in_ok-change_of.field-0.list.items pages) p c.push-touched.new.page off two t;
           directory = λ none. t.others 1 off.1;
-          formed = λ relations fits f. turns_formed relations total pages (after c.in_ok-change_of.field-0.list.items pages) p c.push.new.page off t
-              (subst (λ x. KeepsHead x c.push.new.page) (sym is) c.push.ensures.head) (λ b. c.push.ensures.kept relations total fits.relation fits.some fits.place (subst (IsBucket relations total) is b)) f;
+          formed = λ relations fits f. turns_formed relations total pages (after c.in_ok-change_of.field-0.list.items pages) p c.push-touched.new.page off t
+              (subst (λ x. KeepsHead x c.push-touched.new.page) (sym is) c.push-touched.ensures.head) (λ b. c.push-touched.ensures.kept relations total fits.relation fits.some fits.place (subst (IsBucket relations total) is b)) f;
         };
         few = let one = c.in_ok-change_of.ensures.one in omega arith;
         short = c.in_ok-change_of.ensures.short pages is;

@@ -6,7 +6,7 @@ ghost use Rattle.mt_disk.specs.Disk.{HasCause};
 ghost use Rattle.mt_pool.specs.Kept.{MakesOneCall};
 
 use crate::Pool;
-use crate::slots::{index_of, read_page};
+use crate::slots::{index_of, read_slot};
 use mt_base::PageNo;
 use mt_disk::{Device, DeviceFault};
 
@@ -70,7 +70,7 @@ impl Pool {
         match self.victim() {
             Some(frame) => {
                 self.forget(frame);
-                match read_page(device, self.place, page, &mut self.bytes[frame]) {
+                match read_slot(device, self.place, page, &mut self.bytes[frame]) {
                     Ok(()) => {
                         self.install(frame, page);
                         Ok(Fetched::There)
@@ -106,7 +106,7 @@ impl Pool {
                 *bytes = self.bytes[frame];
                 Ok(())
             }
-            None => read_page(device, self.place, page, bytes),
+            None => read_slot(device, self.place, page, bytes),
         }
     }
 }

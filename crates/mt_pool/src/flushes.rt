@@ -6,7 +6,7 @@ ghost use Rattle.mt_disk.specs.Disk.{Torn, Follows, HasCause};
 ghost use Rattle.mt_pool.specs.Kept.{MakesOneCall};
 
 use crate::Pool;
-use crate::slots::write_page;
+use crate::slots::write_slot;
 use mt_base::PageNo;
 use mt_disk::{Device, DeviceFault};
 
@@ -92,7 +92,7 @@ impl Pool {
         ensures cause { HasCause (D.faults device.old) (D.faults device.new) result }
     {
         match self.find(durable) {
-            ToFlush::Ready(frame, page) => match write_page(
+            ToFlush::Ready(frame, page) => match write_slot(
                 device,
                 self.place,
                 page,

@@ -1,4 +1,4 @@
-// The slots of the pages on the device, 4096 bytes each, one after the other.
+// The slots of the pages on the device, 4096 bytes each, one after the other. A restart reads them, too.
 ghost use Rattle.std.specs.Prelude.{◌≡◌, ◌+◌, ◌*◌, ◌<◌, ◌≤◌, ◌^◌, length};
 ghost use Rattle.mt_base.specs.declared.limits.TheConstants.{PAGE_BYTES};
 ghost use Rattle.mt_pool.specs.Slots.{ReadsSlot, WritesSlot};
@@ -14,7 +14,7 @@ pub(crate) fn index_of(page: PageNo) -> usize
 }
 
 /// Where a page's slot begins, if that of page 0 begins at `place`.
-fn slot_at(place: u64, page: PageNo) -> u64
+pub fn slot_at(place: u64, page: PageNo) -> u64
     requires { place + PAGE_BYTES * page < 2 ^ 64 }
     ensures { result ≡ place + PAGE_BYTES * page }
 {
@@ -22,7 +22,7 @@ fn slot_at(place: u64, page: PageNo) -> u64
 }
 
 /// Writes a page into its slot. After a fault the slot may hold anything.
-pub(crate) fn write_page<D: Device>(
+pub(crate) fn write_slot<D: Device>(
     device: &mut D,
     place: u64,
     page: PageNo,
@@ -37,7 +37,7 @@ pub(crate) fn write_page<D: Device>(
 }
 
 /// Reads a page from its slot. After a fault `bytes` may hold anything.
-pub(crate) fn read_page<D: Device>(
+pub fn read_slot<D: Device>(
     device: &mut D,
     place: u64,
     page: PageNo,

@@ -1,7 +1,6 @@
 -- The area that a slot names, and pages in memory that a restart finds.
-use Rattle.std.proofs.Common.{◌≡◌, ◌⊎◌, inl, inr, ⊎_elim, ℕ, ◌+◌, ◌*◌, ◌<◌, ◌≤◌, ◌==◌, true, false, List, [], ◌∷◌, ◌++◌, length, sym, ap, ◌∙◌, subst, arith, eq-eqb}
+use Rattle.std.proofs.Common.{◌≡◌, ◌⊎◌, ⊎_elim, ℕ, ◌<◌, List, [], ◌∷◌, ◌++◌, length, sym, ap, ◌∙◌, subst}
 use Rattle.std.specs.Prelude.{Result, Ok, Err, IfOk, IfErr}
-use Rattle.std.proofs.lemmas.Bool.{cases_eq, ne_eqb}
 use Rattle.std.proofs.lemmas.List.{map-append}
 use Rattle.mt_base.specs.declared.refusal.Refusal.{Refusal}
 use Rattle.mt_base.specs.declared.refusal.Refusal.TheVariants.{BadFormat, NoMemory}
@@ -23,7 +22,7 @@ use Rattle.mt_steps.specs.Plans.{IsGood}
 use Rattle.mt_replay.specs.Checks.{AreBroken}
 use Rattle.mt_replay.specs.Laws.{EachInverseFinds, OnlyOwnPagesMatter, RestartFindsBase}
 use Rattle.mt_replay.specs.Losers.{all_finished, AreOfGrammar, finished_of, HasEnded, HasUndone, StopsAt}
-use Rattle.mt_log.specs.Masters.{IsRuling, Rules, area_size, area_start}
+use Rattle.mt_log.specs.Masters.{area_size}
 use Rattle.mt_replay.specs.Memory.{AreFirst}
 use Rattle.mt_replay.specs.Recoverable.{IsRecoverable, pages_held}
 use Rattle.mt_replay.specs.Stands.{AreHeld, CanRestart, HasArea, ShowsBase}

@@ -1,8 +1,7 @@
 -- The first images of a list of records, laid over pages from the last record on.
-use Rattle.std.proofs.Common.{◌≡◌, ◌+◌, ◌<◌, ℕ, cond, ◌==◌, List, [], ◌∷◌, ◌++◌, length, get_or, take, drop, None, Some, refl, sym, ap, ◌∙◌, arith, length-drop, length-take-le, get_or-take, get_or-drop}
+use Rattle.std.proofs.Common.{◌≡◌, ◌+◌, ◌<◌, ℕ, cond, ◌==◌, List, [], ◌∷◌, ◌++◌, length, get_or, drop, None, Some, refl, sym, ap, ◌∙◌, arith}
 use Rattle.std.specs.Prelude.{Result, Ok, Err, OnOk}
-use Rattle.mt_disk.specs.Disk.{Has}
-use Rattle.std.proofs.lemmas.List.{map-append, ext_get_or, drop_more}
+use Rattle.std.proofs.lemmas.List.{map-append, drop_more}
 use Rattle.mt_frame.specs.declared.records.Record.{Record}
 use Rattle.mt_replay.specs.Memory.{AreWhole}
 use Rattle.mt_replay.specs.Passes.{Lays}
@@ -16,15 +15,6 @@ in_append (Some i ∷ xs) ys q d = ap (cond (i.0 == q) i.1) (in_append xs ys q d
 
 pub carried_append : (xs ys : List Record) (q : ℕ) (d : List ℕ) → page_in (carried (xs ++ ys)) q d ≡ page_in (carried xs) q (page_in (carried ys) q d)
 carried_append xs ys q d = ap (λ (es : List Carried). page_in es q d) (map-append carried_of xs ys) ∙ in_append (carried xs) (carried ys) q d
-
--- ---- a page read from its slot
-
-pub read_whole : (c : List ℕ) (at : ℕ) (text : List ℕ) → length text ≡ 4096 → Has c at text → text ≡ take 4096 (drop at c)
-read_whole c at text size h =
-    let w = h.within in
-    ext_get_or 0 text (take (length text) (drop at c)) (sym (length-take-le (length text) (drop at c) (omega (arith, length-drop at c))))
-    (λ i lt. sym (get_or-take (length text) (drop at c) i 0 lt ∙ get_or-drop at c i 0 ∙ h.each i lt))
-    ∙ ap (λ (n : ℕ). take n (drop at c)) size
 
 pub on_ok : {T E A B : Type 0} (r : Result T E) → (A → B) → OnOk r A → OnOk r B
 on_ok (Ok x) f a = f a

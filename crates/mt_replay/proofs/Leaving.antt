@@ -1,7 +1,6 @@
 -- What records leave unfinished, put back from the last record on.
 use Rattle.std.proofs.Common.{◌≡◌, ℕ, zero, suc, ◌+◌, ◌<◌, Bool, true, false, not, cond, ◌==◌, ◌&&◌, ◌||◌, List, [], ◌∷◌, ◌++◌, length, get_or, set, drop, Option, None, Some, is_some, Vec, Global, refl, sym, ap, ◌∙◌, subst, arith, append_assoc}
 use Rattle.std.specs.BTreeMap.{BTreeMap, get, UpdatesBy}
-use Rattle.std.specs.List.{AllByRecursion}
 use Rattle.std.specs.Ordering.{nat_cmp}
 use Rattle.std.proofs.lemmas.Bool.{eq-eqb}
 use Rattle.std.proofs.lemmas.List.{append-nil}
@@ -16,7 +15,6 @@ use Rattle.mt_log.specs.Found.{records_of}
 use Rattle.mt_log.specs.declared.batch.Batch.{Batch}
 use Rattle.mt_space.specs.Changes.{PageBytes}
 use Rattle.mt_steps.specs.Repeated.{Change, Repeated, by, held, logged, put_back, repeat, repeated}
-use Rattle.mt_steps.proofs.Repeating.{put_back_append}
 use Rattle.mt_replay.specs.Memory.{AreWhole, AreFirst}
 use Rattle.mt_replay.specs.Passes.{AreKnown, Backs, IsBackTo, IsShown, change_by, changes_in, ends_it, left, stays}
 use Rattle.mt_replay.specs.declared.repeat.Repeating.{Repeating}

@@ -13,3 +13,4 @@ pub mod Checked
 pub mod Areas
 pub mod Causes
 pub mod Naming
+pub mod Marks

@@ -12,3 +12,4 @@ pub mod Checks
 pub mod Faults
 pub mod Naming
 pub mod Reads
+pub mod Marking

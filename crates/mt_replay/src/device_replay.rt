@@ -13,6 +13,7 @@ ghost use Rattle.mt_log.specs.Quiet.{OnlyReads};
 ghost use Rattle.mt_model.specs.Model.{Base};
 ghost use Rattle.std.specs.List.{AllByRecursion};
 ghost use Rattle.mt_frame.specs.Grammar.{IsOperation};
+ghost use Rattle.mt_replay.specs.Marking.{IsMarked};
 ghost use Rattle.mt_replay.specs.Memory.{AreWhole};
 ghost use Rattle.mt_log.specs.Masters.{IsRuling, IsUnformatted, area_end, area_start};
 ghost use Rattle.mt_replay.specs.Refused.{AreUndone, BreaksFormat, BreaksLog, IsCause, IsLog, IsReplayed, StopsUndoing};
@@ -21,9 +22,10 @@ ghost use Rattle.mt_replay.specs.Stands.{AreHeld, CanRestart, HasArea, ShowsBase
 use crate::figures::{Figures, figures_of};
 use crate::laws::{each_inverse_finds, only_own_pages_matter, restart_finds_the_base};
 use crate::losers::{Loser, losers_of};
-use crate::pages_held::held_pages;
+use crate::page_slots::lost_pages;
+use crate::pages_held::{HeldPages, held_pages};
 use crate::undo_pass::Restored;
-use mt_base::Refusal;
+use mt_base::{PageNo, Refusal};
 use mt_disk::Device;
 use mt_frame::MasterSlot;
 use mt_log::{AreaPlace, Batch, ruling_slot, scan};
@@ -38,6 +40,37 @@ pub struct Replayed {
     pub figures: Figures,
     /// All pages, with what is unfinished put back and the losers undone.
     pub restored: Restored,
+    /// By its number, whether a page has an image in that area.
+    pub imaged: Vec<bool>,
+    /// By its number, whether a page is lost: it has no image there, and other bytes than its slot.
+    pub lost: Vec<bool>,
+}
+
+impl Replayed {
+    ghost use Rattle.std.specs.Prelude.{[], false, get_or};
+
+    /// The bytes of a page, as the passes leave them.
+    pub fn page(&self, page: PageNo) -> &[u8; 4096]
+        requires { page < length self.now.restored.pages.items }
+        ensures { result.now ≡ get_or self.now.restored.pages.items page [] }
+    {
+        &self.restored.pages[usize::from(page.get())]
+    }
+
+    /// By its number, whether the passes changed a page that has no image in the area: whether it is lost.
+    pub fn changed(&self) -> &[bool]
+        ensures { result.now ≡ self.now.lost.items }
+    {
+        &self.lost
+    }
+
+    /// Whether a page has an image in the area. Its slot was not read then.
+    pub fn with_image(&self, page: PageNo) -> bool
+        requires { page < length self.now.imaged.items }
+        ensures { result ≡ get_or self.now.imaged.items page false }
+    {
+        self.imaged[usize::from(page.get())]
+    }
 }
 
 /// The batches of the log area that the ruling slot names, in their order, each at its place. The device is only
@@ -101,6 +134,9 @@ fn undone(alloc: Global, pages: Vec<[u8; 4096]>, losers: &[Loser]) -> Result<Res
 /// Any bytes are read. If they are answered, the pages break no rule of their formats and of the index, those held
 /// and those that the losers' inverses leave.
 ///
+/// The area is read once. Of each page its slot is read once, or its image is taken if the area has one. Marks name
+/// the pages with an image, and the lost ones: those without an image whose slots have other bytes.
+///
 /// Refusals are [`Refusal::NoMemory`], and [`Refusal::DeviceFailed`], if and only if the device failed in this call.
 /// [`Refusal::NotFormatted`] is answered if and only if it is shorter than 8192 bytes or no master slot is open, and
 /// no read failed. [`Refusal::BadFormat`] has a place where a rule is broken. It is that of a slot or a batch as
@@ -111,6 +147,8 @@ pub fn replay<D: Device>(alloc: Global, device: &mut D) -> Result<Replayed, Refu
     ensures rules { IfOk result (λ replayed. IsRuling (D.seen device.old) replayed.ruling) }
     ensures replayed { IfOk result (λ replayed. IsReplayed (D.seen device.old) replayed.ruling replayed.figures
         replayed.restored.pages.items) }
+    ensures marked { IfOk result (λ replayed. IsMarked (D.seen device.old) replayed.ruling
+        replayed.restored.pages.items replayed.imaged.items replayed.lost.items) }
     ensures cause { IfErr result (IsCause BreaksFormat (D.seen device.old)
         (D.faults device.old < D.faults device.new)) }
     ensures unformatted { IsUnformatted (D.seen device.old)
@@ -127,14 +165,22 @@ pub fn replay<D: Device>(alloc: Global, device: &mut D) -> Result<Replayed, Refu
 {
     let ruling = ruling_slot(device)?;
     let batches = read_area(alloc, device, &ruling)?;
-    let pages = held_pages(alloc, device, ruling.pages, &batches)?;
+    let held = held_pages(alloc, device, ruling.pages, &batches)?;
     let losers = losers_of(alloc, &batches)?;
+    let HeldPages {
+        pages,
+        slots,
+        imaged,
+    } = held;
     let restored = undone(alloc, pages, &losers)?;
+    let lost = lost_pages(alloc, &slots, &restored.pages, &imaged)?;
     let figures = figures_of(&batches);
     Ok(Replayed {
         ruling,
         figures,
         restored,
+        imaged,
+        lost,
     })
 }
 

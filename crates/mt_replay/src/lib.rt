@@ -8,10 +8,12 @@
 
 mod device_replay;
 mod figures;
+mod image_marks;
 mod images;
 mod laws;
 mod losers;
 mod page_rules;
+mod page_slots;
 mod pages_held;
 mod repeat;
 mod undo_pass;

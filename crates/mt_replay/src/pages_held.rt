@@ -1,25 +1,61 @@
 // From the bytes of a device to the pages held: history is repeated, and what is unfinished is put back.
 // The losers are undone afterwards, in `undo_pass`.
-ghost use Rattle.std.specs.Prelude.{◌+◌, ◌*◌, ◌≤◌, length};
+ghost use Rattle.std.specs.Prelude.{◌≡◌, ◌+◌, ◌*◌, ◌≤◌, length, IfErr, IfOk};
 ghost use Rattle.mt_base.specs.declared.limits.TheConstants.{MASTER_BYTES, PAGE_BYTES};
+ghost use Rattle.mt_base.specs.declared.refusal.Refusal.{Refusal};
 ghost use Rattle.mt_log.specs.Batch.{joined};
 ghost use Rattle.mt_log.specs.Found.{records_of};
 ghost use Rattle.mt_log.specs.Holds.{AreBatches};
-ghost use Rattle.mt_replay.specs.Reads.{AreLedTo, ReadsPages};
+ghost use Rattle.mt_replay.specs.Memory.{AreWhole};
+ghost use Rattle.mt_replay.specs.Reads.{AreLedOn, FindsHeld};
 
-use crate::images::{lay_images, read_slots};
+use crate::image_marks::imaged_in;
+use crate::images::lay_images;
+use crate::page_slots::read_slots;
 use crate::repeat::Repeating;
 use mt_base::Refusal;
 use mt_disk::Device;
 use mt_log::Batch;
 use std::alloc::Global;
 
+/// The pages held, and what was read of the device for them.
+#[derive(Drop)]
+pub(crate) struct HeldPages {
+    // the bytes of each page, by its number
+    pub(crate) pages: Vec<[u8; 4096]>,
+    // the bytes of its slot, unless it has an image in the area
+    pub(crate) slots: Vec<[u8; 4096]>,
+    // whether it has one
+    pub(crate) imaged: Vec<bool>,
+}
+
+// The pages to which the batches lead from their images, and from these slots of the other pages.
+fn led_on(
+    alloc: Global,
+    slots: &[[u8; 4096]],
+    batches: &[Batch],
+) -> Result<Vec<[u8; 4096]>, Refusal>
+    requires whole { AreWhole slots.now }
+    requires each { AreBatches (length slots.now) (records_of batches.now) }
+    ensures whole { IfOk result (λ pages. AreWhole pages.items) }
+    ensures count { IfOk result (λ pages. length pages.items ≡ length slots.now) }
+    ensures held { IfOk result (λ pages. AreLedOn (joined (records_of batches.now)) slots.now pages.items) }
+    ensures only_memory { IfErr result (λ why. why ≡ Refusal.NoMemory) }
+{
+    let mut pages = Vec::with_capacity(alloc, slots.len())?;
+    pages.extend_from_slice(slots)?;
+    lay_images(&mut pages, batches);
+    let mut repeating = Repeating::over(alloc, pages);
+    repeating.repeat_all(batches)?;
+    Ok(repeating.take_back(batches))
+}
+
 /// The pages held, of so many pages of a device, with the batches that a scan of its ruling area found. History is
 /// repeated over the pages as the area found them. What is unfinished is put back, the last change first.
 ///
-/// A page as the area found it is its first image there, or its slot's bytes if there is none. All records are
-/// repeated, those of transactions that will be undone among them (Mohan 1992). Each costs a look-up or two in
-/// ordered maps, however many operations have not ended.
+/// A page as the area found it is its first image there, or its slot's bytes if there is none; the slots of the
+/// others are not read. All records are repeated, those of transactions that will be undone among them (Mohan 1992).
+/// Each costs a look-up or two in ordered maps, however many operations have not ended.
 ///
 /// The refusals are [`Refusal::NoMemory`], and [`Refusal::DeviceFailed`] if and only if the device failed in this
 /// call. The device is only read, and its content is as before in any case.
@@ -28,15 +64,18 @@ pub(crate) fn held_pages<D: Device>(
     device: &mut D,
     count: u16,
     batches: &[Batch],
-) -> Result<Vec<[u8; 4096]>, Refusal>
+) -> Result<HeldPages, Refusal>
     requires slots { MASTER_BYTES + PAGE_BYTES * count ≤ length (D.seen device.old) }
     requires each { AreBatches count (records_of batches.now) }
-    ensures { ReadsPages D.seen D.may_leave D.moment D.left_since D.faults count
-        (AreLedTo count (joined (records_of batches.now)) (D.seen device.old)) device.old device.new result }
+    ensures { FindsHeld D.seen D.may_leave D.moment D.left_since D.faults count
+        (joined (records_of batches.now)) device.old device.new result }
 {
-    let mut pages = read_slots(alloc, device, count)?;
-    lay_images(&mut pages, batches);
-    let mut repeating = Repeating::over(alloc, pages);
-    repeating.repeat_all(batches)?;
-    Ok(repeating.take_back(batches))
+    let imaged = imaged_in(alloc, count, batches)?;
+    let slots = read_slots(alloc, device, count, &imaged)?;
+    let pages = led_on(alloc, &slots, batches)?;
+    Ok(HeldPages {
+        pages,
+        slots,
+        imaged,
+    })
 }

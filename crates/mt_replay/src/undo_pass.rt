@@ -22,6 +22,7 @@ use mt_file::fits;
 use mt_frame::LoggedOp;
 use mt_index::Search;
 use mt_model::{Op, Reply};
+use mt_pool::slot_at;
 use mt_slots::ROW_HEAD_BYTES;
 use mt_space::pages::{COUNTERS, MAP, RECORDS};
 use mt_space::{Changes, Pages, patch};
@@ -164,7 +165,7 @@ impl Restored {
         let all = AllPages { pages };
         let broken = all.first_broken(alloc)?;
         match broken {
-            Some(page) => Err(Refusal::BadFormat(MASTER_BYTES + 4096 * u64::from(page.get()))),
+            Some(page) => Err(Refusal::BadFormat(slot_at(MASTER_BYTES, page))),
             None => {
                 let AllPages { pages } = all;
                 Ok(Restored { pages })

@@ -1,4 +1,4 @@
-use Rattle.std.proofs.Common.{◌≡◌, ◌∙◌, ◌+◌, ◌-◌, ◌<◌, ℕ, List, length, drop, ap, sym, subst, arith}
+use Rattle.std.proofs.Common.{◌≡◌, ◌+◌, ◌-◌, ℕ, drop, subst, arith}
 use Rattle.mt_replay.specs.Losers.{Tells}
 use Rattle.mt_replay.proofs.Losing.{tells_then}
 use Rattle.mt_replay.proofs.losers.Telling.tell_batch.Goals as goal

@@ -1,4 +1,4 @@
-use Rattle.std.proofs.Common.{◌≡◌, ◌∷◌, ◌∙◌, [], Bool, refl, sym, ap, subst}
+use Rattle.std.proofs.Common.{◌≡◌, ◌∷◌, ◌∙◌, [], refl, sym, subst}
 use Rattle.std.specs.Prelude.{Contains}
 use Rattle.mt_frame.specs.Grammar.{IsOperation}
 use Rattle.mt_frame.specs.declared.records.LoggedOp.{LoggedOp}

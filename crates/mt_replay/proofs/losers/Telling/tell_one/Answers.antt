@@ -1,6 +1,6 @@
-use Rattle.std.proofs.Common.{◌≡◌, ◌∷◌, [], refl, sym, subst}
+use Rattle.std.proofs.Common.{◌∷◌, [], refl, sym, subst}
 use Rattle.mt_frame.specs.declared.records.Record.{Record}
-use Rattle.mt_frame.specs.declared.records.Record.TheVariants.{Commit, AbortEnd}
+use Rattle.mt_frame.specs.declared.records.Record.TheVariants.{Commit}
 use Rattle.mt_replay.specs.Losers.{Tells}
 use Rattle.mt_replay.specs.declared.losers.Telling.{Telling}
 use Rattle.mt_replay.proofs.Losing.{tells_ended}

@@ -1,4 +1,4 @@
-use Rattle.std.proofs.Common.{◌≡◌, ◌<◌, ℕ, length}
+use Rattle.std.proofs.Common.{◌<◌, ℕ, length}
 use Rattle.mt_index.specs.Checks.{bytes_of}
 use Rattle.mt_space.specs.Kinds.{kind, CanBe}
 use Rattle.mt_replay.proofs.page_rules.AllPages.has_map.Given as goal

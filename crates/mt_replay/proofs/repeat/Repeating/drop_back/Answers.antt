@@ -1,4 +1,4 @@
-use Rattle.std.proofs.Common.{◌≡◌, List, map, refl, subst}
+use Rattle.std.proofs.Common.{List, map, refl, subst}
 use Rattle.mt_replay.specs.Passes.{PutsBack, change_of}
 use Rattle.mt_replay.specs.declared.repeat.Repeating.{Repeating}
 use Rattle.mt_replay.specs.declared.repeat.Unfinished.{Unfinished}

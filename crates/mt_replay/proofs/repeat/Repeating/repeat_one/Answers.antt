@@ -1,8 +1,8 @@
-use Rattle.std.proofs.Common.{◌≡◌, ◌∙◌, ◌∷◌, [], Bool, cond, sym, ap, subst}
+use Rattle.std.proofs.Common.{◌∙◌, ◌∷◌, [], Bool, cond, sym, ap, subst}
 use Rattle.std.proofs.lemmas.Bool.{ne_eqb}
 use Rattle.mt_frame.specs.History.{txn_of}
 use Rattle.mt_frame.specs.declared.records.Record.{Record}
-use Rattle.mt_steps.specs.Repeated.{Change, Repeated, changed, repeated}
+use Rattle.mt_steps.specs.Repeated.{Change, changed, repeated}
 use Rattle.mt_replay.specs.Passes.{Repeats}
 use Rattle.mt_replay.proofs.Imaged.{on_ok}
 use Rattle.mt_replay.proofs.Restoring.{repeats_same}

@@ -1,5 +1,4 @@
-use Rattle.std.proofs.Common.{◌≡◌, ◌+◌, ◌-◌, ◌∷◌, [], ℕ, length, drop, sym, subst, arith}
-use Rattle.mt_frame.specs.declared.records.Record.{Record}
+use Rattle.std.proofs.Common.{◌≡◌, ◌+◌, ◌-◌, ℕ, drop, subst, arith}
 use Rattle.mt_replay.specs.Passes.{Backs}
 use Rattle.mt_replay.proofs.Leaving.{backs_then}
 use Rattle.mt_replay.proofs.repeat.TakingBack.pass_records.Goals as goal

@@ -1,6 +1,6 @@
 use Rattle.std.proofs.Common.{rules, ℕ, take, drop, ◌∙◌, ap}
 use Rattle.mt_pool.proofs.Frames.{read_whole, on_ok}
-use Rattle.mt_pool.proofs.slots.read_page.Goals as goal
+use Rattle.mt_pool.proofs.slots.read_slot.Goals as goal
 
 pub returns : goal.returns
 returns g c = record {

@@ -1,6 +1,6 @@
 // An operation that an abort finds unfinished is put back page by page, and then dropped out.
 // Its page locks, its claims and its pending add go with it. Its semantic lock stays until the transaction ends.
-ghost use Rattle.std.specs.Prelude.{◌≡◌, ◌<◌, Ok, Some, IfErr, length};
+ghost use Rattle.std.specs.Prelude.{◌≡◌, ◌≤◌, ◌+◌, ◌<◌, Ok, Some, IfErr, length};
 ghost use Rattle.mt_log.specs.Words.{durable};
 ghost use Rattle.mt_model.specs.Model.{Base};
 ghost use Rattle.mt_op.specs.Faults.{TellsFaults};

@@ -1,6 +1,6 @@
 // Steps of operations that go forward, and of inverses. mt_op makes the step; this notes in the core what has ended.
 // A step writes no page into its slot: if it lacks a frame it answers `Flush`, and who calls flushes and asks again.
-ghost use Rattle.std.specs.Prelude.{◌≡◌, ◌≢◌, ◌⊎◌, ◌<◌, ℕ, Ok, IfErr, length, slice_index_or};
+ghost use Rattle.std.specs.Prelude.{◌≡◌, ◌≤◌, ◌+◌, ◌≢◌, ◌⊎◌, ◌<◌, ℕ, Ok, IfErr, length, slice_index_or};
 ghost use Rattle.mt_log.specs.Words.{durable};
 ghost use Rattle.mt_model.specs.Model.{Base};
 ghost use Rattle.mt_op.specs.declared.scope.Stage.TheVariants.{Planning, Writing};

@@ -26,7 +26,7 @@ use Rattle.mt_core.specs.Work.{RunsBehind, steps_in}
 use Rattle.mt_core.specs.declared.calls.Called.{Called}
 use Rattle.mt_core.specs.declared.calls.Called.TheVariants as call
 use Rattle.mt_core.specs.declared.parts.Core.{Core}
-use Rattle.mt_core.specs.declared.parts.Running.{Running}
+use Rattle.mt_op.specs.declared.scope.OpScope.{OpScope}
 use Rattle.mt_txn.proofs.Showing.{kept_of}
 use Rattle.mt_txn.specs.Causes.{call_cause, count_cause, first_of, is_key, is_step, is_value, name_cause, size_cause, unless}
 use Rattle.mt_txn.specs.Events.{HasCalled, IsAnsweredBy}
@@ -111,17 +111,17 @@ module _ {D : Type 0} (seen : D → List ℕ) (k : Core D) (t : ℕ) (op : Op) w
   want_of (refusal.Die holder) free x = ∥∥₁_elim x (hlevel props) (λ (origin, is). free holder is.0.bars)
   want_of _ free x = ∥∥₁_elim x (hlevel props) (λ (origin, is). is.1.1)
 
-steps_behind : (t : ℕ) (r : Running) (rs : List Running) → list_any (λ (q : Running). q.scope.txn == t) rs ≡ false → r.scope.txn ≡ t → steps_in (rs ++ r ∷ []) t ≡ work_of r.scope
-steps_behind t r [] none own = ap (λ (b : Bool). cond b (work_of r.scope) 0) ((Decides-eqb r.scope.txn t).1 own)
-steps_behind t r (q ∷ rs) none own = go (q.scope.txn == t) refl (λ rest. steps_behind t r rs rest own)
+steps_behind : (t : ℕ) (r : OpScope) (rs : List OpScope) → list_any (λ (q : OpScope). q.txn == t) rs ≡ false → r.txn ≡ t → steps_in (rs ++ r ∷ []) t ≡ work_of r
+steps_behind t r [] none own = ap (λ (b : Bool). cond b (work_of r) 0) ((Decides-eqb r.txn t).1 own)
+steps_behind t r (q ∷ rs) none own = go (q.txn == t) refl (λ rest. steps_behind t r rs rest own)
   where
-    go : (b : Bool) → (q.scope.txn == t) ≡ b → (list_any (λ (x : Running). x.scope.txn == t) rs ≡ false → steps_in (rs ++ r ∷ []) t ≡ work_of r.scope) → steps_in ((q ∷ rs) ++ r ∷ []) t ≡ work_of r.scope
+    go : (b : Bool) → (q.txn == t) ≡ b → (list_any (λ (x : OpScope). x.txn == t) rs ≡ false → steps_in (rs ++ r ∷ []) t ≡ work_of r) → steps_in ((q ∷ rs) ++ r ∷ []) t ≡ work_of r
     go true is later = absurd (
-        let some : list_any (λ (x : Running). x.scope.txn == t) (q ∷ rs) ≡ true = ap (λ (b : Bool). b || list_any (λ (x : Running). x.scope.txn == t) rs) is in
+        let some : list_any (λ (x : OpScope). x.txn == t) (q ∷ rs) ≡ true = ap (λ (b : Bool). b || list_any (λ (x : OpScope). x.txn == t) rs) is in
         let wrong : true ≡ false = sym some ∙ none in cc)
     go false is later =
-        let rest : list_any (λ (x : Running). x.scope.txn == t) rs ≡ false = ap (λ (b : Bool). b || list_any (λ (x : Running). x.scope.txn == t) rs) (sym is) ∙ none in
-        ap (λ (b : Bool). cond b (work_of q.scope) (steps_in (rs ++ r ∷ []) t)) is ∙ later rest
+        let rest : list_any (λ (x : OpScope). x.txn == t) rs ≡ false = ap (λ (b : Bool). b || list_any (λ (x : OpScope). x.txn == t) rs) (sym is) ∙ none in
+        ap (λ (b : Bool). cond b (work_of q) (steps_in (rs ++ r ∷ []) t)) is ∙ later rest
 
 -- ---- a call
 
@@ -169,7 +169,7 @@ module _ {D : Type 0} {g : Ghosts D} (seen : D → List ℕ) (may_leave : D → 
     },
     ∥∥₁_elim o.shown (hlevel props) (λ (first, s, shows, plays).
         let few = pages_few seen may_leave k first s shows in
-        let all : steps_in n.core.running.items t ≡ work_of r.scope = ap (λ (rs : List Running). steps_in rs t) behind ∙ steps_behind t r k.core.running.items (opened_idle seen may_leave faults p t calls k o) own in
+        let all : steps_in n.core.running.items t ≡ work_of r = ap (λ (rs : List OpScope). steps_in rs t) behind ∙ steps_behind t r k.core.running.items (opened_idle seen may_leave faults p t calls k o) own in
         omega (arith, few, all, steps)),
   )
 
@@ -230,7 +230,3 @@ module _ {D : Type 0} {g : Ghosts D} (seen : D → List ℕ) (may_leave : D → 
       wants : Reported → why ≢ refusal.DeviceFailed → (fault ≡ Some why) ⊎ (IsCallWant op why × IsDueTo seen may_leave k (Some t) (line.Call op) why)
       wants (inl x) other = absurd (other x.0)
       wants (inr x) other = due x.1
-
-  -- no memory was had for a copy of it
-  pub call_wanting : p.under_way ≡ Some calls → IsOpened seen may_leave p t calls k → IsAnsweredOr seen may_leave faults p k (Some t) (line.Call op) (Ok (Refused refusal.NoMemory, Some t)) k
-  call_wanting under o = answered_refused seen may_leave faults p (Some calls) (line.Call op) (Some t) k k refusal.NoMemory under (calls, under, o) (left_of seen may_leave faults p (Some t) k (calls, under, o)) (λ e. absurd cc) (λ other. inr (tt, inl refl))

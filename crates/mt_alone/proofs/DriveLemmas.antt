@@ -23,7 +23,7 @@ use Rattle.mt_model.specs.declared.operations.Reply.{Reply}
 use Rattle.mt_core.specs.Consistent.{SameStates}
 use Rattle.mt_core.specs.Runs.{state_in}
 use Rattle.mt_core.specs.Work.{steps_in, undo_steps}
-use Rattle.mt_core.specs.declared.parts.Running.{Running}
+use Rattle.mt_op.specs.declared.scope.OpScope.{OpScope}
 use Rattle.mt_txn.proofs.Living.{busy_of}
 use Rattle.mt_txn.specs.Causes.{IsFault, abort_cause, is_aborting, is_busy, is_open, step_cause, unless, first_of}
 use Rattle.mt_txn.specs.Events.{HasStepped, HasAborted}
@@ -156,7 +156,7 @@ module _ {D : Type 0} {g : Ghosts D} (seen : D → List ℕ) (may_leave : D → 
       let at_x = calling_stays m x stood.0 (subst (λ (o : Result Stepped Refusal). (first : Base) (s : State) → Shows seen may_leave first s m → HasStepped seen may_leave first s t o x) is did) states in
       let work = subst (λ (o : Result Stepped Refusal). LowersSteps pages o (steps_in m.core.running.items t) (steps_in x.core.running.items t)) is lowers in
       let e = eases (calling_nobody x at_x) in
-      let same : steps_in n.core.running.items t ≡ steps_in x.core.running.items t = ap (λ (rs : List Running). steps_in rs t) e.running in
+      let same : steps_in n.core.running.items t ≡ steps_in x.core.running.items t = ap (λ (rs : List OpScope). steps_in rs t) e.running in
       let before = stood.1 in
       (calling_stays x n at_x e.state e.states, omega (arith, same, work, before))
 

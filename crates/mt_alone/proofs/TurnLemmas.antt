@@ -26,7 +26,7 @@ use Rattle.mt_core.specs.Consistent.{SameRunning, SameStates, SetsState, log_kep
 use Rattle.mt_core.specs.Runs.{state_in}
 use Rattle.mt_core.specs.Work.{undo_steps}
 use Rattle.mt_core.specs.declared.parts.Commit.{Commit}
-use Rattle.mt_core.specs.declared.parts.Running.{Running}
+use Rattle.mt_op.specs.declared.scope.OpScope.{OpScope}
 use Rattle.mt_txn.proofs.Living.{idle_of, no_commits}
 use Rattle.mt_txn.proofs.Showing.{kept_of, parts_stay}
 use Rattle.mt_txn.specs.Causes.{begin_cause, commit_cause, first_of, is_busy, is_open, open_cause, unless}
@@ -231,7 +231,7 @@ module _ {D : Type 0} {g : Ghosts D} (seen : D → List ℕ) (may_leave : D → 
 
   pub abort_few : (p : Play) (k n : Kernel D g) (t : ℕ) (calls : List Call) → IsOpened seen may_leave p t calls k → Stays seen may_leave k n → SetsState k.core n.core t (Some Aborting) → SameRunning k.core n.core → undo_steps n.core t ≤ 5054310
   abort_few p k n t calls o stays sets running = ∥∥₁_elim o.shown (hlevel props) (λ (first, s, shows, (played, alone)).
-      let idle : is_busy n.core t ≡ false = ap (λ (rs : List Running). list_any (λ (r : Running). r.scope.txn == t) rs) running ∙ opened_idle p t calls k o in
+      let idle : is_busy n.core t ≡ false = ap (λ (rs : List OpScope). list_any (λ (r : OpScope). r.txn == t) rs) running ∙ opened_idle p t calls k o in
       let state : state_in n.core.live.members t ≡ Some Aborting = sets t ∙ ap (λ (b : Bool). cond b (Some Aborting) (state_in k.core.live.members t)) (eq_self t) in
       undo_few seen may_leave n first s t (stays first s shows) (nobody_commits seen may_leave n first s t Aborting (stays first s shows) alone.others state (λ e. cc)) idle
       (λ u other lives. nobody_there seen may_leave n first s (stays first s shows) u (alone.others u other) lives))

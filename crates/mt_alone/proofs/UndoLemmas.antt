@@ -20,7 +20,7 @@ use Rattle.mt_core.proofs.Effects.{inverse_bytes}
 use Rattle.mt_core.specs.Runs.{entry_bytes, is_open, kept_bytes, taken_bytes}
 use Rattle.mt_core.specs.Work.{abort_steps, effect_steps, effects_left, undo_steps}
 use Rattle.mt_core.specs.declared.parts.Commit.{Commit}
-use Rattle.mt_core.specs.declared.parts.Running.{Running}
+use Rattle.mt_op.specs.declared.scope.OpScope.{OpScope}
 use Rattle.mt_txn.proofs.Living.{no_commits}
 use Rattle.mt_txn.specs.Causes.{is_busy}
 use Rattle.mt_txn.specs.Shown.{Shows}
@@ -65,13 +65,13 @@ at_work : (o : Option Member) → is_open o ≡ true → is_some o ≡ true
 at_work None is = is
 at_work (Some m) is = refl
 
-nothing_runs : (ms : _) (t : ℕ) (rs : List Running) → All (λ (r : Running). is_open (member_of ms r.scope.txn) ≡ true) rs → ((u : ℕ) → u ≢ t → is_some (member_of ms u) ≡ true → ⊥) → list_any (λ (r : Running). r.scope.txn == t) rs ≡ false → rs ≡ []
+nothing_runs : (ms : _) (t : ℕ) (rs : List OpScope) → All (λ (r : OpScope). is_open (member_of ms r.txn) ≡ true) rs → ((u : ℕ) → u ≢ t → is_some (member_of ms u) ≡ true → ⊥) → list_any (λ (r : OpScope). r.txn == t) rs ≡ false → rs ≡ []
 nothing_runs ms t [] owned alone none = refl
 nothing_runs ms t (r ∷ rs) owned alone none = absurd (⊎_elim
-    (λ (same : r.scope.txn ≡ t).
-    let some : list_any (λ (q : Running). q.scope.txn == t) (r ∷ rs) ≡ true = ap (λ (b : Bool). b || list_any (λ (q : Running). q.scope.txn == t) rs) ((Decides-eqb r.scope.txn t).1 same) in
+    (λ (same : r.txn ≡ t).
+    let some : list_any (λ (q : OpScope). q.txn == t) (r ∷ rs) ≡ true = ap (λ (b : Bool). b || list_any (λ (q : OpScope). q.txn == t) rs) ((Decides-eqb r.txn t).1 same) in
     let wrong : true ≡ false = sym some ∙ none in cc)
-    (λ (other : r.scope.txn ≢ t). alone r.scope.txn other (at_work (member_of ms r.scope.txn) (owned 0 r (omega arith)))) (cases_eq r.scope.txn t))
+    (λ (other : r.txn ≢ t). alone r.txn other (at_work (member_of ms r.txn) (owned 0 r (omega arith)))) (cases_eq r.txn t))
 
 module _ {D : Type 0} {g : Ghosts D} (seen : D → List ℕ) (may_leave : D → List ℕ → Type 0) where
   pub undo_few : (k : Kernel D g) (first : Base) (s : State) (t : ℕ) → Shows seen may_leave first s k → NobodyCommits k → is_busy k.core t ≡ false → ((u : ℕ) → u ≢ t → is_some (member_of k.core.live.members u) ≡ true → ⊥)
@@ -79,10 +79,10 @@ module _ {D : Type 0} {g : Ghosts D} (seen : D → List ℕ) (may_leave : D → 
   undo_few k first s t shows nobody idle alone = ∥∥₁_elim shows (hlevel props) (λ (origin, base, is, x).
       let fit = x.consistent.fit in
       let none = nothing_runs k.core.live.members t k.core.running.items (λ i d lt. (fit.owned i d lt).at_work) alone idle in
-      let steps : undo_steps k.core t ≡ effects_left (pages k.core.operations.store.pool) k.core.live.standing t = ap (λ (rs : List Running). abort_steps (pages k.core.operations.store.pool) rs t (effects_left (pages k.core.operations.store.pool) k.core.live.standing t)) none in
+      let steps : undo_steps k.core t ≡ effects_left (pages k.core.operations.store.pool) k.core.live.standing t = ap (λ (rs : List OpScope). abort_steps (pages k.core.operations.store.pool) rs t (effects_left (pages k.core.operations.store.pool) k.core.live.standing t)) none in
       let few = effects_few (pages k.core.operations.store.pool) t k.core.live.standing fit.right.kept.few in
-      let taken : sum_by taken_bytes k.core.running.items ≡ 0 = ap (λ (rs : List Running). sum_by taken_bytes rs) none in
-      let kept : sum_by kept_bytes k.core.running.items ≡ 0 = ap (λ (rs : List Running). sum_by kept_bytes rs) none in
+      let taken : sum_by taken_bytes k.core.running.items ≡ 0 = ap (λ (rs : List OpScope). sum_by taken_bytes rs) none in
+      let kept : sum_by kept_bytes k.core.running.items ≡ 0 = ap (λ (rs : List OpScope). sum_by kept_bytes rs) none in
       let quiet : length k.core.commits.items ≡ 0 = ap (λ (cs : List Commit). length cs) (no_commits seen may_leave k.relations k.counters k.core (well_of seen may_leave k first s shows) nobody) in
       let reserves = fit.reserves in
       let log = fit.log in

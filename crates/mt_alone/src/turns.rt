@@ -44,10 +44,7 @@ pub fn call<D: Device>(kernel: &mut Kernel<D>, txn: TxnNo, op: &Op) -> Turn
     ensures schema { SameSchema kernel.old kernel.new }
     ensures restarts { StaysRestarting D.seen D.may_leave kernel.old kernel.new }
 {
-    let Ok(copy) = op.try_clone() else {
-        return refused(Refusal::NoMemory, Some(txn));
-    };
-    match kernel.call(txn, copy) {
+    match kernel.call(txn, op) {
         Ok(Called::Started) => {
             let reply = step_to_reply(kernel, txn)?;
             Ok((Answer::Replied(reply), Some(txn)))

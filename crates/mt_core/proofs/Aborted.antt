@@ -30,7 +30,6 @@ use Rattle.mt_core.proofs.Resting.{fit_over}
 use Rattle.mt_core.proofs.Reported.{reported_more}
 use Rattle.mt_core.proofs.Queued.{queued_records}
 use Rattle.mt_core.specs.declared.parts.Core.{Core}
-use Rattle.mt_core.specs.declared.parts.Running.{Running}
 
 nobodys : (t : ℕ) (ps : List Pending) → pending_of t ps ≡ [] → pending_without t ps ≡ ps
 nobodys t [] none = refl
@@ -50,7 +49,7 @@ may_end records t some open_still = let named : (t == 0) ≡ false = ne_eqb t 0 
 
 module _ {D : Type 0} (seen : D → List ℕ) (may_leave : D → List ℕ → Type 0) (origin : Origin) (base : Base) where
   -- the record of the end of a transaction that is at work no more
-  pub ended_in : (k n : Core D) (t : ℕ) → IsConsistent seen may_leave origin base k → is_open (member_of k.live.members t) ≡ false → t ≤ k.live.begun → All (λ (q : Running). q.scope.txn ≢ t) k.running.items
+  pub ended_in : (k n : Core D) (t : ℕ) → IsConsistent seen may_leave origin base k → is_open (member_of k.live.members t) ≡ false → t ≤ k.live.begun → All (λ (q : OpScope). q.txn ≢ t) k.running.items
       → IsRight seen may_leave origin.pages origin.relations origin.counters n.operations → Notes (world seen origin.pages k.operations) (world seen origin.pages n.operations) (AbortEnd t)
       → ((u : OpScope) → IsUnderWay origin.relations origin.counters (world seen origin.pages k.operations) u → u.txn ≢ t → IsUnderWay origin.relations origin.counters (world seen origin.pages n.operations) u)
       → claimed n.operations ≡ claimed k.operations → used n.operations.store.log + sum_by left_of k.running.items + k.reserved < area_size n.operations.store.log → IsIn seen may_leave origin base (state_of k base) (record k { operations = n.operations })
@@ -73,7 +72,7 @@ module _ {D : Type 0} (seen : D → List ℕ) (may_leave : D → List ℕ → Ty
               (subst (λ (X : Type 0). X) (λ i. IsQueued k.live.members (sym notes.records i) k.commits.items) (queued_records k.live.members (appended k.operations.store.log) (AbortEnd t ∷ []) k.commits.items fit.queued))
               log;
           holds = subst (λ (p : PageBytes). Holds p base) (sym (notes_held origin.relations origin.counters (world seen origin.pages k.operations) (world seen origin.pages n.operations) t (AbortEnd t) notes (inr refl))) safe.holds;
-          runs = λ i d lt. let was = safe.runs i d lt in record { under = others (get_or k.running.items i d).scope was.under (idle i d lt); budget = was.budget; number = was.number; moving = was.moving };
+          runs = λ i d lt. let was = safe.runs i d lt in record { under = others (get_or k.running.items i d) was.under (idle i d lt); budget = was.budget; number = was.number; moving = was.moving };
           outcome = subst (AreReported k.last k.live.members) (sym notes.records) (reported_more k.last k.last k.live.members (appended k.operations.store.log) (AbortEnd t ∷ []) (omega arith) (λ u v less. refl) safe.outcome);
           claims = same ∙ safe.claims;
         };

@@ -21,7 +21,7 @@ use Rattle.mt_live.specs.declared.transactions.TxnState.TheVariants.{Open, Commi
 use Rattle.mt_core.specs.Runs.{running_in, IsOwned, is_at_work, is_open, entry_pages, entry_bytes, left_of}
 use Rattle.mt_core.specs.Consistent.{Origin, state_of, state_in, AreLeft, IsNumbered, IsReported, IsWithinSchema, IsConsistent, IsIn}
 use Rattle.mt_core.specs.declared.parts.Core.{Core}
-use Rattle.mt_core.specs.declared.parts.Running.{Running}
+use Rattle.mt_op.specs.declared.scope.OpScope.{OpScope}
 use Rattle.mt_live.proofs.Alone.{put_other}
 use Rattle.mt_core.proofs.Members.{changed_keeps}
 use Rattle.mt_core.proofs.Reported.{reported_fresh, reported_put, reported_changed}
@@ -52,13 +52,12 @@ there_open None is = absurd cc
 there_open (Some m) is = refl
 
 -- an operation is its transaction's as before, where what is asked of that is as before
-pub owned_as : (ms new : List Member) (old standing : List Entry) (q : Running) → member_of new q.scope.txn ≡ member_of ms q.scope.txn → standing ≡ old → IsOwned ms old q → IsOwned new standing q
+pub owned_as : (ms new : List Member) (old standing : List Entry) (q : OpScope) → member_of new q.txn ≡ member_of ms q.txn → standing ≡ old → IsOwned ms old q → IsOwned new standing q
 owned_as ms new old standing q same stands o = record {
   at_work = ap is_open same ∙ o.at_work;
   room = λ fore. ap has_room same ∙ o.room fore;
-  copy = o.copy;
-  inverse = λ back. let e = o.inverse back in record { named = ap last_operation same ∙ e.named; entry = e.entry; last = ap (last_effect q.scope.txn) stands ∙ e.last; inverse = e.inverse; copy = e.copy; unsplit = e.unsplit };
-  newest = λ fore. subst (IsAbove q.scope.number) (sym same) (o.newest fore);
+  inverse = λ back. let e = o.inverse back in record { named = ap last_operation same ∙ e.named; entry = e.entry; last = ap (last_effect q.txn) stands ∙ e.last; inverse = e.inverse; unsplit = e.unsplit };
+  newest = λ fore. subst (IsAbove q.number) (sym same) (o.newest fore);
   taken = λ is. let t = o.taken is in (t.0, ap (option_map (λ (m : Member). m.state)) same ∙ t.1);
   aborts = λ back. ap (option_map (λ (m : Member). m.state)) same ∙ o.aborts back;
 }
@@ -105,9 +104,9 @@ module _ {D : Type 0} (seen : D → List ℕ) (may_leave : D → List ℕ → Ty
         pending = k.escrow.pending;
         base = base;
       } in
-      let other : (i : ℕ) (d : Running) → i < length k.running.items → member_of n.live.members (get_or k.running.items i d).scope.txn ≡ member_of k.live.members (get_or k.running.items i d).scope.txn =
-      λ i d lt. new (get_or k.running.items i d).scope.txn ∙ put_other (member_of k.live.members) t (Some (members.fresh t session)) (get_or k.running.items i d).scope.txn
-      (λ is. let at_work = (fit.owned i d lt).at_work in let here : is_open (member_of k.live.members (get_or k.running.items i d).scope.txn) ≡ false = ap (λ (u : ℕ). is_open (member_of k.live.members u)) is ∙ ap is_open none in absurd cc) in
+      let other : (i : ℕ) (d : OpScope) → i < length k.running.items → member_of n.live.members (get_or k.running.items i d).txn ≡ member_of k.live.members (get_or k.running.items i d).txn =
+      λ i d lt. new (get_or k.running.items i d).txn ∙ put_other (member_of k.live.members) t (Some (members.fresh t session)) (get_or k.running.items i d).txn
+      (λ is. let at_work = (fit.owned i d lt).at_work in let here : is_open (member_of k.live.members (get_or k.running.items i d).txn) ≡ false = ap (λ (u : ℕ). is_open (member_of k.live.members u)) is ∙ ap is_open none in absurd cc) in
       let claims = safe.claims in let reserves = fit.reserves in
       let sum_pages = ap (sum_by entry_pages) standing in let sum_bytes = ap (sum_by entry_bytes) standing in
       record {
@@ -186,12 +185,11 @@ module _ {D : Type 0} (seen : D → List ℕ) (may_leave : D → List ℕ → Ty
             schema = fit.schema;
             right = fit.right;
             kept = subst (IsKept origin.first) state fit.kept;
-            owned = λ i d lt. let o = fit.owned i d lt in let u = (get_or k.running.items i d).scope.txn in record {
+            owned = λ i d lt. let o = fit.owned i d lt in let u = (get_or k.running.items i d).txn in record {
               at_work = open_same u ∙ o.at_work;
               room = λ fore. roomy u (o.room fore);
-              copy = o.copy;
-              inverse = λ back. let e = o.inverse back in record { named = changed_keeps last_operation f k.live.members n.live.members t last_same changed u ∙ e.named; entry = e.entry; last = ap (last_effect u) standing ∙ e.last; inverse = e.inverse; copy = e.copy; unsplit = e.unsplit };
-              newest = λ fore. changed_above f k.live.members n.live.members t u (get_or k.running.items i d).scope.number same_operations changed (o.newest fore);
+              inverse = λ back. let e = o.inverse back in record { named = changed_keeps last_operation f k.live.members n.live.members t last_same changed u ∙ e.named; entry = e.entry; last = ap (last_effect u) standing ∙ e.last; inverse = e.inverse; unsplit = e.unsplit };
+              newest = λ fore. changed_above f k.live.members n.live.members t u (get_or k.running.items i d).number same_operations changed (o.newest fore);
               taken = λ is. let back = o.taken is in (back.0, aborting u back.1);
               aborts = λ back. aborting u (o.aborts back);
             };

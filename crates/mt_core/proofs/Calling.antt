@@ -35,7 +35,6 @@ use Rattle.mt_steps.specs.Plans.{own_needs, undo_pages}
 use Rattle.mt_core.specs.Runs.{running_in, AreApart, AreHeldBy, IsRunning, IsOwned, is_open, undo_bytes, pages_of, left_of, kept_bytes, taken_bytes}
 use Rattle.mt_core.specs.Consistent.{Origin, state_of, IsNumbered, AreReported, IsQueued, IsFit, IsConsistent, IsGranted, IsIn}
 use Rattle.mt_core.specs.declared.parts.Core.{Core}
-use Rattle.mt_core.specs.declared.parts.Running.{Running}
 use Rattle.mt_core.proofs.Underway.{runs_none, running_push}
 use Rattle.mt_core.proofs.Holders.{held_push, sums_push}
 use Rattle.mt_core.proofs.Numbers.{fresh}
@@ -110,19 +109,19 @@ module _ {D : Type 0} (seen : D → List ℕ) (may_leave : D → List ℕ → Ty
   pub next_fresh : (k : Core D) (t n : ℕ) → IsFit seen may_leave origin base k → is_open (member_of k.live.members t) ≡ true → k.last < n → IsFresh (world seen origin.pages k.operations) t n 0
   next_fresh k t n fit at_work above = fresh k.last k.live.begun k.live.members origin.relations origin.counters (world seen origin.pages k.operations) t n fit.right.sound above at_work fit.numbered
 
-  pub called_in : (was : List (Object × List Holder)) (escrow : Escrowed) (k n : Core D) (t : ℕ) (op : Op) (split : Bool) (r : Running) → IsGranted seen may_leave origin base was escrow k t op → n.running.items ≡ k.running.items ++ r ∷ [] → r.op ≡ op
-      → HasBegun seen may_leave origin.pages origin.relations origin.counters k.operations n.operations t (k.last + 1) op split r.scope → k.last < 2 ^ 40 → n.reserved ≡ k.reserved + undo_bytes op
-      → used k.operations.store.log + sum_by left_of k.running.items + r.scope.left + n.reserved < area_size k.operations.store.log
+  pub called_in : (was : List (Object × List Holder)) (escrow : Escrowed) (k n : Core D) (t : ℕ) (op : Op) (split : Bool) (r : OpScope) → IsGranted seen may_leave origin base was escrow k t op → n.running.items ≡ k.running.items ++ r ∷ []
+      → HasBegun seen may_leave origin.pages origin.relations origin.counters k.operations n.operations t (k.last + 1) op split r → k.last < 2 ^ 40 → n.reserved ≡ k.reserved + undo_bytes op
+      → used k.operations.store.log + sum_by left_of k.running.items + r.left + n.reserved < area_size k.operations.store.log
       → IsIn seen may_leave origin base (called (state_of (record k { locks = was; escrow = escrow }) base) t op) (record k { operations = n.operations; running = n.running; last = k.last + 1; reserved = n.reserved })
-  called_in was escrow k n t op split r g items copy h few reserved log =
+  called_in was escrow k n t op split r g items h few reserved log =
       let safe = g.was in let fit = safe.fit in let may_run = g.may in
       let z : Core D = record k { operations = n.operations; running = n.running; last = k.last + 1; reserved = n.reserved } in
       let s : State = state_of (record k { locks = was; escrow = escrow }) base in
       let none : running_in k.running.items t ≡ None = runs_none k.running.items t may_run.idle in
       let may : MayCall origin.first s t op = record { live = mapped_some (member_of k.live.members t) (open_some (member_of k.live.members t) may_run.at_work); idle = none; free = g.free; admitted = g.admitted } in
-      let none_r : running_in k.running.items r.scope.txn ≡ None = ap (running_in k.running.items) h.is_txn ∙ none in
+      let none_r : running_in k.running.items r.txn ≡ None = ap (running_in k.running.items) h.is_txn ∙ none in
       let runs : (u : ℕ) → put (running_in k.running.items) t (Some op) u ≡ running_in n.running.items u =
-      λ u. (λ i. put (running_in k.running.items) (sym h.is_txn i) (Some (sym h.is_op i)) u) ∙ sym (running_push k.running.items r h.is_undoes none_r u) ∙ ap (λ (rs : List Running). running_in rs u) (sym items) in
+      λ u. (λ i. put (running_in k.running.items) (sym h.is_txn i) (Some (sym h.is_op i)) u) ∙ sym (running_push k.running.items r h.is_undoes none_r u) ∙ ap (λ (rs : List OpScope). running_in rs u) (sym items) in
       let state : called s t op ≡ state_of z base = λ i. record {
         book = k.book.items;
         sessions = λ u. option_map (λ (m : Member). m.session) (member_of k.live.members u);
@@ -135,23 +134,22 @@ module _ {D : Type 0} (seen : D → List ℕ) (may_leave : D → List ℕ → Ty
       } in
       let w_same : world seen origin.pages k.operations ≡ world seen origin.pages n.operations = world_same seen k.operations n.operations origin.pages h.store h.locks in
       let still : All (IsRunning origin.relations origin.counters (world seen origin.pages n.operations) (k.last + 1)) k.running.items =
-      λ i d lt. let was = safe.runs i d lt in record { under = subst (λ (w : World). IsUnderWay origin.relations origin.counters w (get_or k.running.items i d).scope) w_same was.under; budget = was.budget; number = let low = was.number in omega arith; moving = was.moving } in
+      λ i d lt. let was = safe.runs i d lt in record { under = subst (λ (w : World). IsUnderWay origin.relations origin.counters w (get_or k.running.items i d)) w_same was.under; budget = was.budget; number = let low = was.number in omega arith; moving = was.moving } in
       let mine : IsRunning origin.relations origin.counters (world seen origin.pages n.operations) (k.last + 1) r = record { under = h.under; budget = h.budget; number = let is = h.is_number in omega arith; moving = inl h.planning } in
       let own : IsOwned k.live.members k.live.standing r = record {
         at_work = rw h.is_txn may_run.at_work;
         room = λ fore. rw h.is_txn may_run.room;
-        copy = λ fore. copy ∙ sym h.is_op;
         inverse = λ back. absurd (back h.is_undoes);
         taken = λ is. absurd (let planning = h.planning in cc);
         aborts = λ back. absurd (back h.is_undoes);
-        newest = λ fore. above_all r.scope.number (member_of k.live.members r.scope.txn) (λ m is i d lt. let low = (safe.outcome r.scope.txn m is).numbers i d lt in let new = h.is_number in omega (arith, low, new));
+        newest = λ fore. above_all r.number (member_of k.live.members r.txn) (λ m is i d lt. let low = (safe.outcome r.txn m is).numbers i d lt in let new = h.is_number in omega (arith, low, new));
       } in
       let sums = sums_push k.running.items n.running.items r items in
       let pages = sums.pages in let lefts = sums.left in let keeps = sums.kept in let takes = sums.taken in
-      let test : (r.scope.undoes == 0) ≡ true = eq-eqb r.scope.undoes 0 h.is_undoes in
-      let pages_own : pages_of r ≡ own_needs r.scope.op r.scope.split + undo_pages r.scope.op = rw test refl in
+      let test : (r.undoes == 0) ≡ true = eq-eqb r.undoes 0 h.is_undoes in
+      let pages_own : pages_of r ≡ own_needs r.op r.split + undo_pages r.op = rw test refl in
       let pages_r : pages_of r ≡ own_needs op split + undo_pages op = pages_own ∙ (λ i. own_needs (h.is_op i) (h.is_split i) + undo_pages (h.is_op i)) in
-      let kept_own : kept_bytes r ≡ undo_bytes r.scope.op = rw test refl in
+      let kept_own : kept_bytes r ≡ undo_bytes r.op = rw test refl in
       let kept_r : kept_bytes r ≡ undo_bytes op = kept_own ∙ ap undo_bytes h.is_op in
       let taken_r : taken_bytes r ≡ 0 = rw test refl in
       let claims = safe.claims in let claims_now = h.claims in let reserves = fit.reserves in
@@ -210,7 +208,7 @@ module _ {D : Type 0} (seen : D → List ℕ) (may_leave : D → List ℕ → Ty
           escrowed = fit.escrowed;
         };
         holds = subst (λ (w : World). Holds (held_in w) base) w_same safe.holds;
-        runs = λ i d lt. let was = safe.runs i d lt in record { under = subst (λ (w : World). IsUnderWay origin.relations origin.counters w (get_or k.running.items i d).scope) w_same was.under; budget = was.budget; number = was.number; moving = was.moving };
+        runs = λ i d lt. let was = safe.runs i d lt in record { under = subst (λ (w : World). IsUnderWay origin.relations origin.counters w (get_or k.running.items i d)) w_same was.under; budget = was.budget; number = was.number; moving = was.moving };
         outcome = subst (λ (X : Type 0). X) (λ i. AreReported k.last k.live.members (appended (sym store i).log)) safe.outcome;
         claims = same ∙ claims;
       }

@@ -26,7 +26,6 @@ use Rattle.mt_steps.specs.Held.{Holds}
 use Rattle.mt_core.specs.Runs.{running_in, AreHeldBy, is_at_work, is_open, entry_pages, entry_bytes}
 use Rattle.mt_core.specs.Consistent.{Origin, state_of, IsNumbered, AreReported, IsQueued, IsWithinSchema, IsEscrowed, IsConsistent, IsIn}
 use Rattle.mt_core.specs.declared.parts.Core.{Core}
-use Rattle.mt_core.specs.declared.parts.Running.{Running}
 use Rattle.mt_core.proofs.Calling.{txn_low}
 use Rattle.mt_core.proofs.Members.{changed_keeps, changed_other}
 use Rattle.mt_core.proofs.Beginning.{owned_as}
@@ -49,7 +48,7 @@ closed_other old new t changed u h is = go (member_of old t) (sym (ap is_open (c
     go (Some m) k = absurd cc
 
 module _ {D : Type 0} (seen : D → List ℕ) (may_leave : D → List ℕ → Type 0) (origin : Origin) (base : Base) where
-  pub committing_in : (k n : Core D) (c : Queued) → IsConsistent seen may_leave origin base k → is_open (member_of k.live.members c.txn) ≡ true → All (λ (q : Running). q.scope.txn ≢ c.txn) k.running.items
+  pub committing_in : (k n : Core D) (c : Queued) → IsConsistent seen may_leave origin base k → is_open (member_of k.live.members c.txn) ≡ true → All (λ (q : OpScope). q.txn ≢ c.txn) k.running.items
       → IsRight seen may_leave origin.pages origin.relations origin.counters n.operations → Notes (world seen origin.pages k.operations) (world seen origin.pages n.operations) (Commit c.txn)
       → ((u : OpScope) → IsUnderWay origin.relations origin.counters (world seen origin.pages k.operations) u → u.txn ≢ c.txn → IsUnderWay origin.relations origin.counters (world seen origin.pages n.operations) u)
       → claimed n.operations ≡ claimed k.operations → used n.operations.store.log ≡ used k.operations.store.log + 14 → area_size n.operations.store.log ≡ area_size k.operations.store.log
@@ -100,7 +99,7 @@ module _ {D : Type 0} (seen : D → List ℕ) (may_leave : D → List ℕ → Ty
             schema = fit.schema;
             right = right;
             kept = subst (IsKept origin.first) state fit.kept;
-            owned = λ i d lt. owned_as k.live.members n.live.members k.live.standing n.live.standing (get_or k.running.items i d) (other (get_or k.running.items i d).scope.txn (idle i d lt)) standing (fit.owned i d lt);
+            owned = λ i d lt. owned_as k.live.members n.live.members k.live.standing n.live.standing (get_or k.running.items i d) (other (get_or k.running.items i d).txn (idle i d lt)) standing (fit.owned i d lt);
             apart = fit.apart;
             numbered = subst (λ (X : Type 0). X) (λ i. IsNumbered k.last (sym begun_same i) n.live.members (sym notes.locks i) (sym notes.records i)) numbered;
             locked = subst (AreHeldBy k.running.items) (sym notes.locks) fit.locked;
@@ -113,7 +112,7 @@ module _ {D : Type 0} (seen : D → List ℕ) (may_leave : D → List ℕ → Ty
             escrowed = subst (λ (X : Type 0). X) (λ i. IsEscrowed origin.counters (after origin.first (sym book i)) k.escrow) fit.escrowed;
           };
           holds = subst (λ (p : PageBytes). Holds p base) (sym (notes_held origin.relations origin.counters (world seen origin.pages k.operations) (world seen origin.pages n.operations) t (Commit t) notes (inl refl))) safe.holds;
-          runs = λ i d lt. let was = safe.runs i d lt in record { under = others (get_or k.running.items i d).scope was.under (idle i d lt); budget = was.budget; number = was.number; moving = was.moving };
+          runs = λ i d lt. let was = safe.runs i d lt in record { under = others (get_or k.running.items i d) was.under (idle i d lt); budget = was.budget; number = was.number; moving = was.moving };
           outcome = subst (AreReported k.last n.live.members) (sym notes.records) outcome;
           claims = omega arith;
         };

@@ -28,7 +28,6 @@ use Rattle.mt_steps.specs.Held.{Holds}
 use Rattle.mt_core.specs.Runs.{running_in, state_in, AreHeldBy, IsMoving, IsRunning, IsOwned, undo_bytes, pages_of, kept_bytes, taken_bytes}
 use Rattle.mt_core.specs.Consistent.{Origin, state_of, AreReported, DropsIn, IsConsistent, IsCleared, IsIn, GoesBack}
 use Rattle.mt_core.specs.declared.parts.Core.{Core}
-use Rattle.mt_core.specs.declared.parts.Running.{Running}
 use Rattle.mt_core.proofs.Lists.{all_remove, all_set}
 use Rattle.mt_core.proofs.Underway.{running_at, running_remove}
 use Rattle.mt_core.proofs.Numbers.{adds_dropped, numbered_dropped}
@@ -48,19 +47,19 @@ pub record HasGoneBack {D : Type 0} (seen : D → List ℕ) (may_leave : D → L
 
 module _ {D : Type 0} (seen : D → List ℕ) (may_leave : D → List ℕ → Type 0) (origin : Origin) (base : Base) where
   -- an operation that is no inverse is dropped out; its claims and those for its inverse are given back, and the log bytes kept for that
-  pub dropped_in : (k n : Core D) (place : ℕ) (r : Running) → IsCleared seen may_leave origin base k place r → r.scope.undoes ≡ 0 → n.running.items ≡ remove k.running.items place
-      → HasEnded seen may_leave origin.pages origin.relations origin.counters k.operations n.operations r.scope → claimed n.operations + pages_of r ≡ claimed k.operations → n.reserved + undo_bytes r.scope.op ≡ k.reserved
-      → GivesBack r.scope.txn r.scope.op k.escrow.pending n.escrow.pending → n.escrow.committed ≡ k.escrow.committed
-      → DropsIn seen may_leave origin base (state_of k base) (record k { operations = n.operations; running = n.running; escrow = n.escrow; reserved = n.reserved }) r.scope.txn
+  pub dropped_in : (k n : Core D) (place : ℕ) (r : OpScope) → IsCleared seen may_leave origin base k place r → r.undoes ≡ 0 → n.running.items ≡ remove k.running.items place
+      → HasEnded seen may_leave origin.pages origin.relations origin.counters k.operations n.operations r → claimed n.operations + pages_of r ≡ claimed k.operations → n.reserved + undo_bytes r.op ≡ k.reserved
+      → GivesBack r.txn r.op k.escrow.pending n.escrow.pending → n.escrow.committed ≡ k.escrow.committed
+      → DropsIn seen may_leave origin base (state_of k base) (record k { operations = n.operations; running = n.running; escrow = n.escrow; reserved = n.reserved }) r.txn
   dropped_in k n place r y fore items h back freed given committed =
       let fit = y.fit in let alone = y.alone in
       let z : Core D = record k { operations = n.operations; running = n.running; escrow = n.escrow; reserved = n.reserved } in
       let s : State = state_of k base in
-      let runs : s.running r.scope.txn ≡ Some r.scope.op = running_at k.running.items place r alone.within alone.there fore fit.apart in
+      let runs : s.running r.txn ≡ Some r.op = running_at k.running.items place r alone.within alone.there fore fit.apart in
       let l = left seen may_leave origin base k n place r Cleared fit alone items h in
-      let gone : (t : ℕ) → put (running_in k.running.items) r.scope.txn None t ≡ running_in n.running.items t =
-      λ t. sym (running_remove k.running.items place r alone.within alone.there fore fit.apart t) ∙ ap (λ (rs : List Running). running_in rs t) (sym items) in
-      let state : dropped s r.scope.txn n.escrow.pending ≡ state_of z base = λ i. record {
+      let gone : (t : ℕ) → put (running_in k.running.items) r.txn None t ≡ running_in n.running.items t =
+      λ t. sym (running_remove k.running.items place r alone.within alone.there fore fit.apart t) ∙ ap (λ (rs : List OpScope). running_in rs t) (sym items) in
+      let state : dropped s r.txn n.escrow.pending ≡ state_of z base = λ i. record {
         book = k.book.items;
         sessions = s.sessions;
         next = s.next;
@@ -71,12 +70,12 @@ module _ {D : Type 0} (seen : D → List ℕ) (may_leave : D → List ℕ → Ty
         base = base;
       } in
       let pages = l.pages in let keeps = l.keeps in let takes = l.takes in
-      let test : (r.scope.undoes == 0) ≡ true = eq-eqb r.scope.undoes 0 fore in
-      let kept_r : kept_bytes r ≡ undo_bytes r.scope.op = rw test refl in
+      let test : (r.undoes == 0) ≡ true = eq-eqb r.undoes 0 fore in
+      let kept_r : kept_bytes r ≡ undo_bytes r.op = rw test refl in
       let taken_r : taken_bytes r ≡ 0 = rw test refl in
       let claims = y.claims in let reserves = fit.reserves in let log = l.log in
       record {
-        op = r.scope.op;
+        op = r.op;
         runs = runs;
         given = given;
         leads = record {
@@ -84,7 +83,7 @@ module _ {D : Type 0} (seen : D → List ℕ) (may_leave : D → List ℕ → Ty
             fit = record {
               schema = fit.schema;
               right = h.right;
-              kept = subst (IsKept origin.first) state (kept_dropped origin.first s r.scope.txn r.scope.op n.escrow.pending fit.kept runs given);
+              kept = subst (IsKept origin.first) state (kept_dropped origin.first s r.txn r.op n.escrow.pending fit.kept runs given);
               owned = subst (All (IsOwned k.live.members k.live.standing)) (sym items) (all_remove (IsOwned k.live.members k.live.standing) k.running.items place alone.within (λ i d lt apart. fit.owned i d lt));
               apart = l.apart;
               numbered = l.numbered;
@@ -108,16 +107,16 @@ module _ {D : Type 0} (seen : D → List ℕ) (may_leave : D → List ℕ → Ty
 
   -- ---- a step of the taking back
 
-  still : (k : Core D) (r q : Running) → SameOp r.scope q.scope → (r.scope.undoes ≡ 0) × (state_in k.live.members r.scope.txn ≡ Some Aborting) → (q.scope.undoes ≡ 0) × (state_in k.live.members q.scope.txn ≡ Some Aborting)
+  still : (k : Core D) (r q : OpScope) → SameOp r q → (r.undoes ≡ 0) × (state_in k.live.members r.txn ≡ Some Aborting) → (q.undoes ≡ 0) × (state_in k.live.members q.txn ≡ Some Aborting)
   still k r q same aborting = (same.undoes ∙ aborting.0, ap (state_in k.live.members) same.txn ∙ aborting.1)
 
-  back_in : (k n : Core D) (place : ℕ) (r q : Running) (res : Result TakenBack Refusal) → IsConsistent seen may_leave origin base k → place < length k.running.items → r ≡ get_or k.running.items place r → n.running.items ≡ set k.running.items place q → q.op ≡ r.op
-      → HasGoneBack seen may_leave origin.pages origin.relations origin.counters k.operations n.operations r.scope q.scope res → IsMoving q.scope.stage → (q.scope.undoes ≡ 0) × (state_in k.live.members q.scope.txn ≡ Some Aborting) → IsIn seen may_leave origin base (state_of k base) (moved k n)
-  back_in k n place r q res safe within there items copy h moving aborting =
+  back_in : (k n : Core D) (place : ℕ) (r q : OpScope) (res : Result TakenBack Refusal) → IsConsistent seen may_leave origin base k → place < length k.running.items → r ≡ get_or k.running.items place r → n.running.items ≡ set k.running.items place q
+      → HasGoneBack seen may_leave origin.pages origin.relations origin.counters k.operations n.operations r q res → IsMoving q.stage → (q.undoes ≡ 0) × (state_in k.live.members q.txn ≡ Some Aborting) → IsIn seen may_leave origin base (state_of k base) (moved k n)
+  back_in k n place r q res safe within there items h moving aborting =
       let g = h.goes in
-      let taken_now : q.scope.stage ≡ Taking → (q.scope.undoes ≡ 0) × (state_in k.live.members q.scope.txn ≡ Some Aborting) = λ is. aborting in
-      let adds = adds_dropped r.scope (appended k.operations.store.log) (appended n.operations.store.log) res h.records in
-      let c = carried seen may_leave origin base k n place r q adds.more safe within there items copy g.same h.log h.area h.right adds.is taken_now (λ known. numbered_dropped k.last k.live.begun k.live.members r.scope k.operations.locks n.operations.locks (appended k.operations.store.log) (appended n.operations.store.log) res known h.locks h.records safe.fit.numbered)
+      let taken_now : q.stage ≡ Taking → (q.undoes ≡ 0) × (state_in k.live.members q.txn ≡ Some Aborting) = λ is. aborting in
+      let adds = adds_dropped r (appended k.operations.store.log) (appended n.operations.store.log) res h.records in
+      let c = carried seen may_leave origin base k n place r q adds.more safe within there items g.same h.log h.area h.right adds.is taken_now (λ known. numbered_dropped k.last k.live.begun k.live.members r k.operations.locks n.operations.locks (appended k.operations.store.log) (appended n.operations.store.log) res known h.locks h.records safe.fit.numbered)
       (subst (AreHeldBy k.running.items) (sym h.locks) safe.fit.locked) in
       let own : IsRunning origin.relations origin.counters (world seen origin.pages n.operations) k.last q = record { under = g.own; budget = h.budget; number = c.known; moving = moving } in
       let pages = c.pages in let claims_was = safe.claims in let claims = h.claims in
@@ -133,13 +132,13 @@ module _ {D : Type 0} (seen : D → List ℕ) (may_leave : D → List ℕ → Ty
         state = c.state;
       }
 
-  is_cleared : (k n : Core D) (place : ℕ) (r q : Running) → IsConsistent seen may_leave origin base k → place < length k.running.items → r ≡ get_or k.running.items place r → n.running.items ≡ set k.running.items place q → q.op ≡ r.op
-      → HasGoneBack seen may_leave origin.pages origin.relations origin.counters k.operations n.operations r.scope q.scope (Ok taken.Clear) → q.scope.stage ≡ Cleared → IsCleared seen may_leave origin base (moved k n) place q × (state_of k base ≡ state_of (moved k n) base)
-  is_cleared k n place r q safe within there items copy h cleared =
+  is_cleared : (k n : Core D) (place : ℕ) (r q : OpScope) → IsConsistent seen may_leave origin base k → place < length k.running.items → r ≡ get_or k.running.items place r → n.running.items ≡ set k.running.items place q
+      → HasGoneBack seen may_leave origin.pages origin.relations origin.counters k.operations n.operations r q (Ok taken.Clear) → q.stage ≡ Cleared → IsCleared seen may_leave origin base (moved k n) place q × (state_of k base ≡ state_of (moved k n) base)
+  is_cleared k n place r q safe within there items h cleared =
       let g = h.goes in
-      let taken_now : q.scope.stage ≡ Taking → (q.scope.undoes ≡ 0) × (state_in k.live.members q.scope.txn ≡ Some Aborting) = λ is. absurd cc in
-      let adds = adds_dropped r.scope (appended k.operations.store.log) (appended n.operations.store.log) (Ok taken.Clear) h.records in
-      let c = carried seen may_leave origin base k n place r q adds.more safe within there items copy g.same h.log h.area h.right adds.is taken_now (λ known. numbered_dropped k.last k.live.begun k.live.members r.scope k.operations.locks n.operations.locks (appended k.operations.store.log) (appended n.operations.store.log) (Ok taken.Clear) known h.locks h.records safe.fit.numbered)
+      let taken_now : q.stage ≡ Taking → (q.undoes ≡ 0) × (state_in k.live.members q.txn ≡ Some Aborting) = λ is. absurd cc in
+      let adds = adds_dropped r (appended k.operations.store.log) (appended n.operations.store.log) (Ok taken.Clear) h.records in
+      let c = carried seen may_leave origin base k n place r q adds.more safe within there items g.same h.log h.area h.right adds.is taken_now (λ known. numbered_dropped k.last k.live.begun k.live.members r k.operations.locks n.operations.locks (appended k.operations.store.log) (appended n.operations.store.log) (Ok taken.Clear) known h.locks h.records safe.fit.numbered)
       (subst (AreHeldBy k.running.items) (sym h.locks) safe.fit.locked) in
       let pages = c.pages in let claims_was = safe.claims in let claims = h.claims in (
         record {
@@ -152,29 +151,28 @@ module _ {D : Type 0} (seen : D → List ℕ) (may_leave : D → List ℕ → Ty
         c.state,
       )
 
-  pub gone_back : (k n : Core D) (place : ℕ) (r q : Running) (res : Result TakenBack Refusal) → place < length k.running.items → r ≡ get_or k.running.items place r → n.running.items ≡ set k.running.items place q → q.op ≡ r.op → IsConsistent seen may_leave origin base k → IsMoving r.scope.stage → (r.scope.undoes ≡ 0) × (state_in k.live.members r.scope.txn ≡ Some Aborting)
-      → HasGoneBack seen may_leave origin.pages origin.relations origin.counters k.operations n.operations r.scope q.scope res → (res ≡ Ok taken.More → q.scope.stage ≡ Taking) → (res ≡ Ok taken.Clear → q.scope.stage ≡ Cleared) → (res ≡ Ok taken.Flush → q.scope ≡ r.scope) → OnErr res (q.scope ≡ r.scope)
+  pub gone_back : (k n : Core D) (place : ℕ) (r q : OpScope) (res : Result TakenBack Refusal) → place < length k.running.items → r ≡ get_or k.running.items place r → n.running.items ≡ set k.running.items place q → IsConsistent seen may_leave origin base k → IsMoving r.stage → (r.undoes ≡ 0) × (state_in k.live.members r.txn ≡ Some Aborting)
+      → HasGoneBack seen may_leave origin.pages origin.relations origin.counters k.operations n.operations r q res → (res ≡ Ok taken.More → q.stage ≡ Taking) → (res ≡ Ok taken.Clear → q.stage ≡ Cleared) → (res ≡ Ok taken.Flush → q ≡ r) → OnErr res (q ≡ r)
       → GoesBack seen may_leave origin base (state_of k base) (moved k n) place res
-  gone_back k n place r q (Ok taken.More) within there items copy safe moving aborting h more clear flush err = back_in k n place r q (Ok taken.More) safe within there items copy h (inr (inr (more refl))) (still k r q h.goes.same aborting)
-  gone_back k n place r q (Ok taken.Flush) within there items copy safe moving aborting h more clear flush err = back_in k n place r q (Ok taken.Flush) safe within there items copy h (subst (λ (s : OpScope). IsMoving s.stage) (sym (flush refl)) moving) (still k r q h.goes.same aborting)
-  gone_back k n place r q (Err why) within there items copy safe moving aborting h more clear flush err = back_in k n place r q (Err why) safe within there items copy h (subst (λ (s : OpScope). IsMoving s.stage) (sym err) moving) (still k r q h.goes.same aborting)
-  gone_back k n place r q (Ok taken.Clear) within there items copy safe moving aborting h more clear flush err =
-      let cleared = is_cleared k n place r q safe within there items copy h (clear refl) in (
+  gone_back k n place r q (Ok taken.More) within there items safe moving aborting h more clear flush err = back_in k n place r q (Ok taken.More) safe within there items h (inr (inr (more refl))) (still k r q h.goes.same aborting)
+  gone_back k n place r q (Ok taken.Flush) within there items safe moving aborting h more clear flush err = back_in k n place r q (Ok taken.Flush) safe within there items h (subst (λ (s : OpScope). IsMoving s.stage) (sym (flush refl)) moving) (still k r q h.goes.same aborting)
+  gone_back k n place r q (Err why) within there items safe moving aborting h more clear flush err = back_in k n place r q (Err why) safe within there items h (subst (λ (s : OpScope). IsMoving s.stage) (sym err) moving) (still k r q h.goes.same aborting)
+  gone_back k n place r q (Ok taken.Clear) within there items safe moving aborting h more clear flush err =
+      let cleared = is_cleared k n place r q safe within there items h (clear refl) in (
         (λ x is.
-            let here : q ≡ x = sym (is ∙ ap (λ (rs : List Running). get_or rs place x) items ∙ get_or-set_same k.running.items place q x within) in
-            subst (λ (y : Running). IsCleared seen may_leave origin base (moved k n) place y) here cleared.0),
+            let here : q ≡ x = sym (is ∙ ap (λ (rs : List OpScope). get_or rs place x) items ∙ get_or-set_same k.running.items place q x within) in
+            subst (λ (y : OpScope). IsCleared seen may_leave origin base (moved k n) place y) here cleared.0),
         cleared.1,
       )
 
   -- what is given back of one that is dropped out was claimed for it
-  pub given_back : (k : Core D) (place : ℕ) (r : Running) → IsCleared seen may_leave origin base k place r → r.scope.undoes ≡ 0 → own_needs r.scope.op r.scope.split + undo_pages r.op ≡ pages_of r
+  pub given_back : (k : Core D) (place : ℕ) (r : OpScope) → IsCleared seen may_leave origin base k place r → r.undoes ≡ 0 → own_needs r.op r.split + undo_pages r.op ≡ pages_of r
   given_back k place r y fore =
-      let owned : IsOwned k.live.members k.live.standing r = subst (IsOwned k.live.members k.live.standing) (sym y.alone.there) (y.fit.owned place r y.alone.within) in
-      let test : (r.scope.undoes == 0) ≡ true = eq-eqb r.scope.undoes 0 fore in
-      let is : pages_of r ≡ own_needs r.scope.op r.scope.split + undo_pages r.scope.op = rw test refl in
-      (λ i. own_needs r.scope.op r.scope.split + undo_pages (owned.copy fore i)) ∙ sym is
+      let test : (r.undoes == 0) ≡ true = eq-eqb r.undoes 0 fore in
+      let is : pages_of r ≡ own_needs r.op r.split + undo_pages r.op = rw test refl in
+      sym is
 
-  pub claimed_enough : (k : Core D) (place : ℕ) (r : Running) → IsCleared seen may_leave origin base k place r → pages_of r ≤ claimed k.operations
+  pub claimed_enough : (k : Core D) (place : ℕ) (r : OpScope) → IsCleared seen may_leave origin base k place r → pages_of r ≤ claimed k.operations
   claimed_enough k place r y =
       let part = get_or-le-sum_by pages_of k.running.items place r y.alone.within in
       let mine : pages_of (get_or k.running.items place r) ≡ pages_of r = ap pages_of (sym y.alone.there) in

@@ -43,7 +43,6 @@ use Rattle.mt_steps.specs.Plans.{own_needs, undo_pages}
 use Rattle.mt_core.specs.Runs.{running_in, AreApart, AreHeldBy, IsRunning, IsOwned, is_open, undo_bytes, pages_of, entry_pages, entry_bytes, left_of, kept_bytes, taken_bytes}
 use Rattle.mt_core.specs.Consistent.{Origin, state_of, state_in, AreLeft, IsNumbered, IsDue, IsReported, AreReported, IsQueued, IsWithinSchema, IsFit, IsAlone, IsReady, IsIn, UndoesIn}
 use Rattle.mt_core.specs.declared.parts.Core.{Core}
-use Rattle.mt_core.specs.declared.parts.Running.{Running}
 use Rattle.mt_pool.proofs.Logged.{no_records}
 use Rattle.mt_core.proofs.Lists.{all_remove, pair_at}
 use Rattle.mt_core.proofs.Underway.{apart_flip, running_at, running_remove, running_back, running_without}
@@ -77,7 +76,7 @@ ended_given seen may_leave opening relations counters o m n s h right store lock
 
 module _ {D : Type 0} (seen : D → List ℕ) (may_leave : D → List ℕ → Type 0) (origin : Origin) (base : Base) where
   -- what is left of the operations under way, whatever the end does to the transaction
-  pub record Left (k n : Core D) (place : ℕ) (r : Running) : Type 0 where
+  pub record Left (k n : Core D) (place : ℕ) (r : OpScope) : Type 0 where
     pub runs : All (IsRunning origin.relations origin.counters (world seen origin.pages n.operations) k.last) n.running.items
     pub apart : AllPairs AreApart n.running.items
     pub numbered : IsNumbered k.last k.live.begun k.live.members n.operations.locks (appended n.operations.store.log)
@@ -88,10 +87,10 @@ module _ {D : Type 0} (seen : D → List ℕ) (may_leave : D → List ℕ → Ty
     pub log : used n.operations.store.log + sum_by left_of n.running.items + k.reserved < area_size n.operations.store.log
     pub queued : IsQueued k.live.members (appended n.operations.store.log) k.commits.items
 
-  pub other_at : (k : Core D) (place : ℕ) (r : Running) (stage : Stage) → IsFit seen may_leave origin base k → IsAlone seen origin k place r stage → (i : ℕ) (d : Running) → i < length k.running.items → i ≢ place → AreApart r (get_or k.running.items i d)
-  other_at k place r stage fit y i d lt apart = subst (λ (x : Running). AreApart x (get_or k.running.items i d)) (sym (get_or_read k.running.items place r y.within y.there d)) (pair_at AreApart k.running.items apart_flip fit.apart place i d y.within lt apart)
+  pub other_at : (k : Core D) (place : ℕ) (r : OpScope) (stage : Stage) → IsFit seen may_leave origin base k → IsAlone seen origin k place r stage → (i : ℕ) (d : OpScope) → i < length k.running.items → i ≢ place → AreApart r (get_or k.running.items i d)
+  other_at k place r stage fit y i d lt apart = subst (λ (x : OpScope). AreApart x (get_or k.running.items i d)) (sym (get_or_read k.running.items place r y.within y.there d)) (pair_at AreApart k.running.items apart_flip fit.apart place i d y.within lt apart)
 
-  pub left : (k n : Core D) (place : ℕ) (r : Running) (stage : Stage) → IsFit seen may_leave origin base k → IsAlone seen origin k place r stage → n.running.items ≡ remove k.running.items place → HasEnded seen may_leave origin.pages origin.relations origin.counters k.operations n.operations r.scope → Left k n place r
+  pub left : (k n : Core D) (place : ℕ) (r : OpScope) (stage : Stage) → IsFit seen may_leave origin base k → IsAlone seen origin k place r stage → n.running.items ≡ remove k.running.items place → HasEnded seen may_leave origin.pages origin.relations origin.counters k.operations n.operations r → Left k n place r
   left k n place r stage fit y items h =
       let r_there : get_or k.running.items place r ≡ r = sym y.there in
       let pages = sum_by-remove pages_of k.running.items place r y.within in
@@ -111,9 +110,9 @@ module _ {D : Type 0} (seen : D → List ℕ) (may_leave : D → List ℕ → Ty
         runs = subst (All (IsRunning origin.relations origin.counters (world seen origin.pages n.operations) k.last)) (sym items)
             (all_remove (IsRunning origin.relations origin.counters (world seen origin.pages n.operations) k.last) k.running.items place y.within (λ i d lt apart.
             let was = y.others i d lt apart in
-            record { under = h.others (get_or k.running.items i d).scope was.under ((other_at k place r stage fit y i d lt apart).number); budget = was.budget; number = was.number; moving = was.moving }));
+            record { under = h.others (get_or k.running.items i d) was.under ((other_at k place r stage fit y i d lt apart).number); budget = was.budget; number = was.number; moving = was.moving }));
         apart = subst (AllPairs AreApart) (sym items) (all_pairs_remove AreApart k.running.items place y.within fit.apart);
-        numbered = subst (λ (X : Type 0). X) (λ i. IsNumbered k.last k.live.begun k.live.members (sym h.locks i) (appended (sym h.store i).log)) (numbered_without k.last k.live.begun k.live.members r.scope.number k.operations.locks (appended k.operations.store.log) fit.numbered);
+        numbered = subst (λ (X : Type 0). X) (λ i. IsNumbered k.last k.live.begun k.live.members (sym h.locks i) (appended (sym h.store i).log)) (numbered_without k.last k.live.begun k.live.members r.number k.operations.locks (appended k.operations.store.log) fit.numbered);
         locked = subst (λ (X : Type 0). X) (λ i. AreHeldBy (sym items i) (sym h.locks i)) (held_without k.running.items place r k.operations.locks y.within y.there fit.locked);
         pages = omega arith;
         keeps = omega arith;
@@ -128,44 +127,42 @@ module _ {D : Type 0} (seen : D → List ℕ) (may_leave : D → List ℕ → Ty
 
   -- ---- a forward operation
 
-  noted_owned : (ms new : List Member) (standing : List Entry) (r q : Running) (c : Call) (e : Entry) → e.txn ≡ r.scope.txn → AreApart r q → IsChanged ms new r.scope.txn (λ m. with_call m r.scope.number c)
+  noted_owned : (ms new : List Member) (standing : List Entry) (r q : OpScope) (c : Call) (e : Entry) → e.txn ≡ r.txn → AreApart r q → IsChanged ms new r.txn (λ m. with_call m r.number c)
       → IsOwned ms standing q → IsOwned new (standing ++ e ∷ []) q
   noted_owned ms new standing r q c e own apart changed o =
-      let same : member_of new q.scope.txn ≡ member_of ms q.scope.txn = changed_other (λ m. with_call m r.scope.number c) ms new r.scope.txn changed q.scope.txn apart.txn in
+      let same : member_of new q.txn ≡ member_of ms q.txn = changed_other (λ m. with_call m r.number c) ms new r.txn changed q.txn apart.txn in
       record {
         at_work = ap is_open same ∙ o.at_work;
         room = λ fore. ap has_room same ∙ o.room fore;
-        copy = o.copy;
-        inverse = λ back. let t = o.inverse back in record { named = ap last_operation same ∙ t.named; entry = t.entry; last = last_push q.scope.txn standing e (λ is. apart.txn (is ∙ own)) ∙ t.last; inverse = t.inverse; copy = t.copy; unsplit = t.unsplit };
-        newest = λ fore. subst (IsAbove q.scope.number) (sym same) (o.newest fore);
+        inverse = λ back. let t = o.inverse back in record { named = ap last_operation same ∙ t.named; entry = t.entry; last = last_push q.txn standing e (λ is. apart.txn (is ∙ own)) ∙ t.last; inverse = t.inverse; unsplit = t.unsplit };
+        newest = λ fore. subst (IsAbove q.number) (sym same) (o.newest fore);
         taken = λ is. let t = o.taken is in (t.0, ap (option_map (λ (m : Member). m.state)) same ∙ t.1);
         aborts = λ back. ap (option_map (λ (m : Member). m.state)) same ∙ o.aborts back;
       }
 
-  pub noted_in : (k n : Core D) (place : ℕ) (r : Running) (reply : Reply) → IsReady seen may_leave origin base k place r reply → r.scope.undoes ≡ 0 → n.running.items ≡ remove k.running.items place
-      → HasEnded seen may_leave origin.pages origin.relations origin.counters k.operations n.operations r.scope
-      → claimed n.operations + undo_pages r.op ≡ claimed k.operations + entry_pages (record { txn = r.scope.txn; op = r.op; reply = reply }) → n.reserved + undo_bytes r.op ≡ k.reserved + entry_bytes (record { txn = r.scope.txn; op = r.op; reply = reply })
-      → n.live.standing ≡ k.live.standing ++ record { txn = r.scope.txn; op = r.op; reply = reply } ∷ []
-      → IsChanged k.live.members n.live.members r.scope.txn (λ m. with_call m r.scope.number (r.op, reply)) → n.live.begun ≡ k.live.begun → length n.live.members ≡ length k.live.members
-      → IsIn seen may_leave origin (base_after base r.scope.op) (ended (state_of k base) r.scope.txn r.scope.op) (record k { operations = n.operations; running = n.running; live = n.live; reserved = n.reserved })
+  pub noted_in : (k n : Core D) (place : ℕ) (r : OpScope) (reply : Reply) → IsReady seen may_leave origin base k place r reply → r.undoes ≡ 0 → n.running.items ≡ remove k.running.items place
+      → HasEnded seen may_leave origin.pages origin.relations origin.counters k.operations n.operations r
+      → claimed n.operations + undo_pages r.op ≡ claimed k.operations + entry_pages (record { txn = r.txn; op = r.op; reply = reply }) → n.reserved + undo_bytes r.op ≡ k.reserved + entry_bytes (record { txn = r.txn; op = r.op; reply = reply })
+      → n.live.standing ≡ k.live.standing ++ record { txn = r.txn; op = r.op; reply = reply } ∷ []
+      → IsChanged k.live.members n.live.members r.txn (λ m. with_call m r.number (r.op, reply)) → n.live.begun ≡ k.live.begun → length n.live.members ≡ length k.live.members
+      → IsIn seen may_leave origin (base_after base r.op) (ended (state_of k base) r.txn r.op) (record k { operations = n.operations; running = n.running; live = n.live; reserved = n.reserved })
   noted_in k n place r reply y fore items h claims_now reserves_now standing changed begun count =
       let fit = y.fit in let alone = y.alone in
       let z : Core D = record k { operations = n.operations; running = n.running; live = n.live; reserved = n.reserved } in
       let s : State = state_of k base in
-      let e : Entry = record { txn = r.scope.txn; op = r.op; reply = reply } in
+      let e : Entry = record { txn = r.txn; op = r.op; reply = reply } in
       let owned : IsOwned k.live.members k.live.standing r = subst (IsOwned k.live.members k.live.standing) (sym alone.there) (fit.owned place r alone.within) in
-      let copy : r.op ≡ r.scope.op = owned.copy fore in
-      let runs : s.running r.scope.txn ≡ Some r.scope.op = running_at k.running.items place r alone.within alone.there fore fit.apart in
+      let runs : s.running r.txn ≡ Some r.op = running_at k.running.items place r alone.within alone.there fore fit.apart in
       let l = left k n place r Ready fit alone items h in
       let sessions : (t : ℕ) → option_map (λ (m : Member). m.session) (member_of n.live.members t) ≡ option_map (λ (m : Member). m.session) (member_of k.live.members t) =
-      changed_keeps (option_map (λ (m : Member). m.session)) (λ m. with_call m r.scope.number (r.op, reply)) k.live.members n.live.members r.scope.txn (λ m. refl) changed in
-      let open_same : (t : ℕ) → is_open (member_of n.live.members t) ≡ is_open (member_of k.live.members t) = changed_keeps is_open (λ m. with_call m r.scope.number (r.op, reply)) k.live.members n.live.members r.scope.txn (λ m. refl) changed in
-      let states : (t : ℕ) → state_in n.live.members t ≡ state_in k.live.members t = changed_keeps (option_map (λ (m : Member). m.state)) (λ m. with_call m r.scope.number (r.op, reply)) k.live.members n.live.members r.scope.txn (λ m. refl) changed in
-      let stands : k.live.standing ++ record { txn = r.scope.txn; op = r.scope.op; reply = reply_of base r.scope.op } ∷ [] ≡ n.live.standing =
-      (λ i. k.live.standing ++ record { txn = r.scope.txn; op = sym copy i; reply = y.replies i } ∷ []) ∙ sym standing in
-      let gone : (t : ℕ) → put (running_in k.running.items) r.scope.txn None t ≡ running_in n.running.items t =
-      λ t. sym (running_remove k.running.items place r alone.within alone.there fore fit.apart t) ∙ ap (λ (rs : List Running). running_in rs t) (sym items) in
-      let state : ended s r.scope.txn r.scope.op ≡ state_of z (base_after base r.scope.op) = λ i. record {
+      changed_keeps (option_map (λ (m : Member). m.session)) (λ m. with_call m r.number (r.op, reply)) k.live.members n.live.members r.txn (λ m. refl) changed in
+      let open_same : (t : ℕ) → is_open (member_of n.live.members t) ≡ is_open (member_of k.live.members t) = changed_keeps is_open (λ m. with_call m r.number (r.op, reply)) k.live.members n.live.members r.txn (λ m. refl) changed in
+      let states : (t : ℕ) → state_in n.live.members t ≡ state_in k.live.members t = changed_keeps (option_map (λ (m : Member). m.state)) (λ m. with_call m r.number (r.op, reply)) k.live.members n.live.members r.txn (λ m. refl) changed in
+      let stands : k.live.standing ++ record { txn = r.txn; op = r.op; reply = reply_of base r.op } ∷ [] ≡ n.live.standing =
+      (λ i. k.live.standing ++ record { txn = r.txn; op = r.op; reply = y.replies i } ∷ []) ∙ sym standing in
+      let gone : (t : ℕ) → put (running_in k.running.items) r.txn None t ≡ running_in n.running.items t =
+      λ t. sym (running_remove k.running.items place r alone.within alone.there fore fit.apart t) ∙ ap (λ (rs : List OpScope). running_in rs t) (sym items) in
+      let state : ended s r.txn r.op ≡ state_of z (base_after base r.op) = λ i. record {
         book = k.book.items;
         sessions = λ t. sym (sessions t) i;
         next = sym begun i + 1;
@@ -173,12 +170,12 @@ module _ {D : Type 0} (seen : D → List ℕ) (may_leave : D → List ℕ → Ty
         running = λ t. gone t i;
         held = held_of k.locks;
         pending = k.escrow.pending;
-        base = base_after base r.scope.op;
+        base = base_after base r.op;
       } in
       let pages = l.pages in let keeps = l.keeps in let takes = l.takes in
-      let test : (r.scope.undoes == 0) ≡ true = eq-eqb r.scope.undoes 0 fore in
-      let pages_r : pages_of r ≡ own_needs r.scope.op r.scope.split + undo_pages r.scope.op = rw test refl in
-      let kept_r : kept_bytes r ≡ undo_bytes r.scope.op = rw test refl in
+      let test : (r.undoes == 0) ≡ true = eq-eqb r.undoes 0 fore in
+      let pages_r : pages_of r ≡ own_needs r.op r.split + undo_pages r.op = rw test refl in
+      let kept_r : kept_bytes r ≡ undo_bytes r.op = rw test refl in
       let taken_r : taken_bytes r ≡ 0 = rw test refl in
       let more_pages = weighs_push undo_pages k.live.standing e in
       let more_bytes = weighs_push undo_bytes k.live.standing e in
@@ -186,23 +183,21 @@ module _ {D : Type 0} (seen : D → List ℕ) (may_leave : D → List ℕ → Ty
       let copied : undo_bytes e.op ≡ undo_bytes r.op = refl in
       let sum_pages : sum_by entry_pages n.live.standing ≡ sum_by entry_pages (k.live.standing ++ e ∷ []) = ap (sum_by entry_pages) standing in
       let sum_bytes : sum_by entry_bytes n.live.standing ≡ sum_by entry_bytes (k.live.standing ++ e ∷ []) = ap (sum_by entry_bytes) standing in
-      let undo_p : undo_pages r.op ≡ undo_pages r.scope.op = ap undo_pages copy in
-      let undo_b : undo_bytes r.op ≡ undo_bytes r.scope.op = ap undo_bytes copy in
       let claims = y.claims in let reserves = fit.reserves in let log = l.log in
       record {
         consistent = record {
           fit = record {
             schema = fit.schema;
             right = h.right;
-            kept = subst (IsKept origin.first) state (kept_ended origin.first s r.scope.txn r.scope.op fit.kept runs);
+            kept = subst (IsKept origin.first) state (kept_ended origin.first s r.txn r.op fit.kept runs);
             owned = subst (λ (X : Type 0). X) (λ i. All (IsOwned n.live.members (sym standing i)) (sym items i))
                 (all_remove (IsOwned n.live.members (k.live.standing ++ e ∷ [])) k.running.items place alone.within (λ i d lt apart.
                 noted_owned k.live.members n.live.members k.live.standing r (get_or k.running.items i d) (r.op, reply) e refl (other_at k place r Ready fit alone i d lt apart) changed (fit.owned i d lt)));
             apart = l.apart;
             numbered = subst (λ (m : ℕ). IsNumbered k.last m n.live.members n.operations.locks (appended n.operations.store.log)) (sym begun)
-                (numbered_members k.last k.live.begun k.live.members n.live.members n.operations.locks (appended n.operations.store.log) open_same (changed_keeps is_some (λ m. with_call m r.scope.number (r.op, reply)) k.live.members n.live.members r.scope.txn (λ m. refl) changed 0) l.numbered);
+                (numbered_members k.last k.live.begun k.live.members n.live.members n.operations.locks (appended n.operations.store.log) open_same (changed_keeps is_some (λ m. with_call m r.number (r.op, reply)) k.live.members n.live.members r.txn (λ m. refl) changed 0) l.numbered);
             locked = l.locked;
-            small = subst (All (IsWithinSchema origin)) (sym standing) (All-push (IsWithinSchema origin) k.live.standing e fit.small (record { op = subst (IsWithin origin.relations origin.counters) (sym copy) alone.own.within; reply = y.small }));
+            small = subst (All (IsWithinSchema origin)) (sym standing) (All-push (IsWithinSchema origin) k.live.standing e fit.small (record { op = alone.own.within; reply = y.small }));
             log = omega arith;
             reserves = omega arith;
             numbers = let left_now = fit.numbers in omega (arith, left_now, begun, reserves_now, less_bytes, copied);
@@ -210,7 +205,7 @@ module _ {D : Type 0} (seen : D → List ℕ) (may_leave : D → List ℕ → Ty
             booked = fit.booked;
             escrowed = fit.escrowed;
           };
-          holds = subst (λ (p : PageBytes). Holds p (base_after base r.scope.op)) (sym h.held) y.holds;
+          holds = subst (λ (p : PageBytes). Holds p (base_after base r.op)) (sym h.held) y.holds;
           runs = l.runs;
           outcome = reported_of owned;
           claims = omega arith;
@@ -221,16 +216,16 @@ module _ {D : Type 0} (seen : D → List ℕ) (may_leave : D → List ℕ → Ty
       reported_of : IsOwned k.live.members k.live.standing r → AreReported k.last n.live.members (appended n.operations.store.log)
       reported_of owned =
           let t = y.outcome in
-          let records : t.was ++ end_of r.scope reply ≡ appended n.operations.store.log = sym t.ended ∙ (λ i. appended (sym h.store i).log) in
-          let none : (u v : ℕ) → some_record (undoes_op u v) (end_of r.scope reply) ≡ false = λ u v. end_undoes_fore u v r.scope.txn r.scope.number r.scope.undoes (logged_of r.scope.op reply) fore in
-          let due : has_inverse (r.op, reply) ≡ true → IsDue (t.was ++ end_of r.scope reply) r.scope.txn r.scope.number = λ has. record {
-            ended = some_back _ t.was (end_of r.scope reply) (end_finishes r.scope.txn r.scope.number r.scope.undoes r.scope.op reply fore (ap (λ (o : Op). is_some (inverse_of o reply)) (sym (owned.copy fore)) ∙ has));
-            standing = no_records (undoes_op r.scope.txn r.scope.number) t.was (end_of r.scope reply) (t.standing fore) (none r.scope.txn r.scope.number);
+          let records : t.was ++ end_of r reply ≡ appended n.operations.store.log = sym t.ended ∙ (λ i. appended (sym h.store i).log) in
+          let none : (u v : ℕ) → some_record (undoes_op u v) (end_of r reply) ≡ false = λ u v. end_undoes_fore u v r.txn r.number r.undoes (logged_of r.op reply) fore in
+          let due : has_inverse (r.op, reply) ≡ true → IsDue (t.was ++ end_of r reply) r.txn r.number = λ has. record {
+            ended = some_back _ t.was (end_of r reply) (end_finishes r.txn r.number r.undoes r.op reply fore has);
+            standing = no_records (undoes_op r.txn r.number) t.was (end_of r reply) (t.standing fore) (none r.txn r.number);
           } in
           subst (AreReported k.last n.live.members) records
-          (reported_changed k.last t.was (t.was ++ end_of r.scope reply) k.live.members n.live.members r.scope.txn (λ m. with_call m r.scope.number (r.op, reply))
-          (λ m is was. reported_call k.last (t.was ++ end_of r.scope reply) r.scope.txn r.scope.number m (r.op, reply) (reported_on_more k.last t.was (end_of r.scope reply) r.scope.txn m (none r.scope.txn) was) (subst (IsAbove r.scope.number) is (owned.newest fore)) y.alone.own.op.0 y.alone.known due)
-          (λ u m apart was. reported_on_more k.last t.was (end_of r.scope reply) u m (none u) was) changed t.outcome)
+          (reported_changed k.last t.was (t.was ++ end_of r reply) k.live.members n.live.members r.txn (λ m. with_call m r.number (r.op, reply))
+          (λ m is was. reported_call k.last (t.was ++ end_of r reply) r.txn r.number m (r.op, reply) (reported_on_more k.last t.was (end_of r reply) r.txn m (none r.txn) was) (subst (IsAbove r.number) is (owned.newest fore)) y.alone.own.op.0 y.alone.known due)
+          (λ u m apart was. reported_on_more k.last t.was (end_of r reply) u m (none u) was) changed t.outcome)
 
   -- ---- an inverse
 
@@ -238,15 +233,14 @@ module _ {D : Type 0} (seen : D → List ℕ) (may_leave : D → List ℕ → Ty
   cut_keeps h same m None = refl
   cut_keeps h same m (Some n) = same m n
 
-  undone_owned : (ms new : List Member) (standing : List Entry) (r q : Running) → AreApart r q → IsChanged ms new r.scope.txn taken_back → IsOwned ms standing q → IsOwned new (cut_back r.scope.txn standing) q
+  undone_owned : (ms new : List Member) (standing : List Entry) (r q : OpScope) → AreApart r q → IsChanged ms new r.txn taken_back → IsOwned ms standing q → IsOwned new (cut_back r.txn standing) q
   undone_owned ms new standing r q apart changed o =
-      let same : member_of new q.scope.txn ≡ member_of ms q.scope.txn = changed_other taken_back ms new r.scope.txn changed q.scope.txn apart.txn in
+      let same : member_of new q.txn ≡ member_of ms q.txn = changed_other taken_back ms new r.txn changed q.txn apart.txn in
       record {
         at_work = ap is_open same ∙ o.at_work;
         room = λ fore. ap has_room same ∙ o.room fore;
-        copy = o.copy;
-        inverse = λ back. let t = o.inverse back in record { named = ap last_operation same ∙ t.named; entry = t.entry; last = last_cut q.scope.txn r.scope.txn standing apart.txn ∙ t.last; inverse = t.inverse; copy = t.copy; unsplit = t.unsplit };
-        newest = λ fore. subst (IsAbove q.scope.number) (sym same) (o.newest fore);
+        inverse = λ back. let t = o.inverse back in record { named = ap last_operation same ∙ t.named; entry = t.entry; last = last_cut q.txn r.txn standing apart.txn ∙ t.last; inverse = t.inverse; unsplit = t.unsplit };
+        newest = λ fore. subst (IsAbove q.number) (sym same) (o.newest fore);
         taken = λ is. let t = o.taken is in (t.0, ap (option_map (λ (m : Member). m.state)) same ∙ t.1);
         aborts = λ back. ap (option_map (λ (m : Member). m.state)) same ∙ o.aborts back;
       }
@@ -262,26 +256,26 @@ module _ {D : Type 0} (seen : D → List ℕ) (may_leave : D → List ℕ → Ty
           let within : n < length m.calls = subst (λ o. IfSome o (λ i. i < length m.calls)) at (last_within m.calls) in
           reported_cut last was (was ++ more) t n m outcome within (λ i below due. due_more t (get_or m.operations i 0) was more (none (get_or m.operations i 0) (λ is. absurd (omega (arith, is, this, below)))) due)
 
-  pub undone_in : (k n : Core D) (place : ℕ) (r : Running) (reply : Reply) → IsReady seen may_leave origin base k place r reply → r.scope.undoes ≢ 0 → n.running.items ≡ remove k.running.items place
-      → HasEnded seen may_leave origin.pages origin.relations origin.counters k.operations n.operations r.scope → claimed n.operations ≡ claimed k.operations
-      → n.live.standing ≡ cut_back r.scope.txn k.live.standing → IsChanged k.live.members n.live.members r.scope.txn taken_back → n.live.begun ≡ k.live.begun → length n.live.members ≡ length k.live.members
-      → GivesBack r.scope.txn r.op k.escrow.pending n.escrow.pending → n.escrow.committed ≡ k.escrow.committed
-      → UndoesIn seen may_leave origin base (state_of k base) (record k { operations = n.operations; running = n.running; live = n.live; escrow = n.escrow }) r.scope.txn r.scope.op
+  pub undone_in : (k n : Core D) (place : ℕ) (r : OpScope) (reply : Reply) → IsReady seen may_leave origin base k place r reply → r.undoes ≢ 0 → n.running.items ≡ remove k.running.items place
+      → HasEnded seen may_leave origin.pages origin.relations origin.counters k.operations n.operations r → claimed n.operations ≡ claimed k.operations
+      → n.live.standing ≡ cut_back r.txn k.live.standing → IsChanged k.live.members n.live.members r.txn taken_back → n.live.begun ≡ k.live.begun → length n.live.members ≡ length k.live.members
+      → ((o : Op) (u : Reply) → inverse_of o u ≡ Some r.op → GivesBack r.txn o k.escrow.pending n.escrow.pending) → n.escrow.committed ≡ k.escrow.committed
+      → UndoesIn seen may_leave origin base (state_of k base) (record k { operations = n.operations; running = n.running; live = n.live; escrow = n.escrow }) r.txn r.op
   undone_in k n place r reply y back items h claims_now standing changed begun count given committed =
       let fit = y.fit in let alone = y.alone in
       let z : Core D = record k { operations = n.operations; running = n.running; live = n.live; escrow = n.escrow } in
       let s : State = state_of k base in
       let owned : IsOwned k.live.members k.live.standing r = subst (IsOwned k.live.members k.live.standing) (sym alone.there) (fit.owned place r alone.within) in
       let t = owned.inverse back in
-      let idle : s.running r.scope.txn ≡ None = running_back k.running.items place r alone.within alone.there back fit.apart in
+      let idle : s.running r.txn ≡ None = running_back k.running.items place r alone.within alone.there back fit.apart in
       let l = left k n place r Ready fit alone items h in
       let sessions : (u : ℕ) → option_map (λ (m : Member). m.session) (member_of n.live.members u) ≡ option_map (λ (m : Member). m.session) (member_of k.live.members u) =
-      changed_keeps (option_map (λ (m : Member). m.session)) taken_back k.live.members n.live.members r.scope.txn (λ m. cut_keeps (option_map (λ (x : Member). x.session)) (λ x v. refl) m (last_place m.calls)) changed in
-      let open_same : (u : ℕ) → is_open (member_of n.live.members u) ≡ is_open (member_of k.live.members u) = changed_keeps is_open taken_back k.live.members n.live.members r.scope.txn (λ m. cut_keeps is_open (λ x v. refl) m (last_place m.calls)) changed in
-      let states : (u : ℕ) → state_in n.live.members u ≡ state_in k.live.members u = changed_keeps (option_map (λ (m : Member). m.state)) taken_back k.live.members n.live.members r.scope.txn (λ m. cut_keeps (option_map (λ (x : Member). x.state)) (λ x v. refl) m (last_place m.calls)) changed in
+      changed_keeps (option_map (λ (m : Member). m.session)) taken_back k.live.members n.live.members r.txn (λ m. cut_keeps (option_map (λ (x : Member). x.session)) (λ x v. refl) m (last_place m.calls)) changed in
+      let open_same : (u : ℕ) → is_open (member_of n.live.members u) ≡ is_open (member_of k.live.members u) = changed_keeps is_open taken_back k.live.members n.live.members r.txn (λ m. cut_keeps is_open (λ x v. refl) m (last_place m.calls)) changed in
+      let states : (u : ℕ) → state_in n.live.members u ≡ state_in k.live.members u = changed_keeps (option_map (λ (m : Member). m.state)) taken_back k.live.members n.live.members r.txn (λ m. cut_keeps (option_map (λ (x : Member). x.state)) (λ x v. refl) m (last_place m.calls)) changed in
       let gone : (u : ℕ) → running_in k.running.items u ≡ running_in n.running.items u =
-      λ u. sym (running_without k.running.items place r alone.within alone.there back u) ∙ ap (λ (rs : List Running). running_in rs u) (sym items) in
-      let state : undone s r.scope.txn r.scope.op n.escrow.pending ≡ state_of z (base_after base r.scope.op) = λ i. record {
+      λ u. sym (running_without k.running.items place r alone.within alone.there back u) ∙ ap (λ (rs : List OpScope). running_in rs u) (sym items) in
+      let state : undone s r.txn r.op n.escrow.pending ≡ state_of z (base_after base r.op) = λ i. record {
         book = k.book.items;
         sessions = λ u. sym (sessions u) i;
         next = sym begun i + 1;
@@ -289,24 +283,24 @@ module _ {D : Type 0} (seen : D → List ℕ) (may_leave : D → List ℕ → Ty
         running = λ u. gone u i;
         held = held_of k.locks;
         pending = n.escrow.pending;
-        base = base_after base r.scope.op;
+        base = base_after base r.op;
       } in
-      let given_entry : GivesBack r.scope.txn t.entry.op k.escrow.pending n.escrow.pending = subst (λ (o : Op). GivesBack r.scope.txn o k.escrow.pending n.escrow.pending) t.copy given in
+      let given_entry : GivesBack r.txn t.entry.op k.escrow.pending n.escrow.pending = given t.entry.op t.entry.reply t.inverse in
       let pages = l.pages in let keeps = l.keeps in let takes = l.takes in
-      let test : (r.scope.undoes == 0) ≡ false = ne_eqb r.scope.undoes 0 back in
+      let test : (r.undoes == 0) ≡ false = ne_eqb r.undoes 0 back in
       let pages_r : pages_of r ≡ 0 = rw test refl in
       let kept_r : kept_bytes r ≡ 0 = rw test refl in
       let taken_r : taken_bytes r ≡ 106496 = rw test refl in
-      let cut_pages = weighs_cut undo_pages r.scope.txn k.live.standing t.entry t.last in
-      let cut_bytes = weighs_cut undo_bytes r.scope.txn k.live.standing t.entry t.last in
+      let cut_pages = weighs_cut undo_pages r.txn k.live.standing t.entry t.last in
+      let cut_bytes = weighs_cut undo_bytes r.txn k.live.standing t.entry t.last in
       let some : is_some (inverse_of t.entry.op t.entry.reply) ≡ true = rw t.inverse refl in
       let entry_p : entry_pages t.entry ≡ undo_pages t.entry.op = rw some refl in
       let entry_b : entry_bytes t.entry ≡ undo_bytes t.entry.op = rw some refl in
-      let whole = inverse_bytes t.entry.op t.entry.reply r.scope.op t.inverse in
-      let same_pages = inverse_pages t.entry.op t.entry.reply r.scope.op t.inverse in
-      let unsplit : own_needs r.scope.op r.scope.split ≡ own_needs r.scope.op false = ap (own_needs r.scope.op) t.unsplit in
-      let sum_pages : sum_by entry_pages n.live.standing ≡ sum_by entry_pages (cut_back r.scope.txn k.live.standing) = ap (sum_by entry_pages) standing in
-      let sum_bytes : sum_by entry_bytes n.live.standing ≡ sum_by entry_bytes (cut_back r.scope.txn k.live.standing) = ap (sum_by entry_bytes) standing in
+      let whole = inverse_bytes t.entry.op t.entry.reply r.op t.inverse in
+      let same_pages = inverse_pages t.entry.op t.entry.reply r.op t.inverse in
+      let unsplit : own_needs r.op r.split ≡ own_needs r.op false = ap (own_needs r.op) t.unsplit in
+      let sum_pages : sum_by entry_pages n.live.standing ≡ sum_by entry_pages (cut_back r.txn k.live.standing) = ap (sum_by entry_pages) standing in
+      let sum_bytes : sum_by entry_bytes n.live.standing ≡ sum_by entry_bytes (cut_back r.txn k.live.standing) = ap (sum_by entry_bytes) standing in
       let claims = y.claims in let reserves = fit.reserves in let log = l.log in
       record {
         last = t.entry;
@@ -319,15 +313,15 @@ module _ {D : Type 0} (seen : D → List ℕ) (may_leave : D → List ℕ → Ty
             fit = record {
               schema = fit.schema;
               right = h.right;
-              kept = subst (IsKept origin.first) state (kept_undone origin.first s r.scope.txn t.entry r.scope.op n.escrow.pending fit.kept idle t.last t.inverse given_entry);
+              kept = subst (IsKept origin.first) state (kept_undone origin.first s r.txn t.entry r.op n.escrow.pending fit.kept idle t.last t.inverse given_entry);
               owned = subst (λ (X : Type 0). X) (λ i. All (IsOwned n.live.members (sym standing i)) (sym items i))
-                  (all_remove (IsOwned n.live.members (cut_back r.scope.txn k.live.standing)) k.running.items place alone.within (λ i d lt apart.
+                  (all_remove (IsOwned n.live.members (cut_back r.txn k.live.standing)) k.running.items place alone.within (λ i d lt apart.
                   undone_owned k.live.members n.live.members k.live.standing r (get_or k.running.items i d) (other_at k place r Ready fit alone i d lt apart) changed (fit.owned i d lt)));
               apart = l.apart;
               numbered = subst (λ (m : ℕ). IsNumbered k.last m n.live.members n.operations.locks (appended n.operations.store.log)) (sym begun)
-                  (numbered_members k.last k.live.begun k.live.members n.live.members n.operations.locks (appended n.operations.store.log) open_same (changed_keeps is_some taken_back k.live.members n.live.members r.scope.txn (λ m. cut_keeps is_some (λ x v. refl) m (last_place m.calls)) changed 0) l.numbered);
+                  (numbered_members k.last k.live.begun k.live.members n.live.members n.operations.locks (appended n.operations.store.log) open_same (changed_keeps is_some taken_back k.live.members n.live.members r.txn (λ m. cut_keeps is_some (λ x v. refl) m (last_place m.calls)) changed 0) l.numbered);
               locked = l.locked;
-              small = subst (All (IsWithinSchema origin)) (sym standing) (all_cut (IsWithinSchema origin) r.scope.txn k.live.standing fit.small);
+              small = subst (All (IsWithinSchema origin)) (sym standing) (all_cut (IsWithinSchema origin) r.txn k.live.standing fit.small);
               log = log;
               reserves = omega arith;
               numbers = subst (λ (v : ℕ). AreLeft k.last v k.reserved) (sym begun) fit.numbers;
@@ -335,7 +329,7 @@ module _ {D : Type 0} (seen : D → List ℕ) (may_leave : D → List ℕ → Ty
               booked = fit.booked;
               escrowed = record { all = ap length committed ∙ fit.escrowed.all; counts = λ c lt. ap (λ (cs : List Count). count_at cs c) committed ∙ fit.escrowed.counts c lt };
             };
-            holds = subst (λ (p : PageBytes). Holds p (base_after base r.scope.op)) (sym h.held) y.holds;
+            holds = subst (λ (p : PageBytes). Holds p (base_after base r.op)) (sym h.held) y.holds;
             runs = l.runs;
             outcome = reported_of t.named;
             claims = omega arith;
@@ -344,14 +338,14 @@ module _ {D : Type 0} (seen : D → List ℕ) (may_leave : D → List ℕ → Ty
         };
       }
     where
-      reported_of : last_operation (member_of k.live.members r.scope.txn) ≡ Some r.scope.undoes → AreReported k.last n.live.members (appended n.operations.store.log)
+      reported_of : last_operation (member_of k.live.members r.txn) ≡ Some r.undoes → AreReported k.last n.live.members (appended n.operations.store.log)
       reported_of named =
           let t = y.outcome in
-          let records : t.was ++ end_of r.scope reply ≡ appended n.operations.store.log = sym t.ended ∙ (λ i. appended (sym h.store i).log) in
+          let records : t.was ++ end_of r reply ≡ appended n.operations.store.log = sym t.ended ∙ (λ i. appended (sym h.store i).log) in
           subst (AreReported k.last n.live.members) records
-          (reported_changed k.last t.was (t.was ++ end_of r.scope reply) k.live.members n.live.members r.scope.txn taken_back
-          (λ m is was. undone_reported k.last t.was (end_of r.scope reply) r.scope.txn r.scope.undoes m (ap last_operation (sym is) ∙ named) (λ v apart. end_undoes_other r.scope.txn v r.scope.txn r.scope.number r.scope.undoes (logged_of r.scope.op reply) apart) was)
-          (λ u m apart was. reported_on_more k.last t.was (end_of r.scope reply) u m (λ v. end_undoes_txn u v r.scope.txn r.scope.number r.scope.undoes (logged_of r.scope.op reply) (λ is. apart (sym is))) was) changed t.outcome)
+          (reported_changed k.last t.was (t.was ++ end_of r reply) k.live.members n.live.members r.txn taken_back
+          (λ m is was. undone_reported k.last t.was (end_of r reply) r.txn r.undoes m (ap last_operation (sym is) ∙ named) (λ v apart. end_undoes_other r.txn v r.txn r.number r.undoes (logged_of r.op reply) apart) was)
+          (λ u m apart was. reported_on_more k.last t.was (end_of r reply) u m (λ v. end_undoes_txn u v r.txn r.number r.undoes (logged_of r.op reply) (λ is. apart (sym is))) was) changed t.outcome)
 
 -- one whose calls are cut is in its state
 pub taken_state : (m : Member) → (taken_back m).state ≡ m.state

@@ -22,7 +22,7 @@ use Rattle.mt_steps.specs.Plans.{own_needs, undo_pages}
 use Rattle.mt_core.specs.Runs.{is_at_work, is_open, undo_bytes, pages_of, entry_pages, entry_bytes, kept_bytes, taken_bytes}
 use Rattle.mt_core.specs.Consistent.{Origin, state_in, IsFit, IsConsistent}
 use Rattle.mt_core.specs.declared.parts.Core.{Core}
-use Rattle.mt_core.specs.declared.parts.Running.{Running}
+use Rattle.mt_op.specs.declared.scope.OpScope.{OpScope}
 use Rattle.mt_core.proofs.Effects.{weighs_apart, last_kept}
 use Rattle.mt_core.proofs.Reserves.{HasEntry, has_entry, own_last, taken_within, members_many, members_more}
 
@@ -58,38 +58,38 @@ module _ {D : Type 0} (seen : D → List ℕ) (may_leave : D → List ℕ → Ty
   commits_fewer k t fit at_work = members_more t k.commits.items k.live.members (open_member (member_of k.live.members t) at_work) (λ i d lt. open_apart k.live.members t (get_or k.commits.items i d).txn at_work (fit.queued.each i d lt)) fit.queued.apart
       (λ i d lt. stated_some (member_of k.live.members (get_or k.commits.items i d).txn) (fit.queued.each i d lt))
 
-  entries_have : (k : Core D) → IsFit seen may_leave origin base k → All (λ (r : Running). r.scope.undoes ≢ 0 → HasEntry k.live.standing r) k.running.items
+  entries_have : (k : Core D) → IsFit seen may_leave origin base k → All (λ (r : OpScope). r.undoes ≢ 0 → HasEntry k.live.standing r) k.running.items
   entries_have k fit i d lt = λ back. has_entry k.live.members k.live.standing (get_or k.running.items i d) (fit.owned i d lt) back
 
   -- those of the others alone, where a transaction runs nothing
-  others_have : (k : Core D) (t : ℕ) → IsFit seen may_leave origin base k → All (λ (r : Running). r.scope.txn ≢ t) k.running.items → sum_by taken_bytes k.running.items ≤ sum_by entry_bytes (kept (others t) k.live.standing)
+  others_have : (k : Core D) (t : ℕ) → IsFit seen may_leave origin base k → All (λ (r : OpScope). r.txn ≢ t) k.running.items → sum_by taken_bytes k.running.items ≤ sum_by entry_bytes (kept (others t) k.live.standing)
   others_have k t fit idle = taken_within k.running.items (kept (others t) k.live.standing) fit.apart (λ i d lt back.
       let e = entries_have k fit i d lt back in
-      record { entry = e.entry; last = last_kept (get_or k.running.items i d).scope.txn t k.live.standing (idle i d lt) ∙ e.last; weighs = e.weighs })
+      record { entry = e.entry; last = last_kept (get_or k.running.items i d).txn t k.live.standing (idle i d lt) ∙ e.last; weighs = e.weighs })
 
   -- for the inverse of an operation that runs
-  pub kept_enough : (k : Core D) (place : ℕ) (r : Running) → IsFit seen may_leave origin base k → place < length k.running.items → r ≡ get_or k.running.items place r → r.scope.undoes ≡ 0 → undo_bytes r.scope.op ≤ k.reserved
+  pub kept_enough : (k : Core D) (place : ℕ) (r : OpScope) → IsFit seen may_leave origin base k → place < length k.running.items → r ≡ get_or k.running.items place r → r.undoes ≡ 0 → undo_bytes r.op ≤ k.reserved
   kept_enough k place r fit within there fore =
       let part = get_or-le-sum_by kept_bytes k.running.items place r within in
       let mine : kept_bytes (get_or k.running.items place r) ≡ kept_bytes r = ap kept_bytes (sym there) in
-      let test : (r.scope.undoes == 0) ≡ true = eq-eqb r.scope.undoes 0 fore in
-      let own : kept_bytes r ≡ undo_bytes r.scope.op = rw test refl in
+      let test : (r.undoes == 0) ≡ true = eq-eqb r.undoes 0 fore in
+      let own : kept_bytes r ≡ undo_bytes r.op = rw test refl in
       let taken = taken_within k.running.items k.live.standing fit.apart (entries_have k fit) in
       let few = commits_few k fit in
       let reserves = fit.reserves in omega arith
 
   -- its claims, where the operation has given its own back
-  pub undo_claimed : (k : Core D) (place : ℕ) (r : Running) → place < length k.running.items → r ≡ get_or k.running.items place r → r.scope.undoes ≡ 0
-      → claimed k.operations + own_needs r.scope.op r.scope.split ≡ sum_by pages_of k.running.items + sum_by entry_pages k.live.standing → undo_pages r.scope.op ≤ claimed k.operations
+  pub undo_claimed : (k : Core D) (place : ℕ) (r : OpScope) → place < length k.running.items → r ≡ get_or k.running.items place r → r.undoes ≡ 0
+      → claimed k.operations + own_needs r.op r.split ≡ sum_by pages_of k.running.items + sum_by entry_pages k.live.standing → undo_pages r.op ≤ claimed k.operations
   undo_claimed k place r within there fore claims =
       let part = get_or-le-sum_by pages_of k.running.items place r within in
       let mine : pages_of (get_or k.running.items place r) ≡ pages_of r = ap pages_of (sym there) in
-      let test : (r.scope.undoes == 0) ≡ true = eq-eqb r.scope.undoes 0 fore in
-      let own : pages_of r ≡ own_needs r.scope.op r.scope.split + undo_pages r.scope.op = rw test refl in
+      let test : (r.undoes == 0) ≡ true = eq-eqb r.undoes 0 fore in
+      let own : pages_of r ≡ own_needs r.op r.split + undo_pages r.op = rw test refl in
       omega arith
 
   -- for the next inverse of a transaction that runs nothing
-  pub undo_enough : (k : Core D) (t : ℕ) (e : Entry) → IsFit seen may_leave origin base k → All (λ (r : Running). r.scope.txn ≢ t) k.running.items → last_effect t k.live.standing ≡ Some e → is_some (inverse_of e.op e.reply) ≡ true → entry_bytes e ≡ 106496 → 106496 ≤ k.reserved
+  pub undo_enough : (k : Core D) (t : ℕ) (e : Entry) → IsFit seen may_leave origin base k → All (λ (r : OpScope). r.txn ≢ t) k.running.items → last_effect t k.live.standing ≡ Some e → is_some (inverse_of e.op e.reply) ≡ true → entry_bytes e ≡ 106496 → 106496 ≤ k.reserved
   undo_enough k t e fit idle last some weighs =
       let others_taken = others_have k t fit idle in
       let own = own_last t k.live.standing e last in
@@ -105,7 +105,7 @@ module _ {D : Type 0} (seen : D → List ℕ) (may_leave : D → List ℕ → Ty
       let reserves = fit.reserves in omega arith
 
   -- for one whose commit is durable, with what was kept for its inverses
-  pub leave_enough : (k : Core D) (t : ℕ) → IsFit seen may_leave origin base k → All (λ (r : Running). r.scope.txn ≢ t) k.running.items → 0 < length k.commits.items → 114 + sum_by entry_bytes (kept (only t) k.live.standing) ≤ k.reserved
+  pub leave_enough : (k : Core D) (t : ℕ) → IsFit seen may_leave origin base k → All (λ (r : OpScope). r.txn ≢ t) k.running.items → 0 < length k.commits.items → 114 + sum_by entry_bytes (kept (only t) k.live.standing) ≤ k.reserved
   leave_enough k t fit idle some =
       let others_taken = others_have k t fit idle in
       let both = weighs_apart undo_bytes t k.live.standing in

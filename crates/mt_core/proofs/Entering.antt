@@ -7,7 +7,7 @@ use Rattle.mt_model.specs.Model.{Base}
 use Rattle.mt_model.specs.declared.operations.Op.{Op}
 use Rattle.mt_core.specs.Consistent.{Origin, state_of, IsConsistent, MayBeCalled, MayRun, IsIn}
 use Rattle.mt_core.specs.declared.parts.Core.{Core}
-use Rattle.mt_core.specs.declared.parts.Running.{Running}
+use Rattle.mt_op.specs.declared.scope.OpScope.{OpScope}
 use Rattle.mt_core.proofs.Beginning.{roomed_in, roomed_open}
 use Rattle.mt_core.proofs.Rooms.{rooms_in}
 
@@ -22,4 +22,4 @@ module _ {D : Type 0} (seen : D → List ℕ) (may_leave : D → List ℕ → Ty
   pub prepared_may : (k n : Core D) (t : ℕ) (op : Op) → MayBeCalled origin k t op → IsChanged k.live.members n.live.members t with_room → n.running.items ≡ k.running.items → MayRun origin (record k { live = n.live; running = n.running }) t op
   prepared_may k n t op may changed items =
       let both = roomed_open k.live.members n.live.members t may.at_work changed in
-      record { within = may.within; at_work = both.0; room = both.1; idle = subst (All (λ (r : Running). r.scope.txn ≢ t)) (sym items) may.idle }
+      record { within = may.within; at_work = both.0; room = both.1; idle = subst (All (λ (r : OpScope). r.txn ≢ t)) (sym items) may.idle }

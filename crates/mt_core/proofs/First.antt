@@ -22,7 +22,7 @@ use Rattle.mt_core.specs.Runs.{running_in, pages_of, entry_pages, entry_bytes, l
 use Rattle.mt_core.specs.Consistent.{Origin, IsSchema, state_of, IsNumbered, IsQueued, IsEscrowed, IsFresh, IsIn}
 use Rattle.mt_core.specs.declared.parts.Commit.{Commit}
 use Rattle.mt_core.specs.declared.parts.Core.{Core}
-use Rattle.mt_core.specs.declared.parts.Running.{Running}
+use Rattle.mt_op.specs.declared.scope.OpScope.{OpScope}
 
 pub none_of_none : {X : Type 0} (xs : List X) → length xs ≡ 0 → xs ≡ []
 none_of_none [] is = refl
@@ -73,7 +73,7 @@ module _ {D : Type 0} (seen : D → List ℕ) (may_leave : D → List ℕ → Ty
         rising = λ i j d less lt. absurd (omega (arith, lt));
         placed = λ i d lt. absurd (omega (arith, lt));
       } in
-      let no_running = ap (λ (rs : List Running). length rs) empty.running in
+      let no_running = ap (λ (rs : List OpScope). length rs) empty.running in
       let no_standing = ap (λ (es : List Entry). length es) empty.standing in
       let no_members = ap (λ (ms : List Member). length ms) empty.members in
       let no_commits = ap (λ (cs : List Commit). length cs) empty.commits in

@@ -10,6 +10,7 @@ use Rattle.mt_base.specs.Limits.{IsStep}
 use Rattle.mt_frame.specs.declared.records.Record.{Record}
 use Rattle.mt_inverse.specs.Steps.{IsWithinSteps}
 use Rattle.mt_live.proofs.Lasts.{last_within}
+use Rattle.mt_live.specs.Adds.{GivesBack}
 use Rattle.mt_live.specs.Entries.{Entry}
 use Rattle.mt_live.specs.Lives.{member_of}
 use Rattle.mt_live.specs.Members.{Member, has_inverse, later, last_place, last_operation}
@@ -17,6 +18,8 @@ use Rattle.mt_live.specs.Undoing.{is_effect, last_of, last_effect}
 use Rattle.mt_log.specs.Words.{appended}
 use Rattle.mt_model.specs.History.{Call}
 use Rattle.mt_model.specs.Model.{Base, inverse_of, IsWithin}
+use Rattle.mt_model.specs.Pending.{TakesOut}
+use Rattle.mt_model.specs.declared.pending_add.Pending.{Pending}
 use Rattle.mt_model.specs.declared.operations.Op.{Op}
 use Rattle.mt_model.specs.declared.operations.Op.TheVariants.{Get, Insert, Update, Delete, Add, Read}
 use Rattle.mt_model.specs.declared.operations.Reply.{Reply}
@@ -111,3 +114,27 @@ module _ {D : Type 0} (seen : D → List ℕ) (may_leave : D → List ℕ → Ty
             },
             some,
           )
+
+-- ---- what an inverse leaves of the pending adds
+
+-- If it is an add, the opposite one is pending no more.
+abbrev pub Returns : ℕ → Op → List Pending → List Pending → Type 0
+Returns t (Add c d) old new = TakesOut (record { txn = t; counter = c; step = neg_ℤ d }) old new
+Returns t (Get r k) old new = new ≡ old
+Returns t (Insert r k v) old new = new ≡ old
+Returns t (Update r k v) old new = new ≡ old
+Returns t (Delete r k) old new = new ≡ old
+Returns t (Read c) old new = new ≡ old
+
+some_returned : (t : ℕ) (old new : List Pending) (op : Op) (reply : Reply) → IfSome (inverse_of op reply) (λ i. Returns t i old new → GivesBack t op old new)
+some_returned t old new (Insert r k v) Done = λ returned. returned
+some_returned t old new (Update r k v) (Was before) = λ returned. returned
+some_returned t old new (Delete r k) (Was before) = λ returned. returned
+some_returned t old new (Add c d) Done =
+    let same : neg_ℤ (neg_ℤ d) ≡ d = omega (arith, ints) in
+    λ returned. subst (λ (step : ℤ). TakesOut (record { txn = t; counter = c; step = step }) old new) same returned
+some_returned t old new _ _ = tt
+
+-- So what it takes back is.
+pub inverse_returns : (t : ℕ) (old new : List Pending) (i op : Op) (reply : Reply) → Returns t i old new → inverse_of op reply ≡ Some i → GivesBack t op old new
+inverse_returns t old new i op reply returned is = subst (λ (o : Option Op). IfSome o (λ j. Returns t j old new → GivesBack t op old new)) is (some_returned t old new op reply) returned

@@ -33,7 +33,7 @@ use Rattle.mt_core.specs.Runs.{running_in, AreHeldBy, is_at_work, IsOwned, is_op
 use Rattle.mt_steps.specs.Plans.{undo_pages}
 use Rattle.mt_core.specs.Consistent.{Origin, state_of, state_in, IsNumbered, AreReported, IsQueued, IsWithinSchema, IsFit, IsConsistent, IsIn}
 use Rattle.mt_core.specs.declared.parts.Core.{Core}
-use Rattle.mt_core.specs.declared.parts.Running.{Running}
+use Rattle.mt_op.specs.declared.scope.OpScope.{OpScope}
 use Rattle.mt_core.proofs.Underway.{runs_none}
 use Rattle.mt_core.proofs.Effects.{last_kept, weighs_apart, weighs_others}
 use Rattle.mt_core.proofs.Reported.{reported_put}
@@ -41,8 +41,8 @@ use Rattle.mt_core.proofs.Queued.{queued_first, queued_members}
 use Rattle.mt_live.proofs.Alone.{put_other}
 
 -- nothing runs of a transaction that is not at work
-pub none_runs : (ms : List Member) (standing : List Entry) (rs : List Running) (t : ℕ) → is_open (member_of ms t) ≡ false → All (IsOwned ms standing) rs → All (λ (r : Running). r.scope.txn ≢ t) rs
-none_runs ms standing rs t closed owned i d lt = λ is. let at_work = (owned i d lt).at_work in let here : is_open (member_of ms (get_or rs i d).scope.txn) ≡ false = ap (λ (u : ℕ). is_open (member_of ms u)) is ∙ closed in absurd cc
+pub none_runs : (ms : List Member) (standing : List Entry) (rs : List OpScope) (t : ℕ) → is_open (member_of ms t) ≡ false → All (IsOwned ms standing) rs → All (λ (r : OpScope). r.txn ≢ t) rs
+none_runs ms standing rs t closed owned i d lt = λ is. let at_work = (owned i d lt).at_work in let here : is_open (member_of ms (get_or rs i d).txn) ≡ false = ap (λ (u : ℕ). is_open (member_of ms u)) is ∙ closed in absurd cc
 
 put_none : (f : ℕ → Option Member) (t u : ℕ) → is_open (put f t None u) ≡ true → is_open (f u) ≡ true
 put_none f t u h = go (u == t) h
@@ -65,15 +65,14 @@ put_session f t u = go (u == t)
     go true = refl
     go false = refl
 
-left_owned : (ms new : List Member) (standing : List Entry) (t : ℕ) (q : Running) → ((u : ℕ) → member_of new u ≡ put (member_of ms) t None u) → q.scope.txn ≢ t → IsOwned ms standing q → IsOwned new (kept (others t) standing) q
+left_owned : (ms new : List Member) (standing : List Entry) (t : ℕ) (q : OpScope) → ((u : ℕ) → member_of new u ≡ put (member_of ms) t None u) → q.txn ≢ t → IsOwned ms standing q → IsOwned new (kept (others t) standing) q
 left_owned ms new standing t q gone apart o =
-    let same : member_of new q.scope.txn ≡ member_of ms q.scope.txn = gone q.scope.txn ∙ put_other (member_of ms) t None q.scope.txn apart in
+    let same : member_of new q.txn ≡ member_of ms q.txn = gone q.txn ∙ put_other (member_of ms) t None q.txn apart in
     record {
       at_work = ap is_open same ∙ o.at_work;
       room = λ fore. ap has_room same ∙ o.room fore;
-      copy = o.copy;
-      inverse = λ back. let e = o.inverse back in record { named = ap last_operation same ∙ e.named; entry = e.entry; last = last_kept q.scope.txn t standing apart ∙ e.last; inverse = e.inverse; copy = e.copy; unsplit = e.unsplit };
-      newest = λ fore. subst (IsAbove q.scope.number) (sym same) (o.newest fore);
+      inverse = λ back. let e = o.inverse back in record { named = ap last_operation same ∙ e.named; entry = e.entry; last = last_kept q.txn t standing apart ∙ e.last; inverse = e.inverse; unsplit = e.unsplit };
+      newest = λ fore. subst (IsAbove q.number) (sym same) (o.newest fore);
       taken = λ is. let t = o.taken is in (t.0, ap (option_map (λ (m : Member). m.state)) same ∙ t.1);
       aborts = λ back. ap (option_map (λ (m : Member). m.state)) same ∙ o.aborts back;
     }
@@ -163,7 +162,7 @@ module _ {D : Type 0} (seen : D → List ℕ) (may_leave : D → List ℕ → Ty
             };
           };
           holds = subst (λ (w : World). Holds (held_in w) base) w_same safe.holds;
-          runs = λ i d lt. let was = safe.runs i d lt in record { under = subst (λ (w : World). IsUnderWay origin.relations origin.counters w (get_or k.running.items i d).scope) w_same was.under; budget = was.budget; number = was.number; moving = was.moving };
+          runs = λ i d lt. let was = safe.runs i d lt in record { under = subst (λ (w : World). IsUnderWay origin.relations origin.counters w (get_or k.running.items i d)) w_same was.under; budget = was.budget; number = was.number; moving = was.moving };
           outcome = reported_put k.last (appended n.operations.store.log) k.live.members n.live.members t None (λ m is. absurd cc) members (subst (λ (X : Type 0). X) (λ i. AreReported k.last k.live.members (appended (sym store i).log)) safe.outcome);
           claims = omega arith;
         };
@@ -171,13 +170,13 @@ module _ {D : Type 0} (seen : D → List ℕ) (may_leave : D → List ℕ → Ty
       }
 
   -- the first of the commits under way runs nothing
-  pub first_idle : (k : Core D) (c : Commit) (cs : List Commit) → IsFit seen may_leave origin base k → k.commits.items ≡ c ∷ cs → All (λ (r : Running). r.scope.txn ≢ c.txn) k.running.items
+  pub first_idle : (k : Core D) (c : Commit) (cs : List Commit) → IsFit seen may_leave origin base k → k.commits.items ≡ c ∷ cs → All (λ (r : OpScope). r.txn ≢ c.txn) k.running.items
   first_idle k c cs fit queue =
       let in_queue : IsQueued k.live.members (appended k.operations.store.log) (c ∷ cs) = subst (IsQueued k.live.members (appended k.operations.store.log)) queue fit.queued in
       none_runs k.live.members k.live.standing k.running.items c.txn (committing_closed (member_of k.live.members c.txn) (All-head (λ (x : Commit). state_in k.live.members x.txn ≡ Some Committing) c cs in_queue.each)) fit.owned
 
   -- a transaction of which nothing is left to undo goes
-  pub gone_in : (k n : Core D) (t : ℕ) → IsConsistent seen may_leave origin base k → is_open (member_of k.live.members t) ≡ true → All (λ (r : Running). r.scope.txn ≢ t) k.running.items → last_effect t k.live.standing ≡ None
+  pub gone_in : (k n : Core D) (t : ℕ) → IsConsistent seen may_leave origin base k → is_open (member_of k.live.members t) ≡ true → All (λ (r : OpScope). r.txn ≢ t) k.running.items → last_effect t k.live.standing ≡ None
       → n.live.standing ≡ kept (others t) k.live.standing → ((u : ℕ) → member_of n.live.members u ≡ put (member_of k.live.members) t None u) → n.live.begun ≡ k.live.begun → length n.live.members + 1 ≡ length k.live.members
       → held_of n.locks ≡ without_holder (held_of k.locks) t → n.escrow.committed ≡ k.escrow.committed → n.escrow.pending ≡ pending_without t k.escrow.pending → n.reserved + 128 ≡ k.reserved
       → IsIn seen may_leave origin base (gone (state_of k base) t) (record k { live = n.live; locks = n.locks; escrow = n.escrow; reserved = n.reserved })

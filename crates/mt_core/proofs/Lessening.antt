@@ -6,7 +6,7 @@ use Rattle.mt_pool.specs.Views.{pages}
 use Rattle.mt_core.specs.Consistent.{OnlyOperations, SameRunning}
 use Rattle.mt_core.specs.Work.{effect_steps, effects_left, steps_with, abort_steps, undo_steps, LeavesUndo}
 use Rattle.mt_core.specs.declared.parts.Core.{Core}
-use Rattle.mt_core.specs.declared.parts.Running.{Running}
+use Rattle.mt_op.specs.declared.scope.OpScope.{OpScope}
 
 effects_less : (ps t : ℕ) (p : ℕ → Bool) (es : List Entry) → effects_left ps (kept p es) t ≤ effects_left ps es t
 effects_less ps t p [] = omega arith
@@ -22,18 +22,18 @@ effects_less ps t p (e ∷ es) = go (p e.txn) refl (effects_less ps t p es)
         let own : kept p (e ∷ es) ≡ kept p es = ap (λ (b : Bool). cond b (e ∷ kept p es) (kept p es)) is in
         subst (λ (xs : List Entry). effects_left ps xs t ≤ effects_left ps (e ∷ es) t) (sym own) (omega (arith, all, rest))
 
-with_less : (ps : ℕ) (r : Running) (a b : ℕ) → a ≤ b → steps_with ps r a ≤ steps_with ps r b
-with_less ps r a b less = go (r.scope.undoes == 0) refl
+with_less : (ps : ℕ) (r : OpScope) (a b : ℕ) → a ≤ b → steps_with ps r a ≤ steps_with ps r b
+with_less ps r a b less = go (r.undoes == 0) refl
   where
-    go : (c : Bool) → (r.scope.undoes == 0) ≡ c → steps_with ps r a ≤ steps_with ps r b
+    go : (c : Bool) → (r.undoes == 0) ≡ c → steps_with ps r a ≤ steps_with ps r b
     go true is = rw is (omega (arith, less))
     go false is = rw is (omega (arith, less))
 
-abort_less : (ps : ℕ) (rs : List Running) (t a b : ℕ) → a ≤ b → abort_steps ps rs t a ≤ abort_steps ps rs t b
+abort_less : (ps : ℕ) (rs : List OpScope) (t a b : ℕ) → a ≤ b → abort_steps ps rs t a ≤ abort_steps ps rs t b
 abort_less ps [] t a b less = less
-abort_less ps (r ∷ rs) t a b less = go (r.scope.txn == t) refl (abort_less ps rs t a b less)
+abort_less ps (r ∷ rs) t a b less = go (r.txn == t) refl (abort_less ps rs t a b less)
   where
-    go : (c : Bool) → (r.scope.txn == t) ≡ c → abort_steps ps rs t a ≤ abort_steps ps rs t b → abort_steps ps (r ∷ rs) t a ≤ abort_steps ps (r ∷ rs) t b
+    go : (c : Bool) → (r.txn == t) ≡ c → abort_steps ps rs t a ≤ abort_steps ps rs t b → abort_steps ps (r ∷ rs) t a ≤ abort_steps ps (r ∷ rs) t b
     go true is rest = rw is (with_less ps r a b less)
     go false is rest = rw is rest
 

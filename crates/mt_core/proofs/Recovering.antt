@@ -41,7 +41,7 @@ use Rattle.mt_core.specs.Restartable.{did, effects_of, entry_of, TellsOf, Recove
 use Rattle.mt_core.specs.Runs.{entry_pages, entry_bytes, taken_bytes}
 use Rattle.mt_core.specs.declared.parts.Commit.{Commit}
 use Rattle.mt_core.specs.declared.parts.Core.{Core}
-use Rattle.mt_core.specs.declared.parts.Running.{Running}
+use Rattle.mt_op.specs.declared.scope.OpScope.{OpScope}
 
 -- ---- calls that did nothing leave the base
 
@@ -124,9 +124,9 @@ all_live : (P : Entry → Type 0) (Q : Finished → Type 0) (fs : List Finished)
 all_live P Q [] so all = tt
 all_live P Q (f ∷ fs) so all = (so f (All-head P (entry_of f) (map entry_of fs) all), all_live P Q fs so (All-tail P (entry_of f) (map entry_of fs) all))
 
-taken_most : (rs : List Running) → sum_by taken_bytes rs ≤ 106496 * length rs
+taken_most : (rs : List OpScope) → sum_by taken_bytes rs ≤ 106496 * length rs
 taken_most [] = omega arith
-taken_most (r ∷ rs) = let rest = taken_most rs in let one = go (r.scope.undoes == 0) in let all = sum_by-cons taken_bytes r rs in omega (arith, rest, one, all)
+taken_most (r ∷ rs) = let rest = taken_most rs in let one = go (r.undoes == 0) in let all = sum_by-cons taken_bytes r rs in omega (arith, rest, one, all)
   where
     go : (c : Bool) → cond c 0 106496 ≤ 106496
     go true = omega arith
@@ -156,8 +156,8 @@ module _ {D : Type 0} (seen : D → List ℕ) (may_leave : D → List ℕ → Ty
 
   -- those of transactions that live, each of another one
   few_run : length n.running.items ≤ length n.live.members
-  few_run = at_most (λ (r : Running). r.scope.txn) n.live.members n.running.items
-      (λ i d lt. open_some (member_of n.live.members (get_or n.running.items i d).scope.txn) (safe.fit.owned i d lt).at_work)
+  few_run = at_most (λ (r : OpScope). r.txn) n.live.members n.running.items
+      (λ i d lt. open_some (member_of n.live.members (get_or n.running.items i d).txn) (safe.fit.owned i d lt).at_work)
       (λ i j d less lt is. (safe.fit.apart i j d less lt).txn (sym is))
 
   few_commits : length n.commits.items ≤ length n.live.members

@@ -12,52 +12,52 @@ use Rattle.mt_live.specs.Undoing.{only, others, last_effect}
 use Rattle.mt_model.specs.Model.{inverse_of}
 use Rattle.mt_core.specs.Runs.{AreApart, IsOwned, undo_bytes, entry_bytes, taken_bytes}
 use Rattle.mt_core.specs.declared.parts.Commit.{Commit}
-use Rattle.mt_core.specs.declared.parts.Running.{Running}
+use Rattle.mt_op.specs.declared.scope.OpScope.{OpScope}
 use Rattle.mt_core.proofs.Lists.{pairs_head, pairs_tail}
 use Rattle.mt_core.proofs.Effects.{weighs_apart, weighs_last, last_kept, last_only, inverse_bytes}
 
 -- ---- the inverses that run have each taken what was kept for an entry
 
 -- there is an entry for it to take back
-pub record HasEntry (es : List Entry) (r : Running) : Type 0 where
+pub record HasEntry (es : List Entry) (r : OpScope) : Type 0 where
   pub entry : Entry
-  pub last : last_effect r.scope.txn es ≡ Some entry
+  pub last : last_effect r.txn es ≡ Some entry
   pub weighs : entry_bytes entry ≡ 106496
 
-pub has_entry : (ms : List Member) (es : List Entry) (r : Running) → IsOwned ms es r → r.scope.undoes ≢ 0 → HasEntry es r
+pub has_entry : (ms : List Member) (es : List Entry) (r : OpScope) → IsOwned ms es r → r.undoes ≢ 0 → HasEntry es r
 has_entry ms es r o back =
     let t = o.inverse back in
     let some : is_some (inverse_of t.entry.op t.entry.reply) ≡ true = rw t.inverse refl in
     let of_entry : entry_bytes t.entry ≡ undo_bytes t.entry.op = rw some refl in
-    record { entry = t.entry; last = t.last; weighs = of_entry ∙ inverse_bytes t.entry.op t.entry.reply r.scope.op t.inverse }
+    record { entry = t.entry; last = t.last; weighs = of_entry ∙ inverse_bytes t.entry.op t.entry.reply r.op t.inverse }
 
 -- the last effect of a transaction is among its own entries
 pub own_last : (t : ℕ) (es : List Entry) (e : Entry) → last_effect t es ≡ Some e → entry_bytes e ≤ sum_by entry_bytes (kept (only t) es)
 own_last t es e is = weighs_last undo_bytes t (kept (only t) es) e (last_only t es ∙ is)
 
-pub taken_within : (rs : List Running) (es : List Entry) → AllPairs AreApart rs → All (λ (r : Running). r.scope.undoes ≢ 0 → HasEntry es r) rs → sum_by taken_bytes rs ≤ sum_by entry_bytes es
+pub taken_within : (rs : List OpScope) (es : List Entry) → AllPairs AreApart rs → All (λ (r : OpScope). r.undoes ≢ 0 → HasEntry es r) rs → sum_by taken_bytes rs ≤ sum_by entry_bytes es
 taken_within [] es apart have = omega arith
 taken_within (r ∷ rs) es apart have =
     let whole = sum_by-cons taken_bytes r rs in
     ⊎_elim
-    (λ (fore : r.scope.undoes ≡ 0).
-    let test : (r.scope.undoes == 0) ≡ true = eq-eqb r.scope.undoes 0 fore in
+    (λ (fore : r.undoes ≡ 0).
+    let test : (r.undoes == 0) ≡ true = eq-eqb r.undoes 0 fore in
     let none : taken_bytes r ≡ 0 = rw test refl in
-    let rest = taken_within rs es (pairs_tail AreApart r rs apart) (All-tail (λ (q : Running). q.scope.undoes ≢ 0 → HasEntry es q) r rs have) in
+    let rest = taken_within rs es (pairs_tail AreApart r rs apart) (All-tail (λ (q : OpScope). q.undoes ≢ 0 → HasEntry es q) r rs have) in
     omega arith)
-    (λ (back : r.scope.undoes ≡ 0 → ⊥).
-    let test : (r.scope.undoes == 0) ≡ false = ne_eqb r.scope.undoes 0 back in
+    (λ (back : r.undoes ≡ 0 → ⊥).
+    let test : (r.undoes == 0) ≡ false = ne_eqb r.undoes 0 back in
     let own : taken_bytes r ≡ 106496 = rw test refl in
-    let e = All-head (λ (q : Running). q.scope.undoes ≢ 0 → HasEntry es q) r rs have back in
-    let mine = own_last r.scope.txn es e.entry e.last in
+    let e = All-head (λ (q : OpScope). q.undoes ≢ 0 → HasEntry es q) r rs have back in
+    let mine = own_last r.txn es e.entry e.last in
     let weighs = e.weighs in
-    let both = weighs_apart undo_bytes r.scope.txn es in
+    let both = weighs_apart undo_bytes r.txn es in
     let heads = pairs_head AreApart r rs apart in
-    let rest = taken_within rs (kept (others r.scope.txn) es) (pairs_tail AreApart r rs apart) (λ i d lt b.
-    let f = All-tail (λ (q : Running). q.scope.undoes ≢ 0 → HasEntry es q) r rs have i d lt b in
-    record { entry = f.entry; last = last_kept (get_or rs i d).scope.txn r.scope.txn es ((heads i d lt).txn) ∙ f.last; weighs = f.weighs }) in
+    let rest = taken_within rs (kept (others r.txn) es) (pairs_tail AreApart r rs apart) (λ i d lt b.
+    let f = All-tail (λ (q : OpScope). q.undoes ≢ 0 → HasEntry es q) r rs have i d lt b in
+    record { entry = f.entry; last = last_kept (get_or rs i d).txn r.txn es ((heads i d lt).txn) ∙ f.last; weighs = f.weighs }) in
     omega arith)
-    (cases_eq r.scope.undoes 0)
+    (cases_eq r.undoes 0)
 
 -- ---- so many transactions live as are named
 

@@ -59,7 +59,7 @@ use Rattle.mt_core.specs.Restartable.{did, effects_of, entry_of, numbers_did, nu
 use Rattle.mt_core.specs.Runs.{is_at_work, is_open, TakesBack}
 use Rattle.mt_core.specs.declared.parts.Commit.{Commit}
 use Rattle.mt_core.specs.declared.parts.Core.{Core}
-use Rattle.mt_core.specs.declared.parts.Running.{Running}
+use Rattle.mt_op.specs.declared.scope.OpScope.{OpScope}
 
 -- ---- records that tell nothing
 
@@ -279,45 +279,45 @@ module _ {D : Type 0} (seen : D → List ℕ) (may_leave : D → List ℕ → Ty
   pub quiet_then : (k m n : Core D) → QuietlyAppends origin.pages k m → n.operations.store ≡ m.operations.store → QuietlyAppends origin.pages k n
   quiet_then k m n q store = record { area = area_then k m n q.area store; appends = record { more = q.appends.more; is = ap (λ s. appended s.log) store ∙ q.appends.is; quiet = q.appends.quiet } }
 
-  pub end_then : (k m n : Core D) (r : Running) (reply : Reply) → AppendsEnd origin (pages k.operations.store.pool) (appended k.operations.store.log) (appended m.operations.store.log) r.scope reply → n.operations.store ≡ m.operations.store
-      → AppendsEnd origin (pages k.operations.store.pool) (appended k.operations.store.log) (appended n.operations.store.log) r.scope reply
+  pub end_then : (k m n : Core D) (r : OpScope) (reply : Reply) → AppendsEnd origin (pages k.operations.store.pool) (appended k.operations.store.log) (appended m.operations.store.log) r reply → n.operations.store ≡ m.operations.store
+      → AppendsEnd origin (pages k.operations.store.pool) (appended k.operations.store.log) (appended n.operations.store.log) r reply
   end_then k m n r reply a store = record {
     is = ap (λ s. appended s.log) store ∙ a.is;
     leads = λ led. subst (LeadsOn origin.relations origin.counters (pages k.operations.store.pool) origin.pages) (sym (ap (λ s. appended s.log) store)) (a.leads led);
   }
 
   -- before which nothing but the operations has changed
-  pub notes_then : (k m n : Core D) (r : Running) (reply : Reply) → m.book ≡ k.book → m.commits ≡ k.commits → m.live ≡ k.live → NotesEnd m n r reply → NotesEnd k n r reply
+  pub notes_then : (k m n : Core D) (r : OpScope) (reply : Reply) → m.book ≡ k.book → m.commits ≡ k.commits → m.live ≡ k.live → NotesEnd m n r reply → NotesEnd k n r reply
   notes_then k m n r reply book commits live e = record {
     same = record { book = e.same.book ∙ ap (λ v. v.items) book; commits = e.same.commits ∙ ap (λ v. v.items) commits };
-    standing = e.standing ∙ ap (λ l. l.standing ++ record { txn = r.scope.txn; op = r.op; reply = reply } ∷ []) live;
-    members = subst (λ l. IsChanged l.members n.live.members r.scope.txn (λ x. with_call x r.scope.number (r.op, reply))) live e.members;
+    standing = e.standing ∙ ap (λ l. l.standing ++ record { txn = r.txn; op = r.op; reply = reply } ∷ []) live;
+    members = subst (λ l. IsChanged l.members n.live.members r.txn (λ x. with_call x r.number (r.op, reply))) live e.members;
     count = e.count ∙ ap (λ l. length l.members) live;
   }
 
-  pub undone_then : (k m n : Core D) (r : Running) → m.book ≡ k.book → m.commits ≡ k.commits → m.live ≡ k.live → NotesUndone m n r → NotesUndone k n r
+  pub undone_then : (k m n : Core D) (r : OpScope) → m.book ≡ k.book → m.commits ≡ k.commits → m.live ≡ k.live → NotesUndone m n r → NotesUndone k n r
   undone_then k m n r book commits live e = record {
     same = record { book = e.same.book ∙ ap (λ v. v.items) book; commits = e.same.commits ∙ ap (λ v. v.items) commits };
-    standing = e.standing ∙ ap (λ l. cut_back r.scope.txn l.standing) live;
-    members = subst (λ l. IsChanged l.members n.live.members r.scope.txn taken_back) live e.members;
+    standing = e.standing ∙ ap (λ l. cut_back r.txn l.standing) live;
+    members = subst (λ l. IsChanged l.members n.live.members r.txn taken_back) live e.members;
     count = e.count ∙ ap (λ l. length l.members) live;
   }
 
   -- ---- an operation has ended
 
-  pub ended : (k n : Core D) (base later : Base) (r : Running) (reply : Reply) → IsConsistent seen may_leave origin base k → IsConsistent seen may_leave origin later n → SameArea k n
-      → AppendsEnd origin (pages k.operations.store.pool) (appended k.operations.store.log) (appended n.operations.store.log) r.scope reply → NotesEnd k n r reply → r.op ≡ r.scope.op → r.scope.undoes ≡ 0
-      → is_open (member_of k.live.members r.scope.txn) ≡ true → reply_of base r.scope.op ≡ reply → IsRestartable origin k → IsRestartable origin n
-  ended k n base later r reply safe_k safe_n same a e copy fore working replies restartable = go (logged_of r.scope.op reply) refl
+  pub ended : (k n : Core D) (base later : Base) (r : OpScope) (reply : Reply) → IsConsistent seen may_leave origin base k → IsConsistent seen may_leave origin later n → SameArea k n
+      → AppendsEnd origin (pages k.operations.store.pool) (appended k.operations.store.log) (appended n.operations.store.log) r reply → NotesEnd k n r reply → r.undoes ≡ 0
+      → is_open (member_of k.live.members r.txn) ≡ true → reply_of base r.op ≡ reply → IsRestartable origin k → IsRestartable origin n
+  ended k n base later r reply safe_k safe_n same a e fore working replies restartable = go (logged_of r.op reply) refl
     where
       old : List Record
       old = appended k.operations.store.log
 
       t : ℕ
-      t = r.scope.txn
+      t = r.txn
 
       entry : Entry
-      entry = record { txn = r.scope.txn; op = r.op; reply = reply }
+      entry = record { txn = r.txn; op = r.op; reply = reply }
 
       few : length n.live.members ≤ 64
       few = subst (λ (m : ℕ). m ≤ 64) (sym e.count) restartable.few
@@ -334,60 +334,60 @@ module _ {D : Type 0} (seen : D → List ℕ) (may_leave : D → List ℕ → Ty
       many : length m.member.operations ≡ length m.member.calls
       many = (safe_k.outcome t m.member m.is).many
 
-      pushed : num n.live.members t ≡ num k.live.members t ++ cond (has_inverse call) (r.scope.number ∷ []) []
+      pushed : num n.live.members t ≡ num k.live.members t ++ cond (has_inverse call) (r.number ∷ []) []
       pushed =
-          ap numbers_of (e.members t ∙ put_same (member_of k.live.members) t (option_map (λ x. with_call x r.scope.number call) (member_of k.live.members t)) ∙ ap (option_map (λ x. with_call x r.scope.number call)) m.is)
-          ∙ open_did (with_call m.member r.scope.number call) m.working ∙ did_push m.member.calls m.member.operations call r.scope.number many
-          ∙ ap (λ (ns : List ℕ). ns ++ cond (has_inverse call) (r.scope.number ∷ []) []) (sym (ap numbers_of m.is ∙ open_did m.member m.working))
+          ap numbers_of (e.members t ∙ put_same (member_of k.live.members) t (option_map (λ x. with_call x r.number call) (member_of k.live.members t)) ∙ ap (option_map (λ x. with_call x r.number call)) m.is)
+          ∙ open_did (with_call m.member r.number call) m.working ∙ did_push m.member.calls m.member.operations call r.number many
+          ∙ ap (λ (ns : List ℕ). ns ++ cond (has_inverse call) (r.number ∷ []) []) (sym (ap numbers_of m.is ∙ open_did m.member m.working))
 
       rest : (u : ℕ) → u ≢ t → num n.live.members u ≡ num k.live.members u
-      rest u apart = ap numbers_of (changed_other (λ x. with_call x r.scope.number call) k.live.members n.live.members t e.members u apart)
+      rest u apart = ap numbers_of (changed_other (λ x. with_call x r.number call) k.live.members n.live.members t e.members u apart)
 
       stood : filter did n.live.standing ≡ filter did k.live.standing ++ cond (did entry) (entry ∷ []) []
       stood = ap (filter did) e.standing ∙ filter-append did k.live.standing (entry ∷ [])
 
-      later_is : later ≡ base_after base r.scope.op
-      later_is = sym (base_is n later safe_n) ∙ (λ i. runs (after origin.first (e.same.book i)) (e.standing i)) ∙ runs-append (after origin.first k.book.items) k.live.standing (entry ∷ []) ∙ (λ i. base_after (base_is k base safe_k i) (copy i))
+      later_is : later ≡ base_after base r.op
+      later_is = sym (base_is n later safe_n) ∙ (λ i. runs (after origin.first (e.same.book i)) (e.standing i)) ∙ runs-append (after origin.first k.book.items) k.live.standing (entry ∷ []) ∙ (λ i. base_after (base_is k base safe_k i) r.op)
 
-      none_same : (ns : List ℕ) (h : Bool) → has_inverse call ≡ h → h ≡ false → ns ++ cond (has_inverse call) (r.scope.number ∷ []) [] ≡ ns
-      none_same ns h is none = ap (λ (c : Bool). ns ++ cond c (r.scope.number ∷ []) []) (is ∙ none) ∙ append-nil ns
+      none_same : (ns : List ℕ) (h : Bool) → has_inverse call ≡ h → h ≡ false → ns ++ cond (has_inverse call) (r.number ∷ []) [] ≡ ns
+      none_same ns h is none = ap (λ (c : Bool). ns ++ cond c (r.number ∷ []) []) (is ∙ none) ∙ append-nil ns
 
       tally_in : (x : Recorded) (es : List Entry) → filter did n.live.standing ≡ es → Tallies (map effects_of was.since) (txns_of k.commits.items) (num n.live.members) es x
           → Tallies (map effects_of was.since) (txns_of n.commits.items) (num n.live.members) (filter did n.live.standing) x
       tally_in x es is tally = subst (λ (X : Type 0). X) (λ i. Tallies (map effects_of was.since) (txns_of (sym e.same.commits i)) (num n.live.members) (sym is i) x) tally
 
-      is_did : has_inverse call ≡ is_some (logged_of r.scope.op reply)
-      is_did = ap (λ (o : Op). is_some (inverse_of o reply)) copy ∙ logged_did r.scope.op reply
+      is_did : has_inverse call ≡ is_some (logged_of r.op reply)
+      is_did = logged_did r.op reply
 
-      go : (o : Option LoggedOp) → logged_of r.scope.op reply ≡ o → IsRestartable origin n
+      go : (o : Option LoggedOp) → logged_of r.op reply ≡ o → IsRestartable origin n
       go None is =
           let none : has_inverse call ≡ false = is_did ∙ ap is_some is in
-          let records : appended n.operations.store.log ≡ old = a.is ∙ ap (λ (o : Option LoggedOp). old ++ end_with r.scope.txn r.scope.number r.scope.undoes o) is ∙ append-nil old in
+          let records : appended n.operations.store.log ≡ old = a.is ∙ ap (λ (o : Option LoggedOp). old ++ end_with r.txn r.number r.undoes o) is ∙ append-nil old in
           let entries : filter did n.live.standing ≡ filter did k.live.standing = stood ∙ ap (λ (c : Bool). filter did k.live.standing ++ cond c (entry ∷ []) []) none ∙ append-nil (filter did k.live.standing) in
           let numbers : (u : ℕ) → num n.live.members u ≡ num k.live.members u = λ u. elim (cases_eq u t) [
             | inl own ↦ ap (num n.live.members) own ∙ pushed ∙ none_same (num k.live.members t) (has_inverse call) refl none ∙ sym (ap (num k.live.members) own)
             | inr apart ↦ rest u apart
           ] in
-          let nothing : inverse_of r.scope.op (reply_of base r.scope.op) ≡ None = none_of (inverse_of r.scope.op (reply_of base r.scope.op)) (ap (λ (y : Reply). is_some (inverse_of r.scope.op y)) replies ∙ logged_did r.scope.op reply ∙ ap is_some is) in
+          let nothing : inverse_of r.op (reply_of base r.op) ≡ None = none_of (inverse_of r.op (reply_of base r.op)) (ap (λ (y : Reply). is_some (inverse_of r.op y)) replies ∙ logged_did r.op reply ∙ ap is_some is) in
           let tally = tally_same (map effects_of was.since) (txns_of k.commits.items) (num k.live.members) (num n.live.members) (filter did k.live.standing) (tells old) was.tally numbers in
-          let now : Now n old later = record { since = was.since; book = e.same.book ∙ was.book; tally = tally_in (tells old) (filter did k.live.standing) entries tally; leads = was.leads ∙ sym (later_is ∙ base_effectless base r.scope.op nothing) } in
+          let now : Now n old later = record { since = was.since; book = e.same.book ∙ was.book; tally = tally_in (tells old) (filter did k.live.standing) entries tally; leads = was.leads ∙ sym (later_is ∙ base_effectless base r.op nothing) } in
           stays k n later safe_n (record { area = same; appends = appends_none origin.pages old (appended n.operations.store.log) records }) few (subst (λ (rs : List Record). Now n rs later) (sym records) now) (stays_reported seen may_leave origin k n later safe_n same.lasts e.same restartable.booked) restartable
         where
           none_of : {A : Type 0} (o : Option A) → is_some o ≡ false → o ≡ None
           none_of None is = refl
           none_of (Some x) is = absurd cc
       go (Some done) is =
-          let it : Record = OpEnd r.scope.txn r.scope.number r.scope.undoes done in
-          let f : Finished = record { txn = r.scope.txn; op = r.scope.number; done = done } in
-          let tells_it = logged_is r.scope.op reply done is in
+          let it : Record = OpEnd r.txn r.number r.undoes done in
+          let f : Finished = record { txn = r.txn; op = r.number; done = done } in
+          let tells_it = logged_is r.op reply done is in
           let some : has_inverse call ≡ true = is_did ∙ ap is_some is in
-          let records : appended n.operations.store.log ≡ old ++ it ∷ [] = a.is ∙ ap (λ (o : Option LoggedOp). old ++ end_with r.scope.txn r.scope.number r.scope.undoes o) is in
+          let records : appended n.operations.store.log ≡ old ++ it ∷ [] = a.is ∙ ap (λ (o : Option LoggedOp). old ++ end_with r.txn r.number r.undoes o) is in
           let now_reported : tells (old ++ it ∷ []) ≡ record { live = (tells old).live ++ f ∷ []; books = (tells old).books } =
           tell_more (record { live = []; books = [] }) old (it ∷ [])
-          ∙ ap {A = Bool} {B = Recorded} (λ (c : Bool). cond c (record { live = (tells old).live ++ f ∷ []; books = (tells old).books }) (record { live = without r.scope.txn r.scope.undoes (tells old).live; books = (tells old).books })) (eq-eqb r.scope.undoes 0 fore) in
-          let same_entry : entry_of f ≡ entry = λ i. record { txn = r.scope.txn; op = (tells_it.0 ∙ sym copy) i; reply = tells_it.1 i } in
+          ∙ ap {A = Bool} {B = Recorded} (λ (c : Bool). cond c (record { live = (tells old).live ++ f ∷ []; books = (tells old).books }) (record { live = without r.txn r.undoes (tells old).live; books = (tells old).books })) (eq-eqb r.undoes 0 fore) in
+          let same_entry : entry_of f ≡ entry = λ i. record { txn = r.txn; op = tells_it.0 i; reply = tells_it.1 i } in
           let entries : filter did n.live.standing ≡ filter did k.live.standing ++ entry_of f ∷ [] = stood ∙ ap (λ (c : Bool). filter did k.live.standing ++ cond c (entry ∷ []) []) some ∙ ap (λ (x : Entry). filter did k.live.standing ++ x ∷ []) (sym same_entry) in
-          let mine : num n.live.members t ≡ num k.live.members t ++ r.scope.number ∷ [] = pushed ∙ ap (λ (c : Bool). num k.live.members t ++ cond c (r.scope.number ∷ []) []) some in
+          let mine : num n.live.members t ≡ num k.live.members t ++ r.number ∷ [] = pushed ∙ ap (λ (c : Bool). num k.live.members t ++ cond c (r.number ∷ []) []) some in
           let tally = tally_end (map effects_of was.since) (txns_of k.commits.items) (num k.live.members) (num n.live.members) (filter did k.live.standing) (tells old) was.tally f (apart_from k.live.members k.commits.items t safe_k.fit.queued.each working) mine rest in
           let led : run origin.begun (calls_in (old ++ it ∷ [])) ≡ later = ap (run origin.begun) (calls_append old (it ∷ [])) ∙ run-append origin.begun (calls_in old) (call_of done ∷ []) ∙ (λ i. base_after (was.leads i) (tells_it.0 i)) ∙ sym later_is in
           let now : Now n (old ++ it ∷ []) later = record { since = was.since; book = e.same.book ∙ was.book; tally = subst (Tallies (map effects_of was.since) (txns_of n.commits.items) (num n.live.members) (filter did n.live.standing)) (sym now_reported) (tally_in (record { live = (tells old).live ++ f ∷ []; books = (tells old).books }) (filter did k.live.standing ++ entry_of f ∷ []) entries tally); leads = led } in
@@ -395,16 +395,16 @@ module _ {D : Type 0} (seen : D → List ℕ) (may_leave : D → List ℕ → Ty
 
   -- ---- an inverse has ended
 
-  pub undone : (k n : Core D) (base : Base) (r : Running) (reply : Reply) → IsConsistent seen may_leave origin base k → IsConsistent seen may_leave origin (base_after base r.scope.op) n → SameArea k n
-      → AppendsEnd origin (pages k.operations.store.pool) (appended k.operations.store.log) (appended n.operations.store.log) r.scope reply → NotesUndone k n r → r.scope.undoes ≢ 0
-      → is_open (member_of k.live.members r.scope.txn) ≡ true → TakesBack k.live.members k.live.standing r → reply_of base r.scope.op ≡ reply → IsRestartable origin k → IsRestartable origin n
-  undone k n base r reply safe_k safe_n same a e back working takes replies restartable = go (logged_of r.scope.op reply) refl
+  pub undone : (k n : Core D) (base : Base) (r : OpScope) (reply : Reply) → IsConsistent seen may_leave origin base k → IsConsistent seen may_leave origin (base_after base r.op) n → SameArea k n
+      → AppendsEnd origin (pages k.operations.store.pool) (appended k.operations.store.log) (appended n.operations.store.log) r reply → NotesUndone k n r → r.undoes ≢ 0
+      → is_open (member_of k.live.members r.txn) ≡ true → TakesBack k.live.members k.live.standing r → reply_of base r.op ≡ reply → IsRestartable origin k → IsRestartable origin n
+  undone k n base r reply safe_k safe_n same a e back working takes replies restartable = go (logged_of r.op reply) refl
     where
       old : List Record
       old = appended k.operations.store.log
 
       t : ℕ
-      t = r.scope.txn
+      t = r.txn
 
       few : length n.live.members ≤ 64
       few = subst (λ (m : ℕ). m ≤ 64) (sym e.count) restartable.few
@@ -418,8 +418,8 @@ module _ {D : Type 0} (seen : D → List ℕ) (may_leave : D → List ℕ → Ty
       reported_of : IsReported k.last old t m.member
       reported_of = safe_k.outcome t m.member m.is
 
-      c : Cut t k.live.standing takes.entry r.scope.op
-      c = cut_of t k.live.standing takes.entry r.scope.op takes.last takes.inverse
+      c : Cut t k.live.standing takes.entry r.op
+      c = cut_of t k.live.standing takes.entry r.op takes.last takes.inverse
 
       front : List Entry
       front = filter did c.front
@@ -442,51 +442,51 @@ module _ {D : Type 0} (seen : D → List ℕ) (may_leave : D → List ℕ → Ty
       now_mine : num n.live.members t ≡ numbers_of (Some (taken_back m.member))
       now_mine = ap numbers_of (e.members t ∙ put_same (member_of k.live.members) t (option_map taken_back (member_of k.live.members t)) ∙ ap (option_map taken_back) m.is)
 
-      named : operation_at m.member (last_place m.member.calls) ≡ Some r.scope.undoes
+      named : operation_at m.member (last_place m.member.calls) ≡ Some r.undoes
       named = sym (ap last_operation m.is) ∙ takes.named
 
-      go : (o : Option LoggedOp) → logged_of r.scope.op reply ≡ o → IsRestartable origin n
+      go : (o : Option LoggedOp) → logged_of r.op reply ≡ o → IsRestartable origin n
       go None is =
-          let some : is_some (logged_of r.scope.op (reply_of base r.scope.op)) ≡ true = inverse_logged takes.entry r.scope.op base takes.inverse (acted_last origin.first (state_of k base) t takes.entry r.scope.op safe_k.fit.kept takes.last takes.inverse) in
-          let none : is_some (logged_of r.scope.op (reply_of base r.scope.op)) ≡ false = ap (λ (y : Reply). is_some (logged_of r.scope.op y)) replies ∙ ap is_some is in
+          let some : is_some (logged_of r.op (reply_of base r.op)) ≡ true = inverse_logged takes.entry r.op base takes.inverse (acted_last origin.first (state_of k base) t takes.entry r.op safe_k.fit.kept takes.last takes.inverse) in
+          let none : is_some (logged_of r.op (reply_of base r.op)) ≡ false = ap (λ (y : Reply). is_some (logged_of r.op y)) replies ∙ ap is_some is in
           absurd cc
       go (Some done) is = at (last_place m.member.calls) refl
         where
           it : Record
-          it = OpEnd r.scope.txn r.scope.number r.scope.undoes done
+          it = OpEnd r.txn r.number r.undoes done
 
           records : appended n.operations.store.log ≡ old ++ it ∷ []
-          records = a.is ∙ ap (λ (o : Option LoggedOp). old ++ end_with r.scope.txn r.scope.number r.scope.undoes o) is
+          records = a.is ∙ ap (λ (o : Option LoggedOp). old ++ end_with r.txn r.number r.undoes o) is
 
           cut_reported : Recorded
-          cut_reported = record { live = without t r.scope.undoes (tells old).live; books = (tells old).books }
+          cut_reported = record { live = without t r.undoes (tells old).live; books = (tells old).books }
 
           now_reported : tells (old ++ it ∷ []) ≡ cut_reported
           now_reported =
               tell_more (record { live = []; books = [] }) old (it ∷ [])
-              ∙ ap {A = Bool} {B = Recorded} (λ (h : Bool). cond h (record { live = (tells old).live ++ record { txn = r.scope.txn; op = r.scope.number; done = done } ∷ []; books = (tells old).books }) (record { live = without r.scope.txn r.scope.undoes (tells old).live; books = (tells old).books })) (ne_eqb r.scope.undoes 0 back)
+              ∙ ap {A = Bool} {B = Recorded} (λ (h : Bool). cond h (record { live = (tells old).live ++ record { txn = r.txn; op = r.number; done = done } ∷ []; books = (tells old).books }) (record { live = without r.txn r.undoes (tells old).live; books = (tells old).books })) (ne_eqb r.undoes 0 back)
 
-          tells_it : (op_of done ≡ r.scope.op) × (reply_in done ≡ reply)
-          tells_it = logged_is r.scope.op reply done is
+          tells_it : (op_of done ≡ r.op) × (reply_in done ≡ reply)
+          tells_it = logged_is r.op reply done is
 
-          led : run origin.begun (calls_in (old ++ it ∷ [])) ≡ base_after base r.scope.op
+          led : run origin.begun (calls_in (old ++ it ∷ [])) ≡ base_after base r.op
           led = ap (run origin.begun) (calls_append old (it ∷ [])) ∙ run-append origin.begun (calls_in old) (call_of done ∷ []) ∙ (λ i. base_after (was.leads i) (tells_it.0 i))
 
           tallied : Tallies (map effects_of was.since) (txns_of k.commits.items) (num n.live.members) (front ++ behind) cut_reported → IsRestartable origin n
           tallied tally =
               let here = subst (λ (X : Type 0). X) (λ i. Tallies (map effects_of was.since) (txns_of (sym e.same.commits i)) (num n.live.members) (sym stands i) (sym now_reported i)) tally in
-              let now : Now n (old ++ it ∷ []) (base_after base r.scope.op) = record { since = was.since; book = e.same.book ∙ was.book; tally = here; leads = led } in
-              grows k n (base_after base r.scope.op) it safe_n same few records a.leads (subst (λ (rs : List Record). Now n rs (base_after base r.scope.op)) (sym records) now) (stays_reported seen may_leave origin k n (base_after base r.scope.op) safe_n same.lasts e.same restartable.booked) restartable
+              let now : Now n (old ++ it ∷ []) (base_after base r.op) = record { since = was.since; book = e.same.book ∙ was.book; tally = here; leads = led } in
+              grows k n (base_after base r.op) it safe_n same few records a.leads (subst (λ (rs : List Record). Now n rs (base_after base r.op)) (sym records) now) (stays_reported seen may_leave origin k n (base_after base r.op) safe_n same.lasts e.same restartable.booked) restartable
 
           at : (o : Option ℕ) → last_place m.member.calls ≡ o → IsRestartable origin n
-          at None place = let none : operation_at m.member None ≡ Some r.scope.undoes = ap (operation_at m.member) (sym place) ∙ named in absurd cc
+          at None place = let none : operation_at m.member None ≡ Some r.undoes = ap (operation_at m.member) (sym place) ∙ named in absurd cc
           at (Some p) place =
-              let number : get_or m.member.operations p 0 ≡ r.scope.undoes = some_number (get_or m.member.operations p 0) r.scope.undoes (ap (operation_at m.member) (sym place) ∙ named) in
+              let number : get_or m.member.operations p 0 ≡ r.undoes = some_number (get_or m.member.operations p 0) r.undoes (ap (operation_at m.member) (sym place) ∙ named) in
               let left : num n.live.members t ≡ numbers_did (take p m.member.calls) (take p m.member.operations) = now_mine ∙ ap (λ (o : Option ℕ). numbers_of (Some (cut_to m.member o))) place ∙ open_did (cut_at m.member p) m.working in
-              let mine : num k.live.members t ≡ num n.live.members t ++ r.scope.undoes ∷ [] =
+              let mine : num k.live.members t ≡ num n.live.members t ++ r.undoes ∷ [] =
               ap numbers_of m.is ∙ open_did m.member m.working ∙ did_last m.member.calls m.member.operations p reported_of.many place ∙ (λ i. sym left i ++ number i ∷ []) in
-              let less = rising_apart m.member.calls m.member.operations (num n.live.members t) r.scope.undoes reported_of.rising (sym (ap numbers_of m.is ∙ open_did m.member m.working) ∙ mine) in
-              tallied (tally_undone (map effects_of was.since) (txns_of k.commits.items) (num k.live.members) (num n.live.members) (filter did k.live.standing) (tells old) was.tally t r.scope.undoes front takes.entry behind stood c.done.its none_behind
+              let less = rising_apart m.member.calls m.member.operations (num n.live.members t) r.undoes reported_of.rising (sym (ap numbers_of m.is ∙ open_did m.member m.working) ∙ mine) in
+              tallied (tally_undone (map effects_of was.since) (txns_of k.commits.items) (num k.live.members) (num n.live.members) (filter did k.live.standing) (tells old) was.tally t r.undoes front takes.entry behind stood c.done.its none_behind
               (apart_from k.live.members k.commits.items t safe_k.fit.queued.each working) mine less rest)
             where
               some_number : (x y : ℕ) → Some x ≡ Some y → x ≡ y

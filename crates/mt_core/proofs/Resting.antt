@@ -28,7 +28,7 @@ use Rattle.mt_live.specs.declared.transactions.TxnState.TheVariants.{Aborting}
 use Rattle.mt_core.specs.Runs.{running_in, is_for, state_in, AreApart, AreHeldBy, IsRunning, IsOwned, is_at_work, is_open, pages_of, left_of, kept_bytes, taken_bytes}
 use Rattle.mt_core.specs.Consistent.{Origin, state_of, IsNumbered, AreReported, IsQueued, IsConsistent, IsFit, IsIn}
 use Rattle.mt_core.specs.declared.parts.Core.{Core}
-use Rattle.mt_core.specs.declared.parts.Running.{Running}
+use Rattle.mt_op.specs.declared.scope.OpScope.{OpScope}
 use Rattle.mt_core.proofs.Calling.{numbered_last}
 use Rattle.mt_core.proofs.Holders.{held_push, sums_push}
 use Rattle.mt_core.proofs.Reported.{reported_last}
@@ -72,26 +72,26 @@ module _ {D : Type 0} (seen : D → List ℕ) (may_leave : D → List ℕ → Ty
               (subst (λ (X : Type 0). X) (λ i. IsQueued k.live.members (sym rests.records i) k.commits.items) fit.queued)
               (omega arith);
           holds = subst (λ (p : PageBytes). Holds p base) (sym (rests_held (world seen origin.pages k.operations) (world seen origin.pages n.operations) rests)) safe.holds;
-          runs = λ i d lt. let was = safe.runs i d lt in record { under = rests_own origin.relations origin.counters (world seen origin.pages k.operations) (world seen origin.pages n.operations) (get_or k.running.items i d).scope rests was.under; budget = was.budget; number = was.number; moving = was.moving };
+          runs = λ i d lt. let was = safe.runs i d lt in record { under = rests_own origin.relations origin.counters (world seen origin.pages k.operations) (world seen origin.pages n.operations) (get_or k.running.items i d) rests was.under; budget = was.budget; number = was.number; moving = was.moving };
           outcome = subst (λ (X : Type 0). X) (λ i. AreReported k.last k.live.members (sym rests.records i)) safe.outcome;
           claims = same ∙ claims;
         };
         state = refl;
       }
 
-  running_also : (rs : List Running) (r : Running) (u : ℕ) → r.scope.undoes ≢ 0 → running_in (rs ++ r ∷ []) u ≡ running_in rs u
-  running_also [] r u back = let not : is_for u r ≡ false = and_right (r.scope.txn == u) (r.scope.undoes == 0) (ne_eqb r.scope.undoes 0 back) in rw not refl
-  running_also (x ∷ xs) r u back = ap (λ (o : Option Op). cond (is_for u x) (Some x.scope.op) o) (running_also xs r u back)
+  running_also : (rs : List OpScope) (r : OpScope) (u : ℕ) → r.undoes ≢ 0 → running_in (rs ++ r ∷ []) u ≡ running_in rs u
+  running_also [] r u back = let not : is_for u r ≡ false = and_right (r.txn == u) (r.undoes == 0) (ne_eqb r.undoes 0 back) in rw not refl
+  running_also (x ∷ xs) r u back = ap (λ (o : Option Op). cond (is_for u x) (Some x.op) o) (running_also xs r u back)
 
   -- an inverse begins, of the last entry of its transaction that did something
-  pub undoing_in : (k n : Core D) (t : ℕ) (e : Entry) (r : Running) → IsConsistent seen may_leave origin base k → state_in k.live.members t ≡ Some Aborting → All (λ (q : Running). q.scope.txn ≢ t) k.running.items
-      → last_effect t k.live.standing ≡ Some e → inverse_of e.op e.reply ≡ Some r.scope.op → r.op ≡ e.op → n.running.items ≡ k.running.items ++ r ∷ [] → last_operation (member_of k.live.members t) ≡ Some r.scope.undoes
-      → IsUnderWay origin.relations origin.counters (world seen origin.pages k.operations) r.scope → HasBudget r.scope → r.scope.txn ≡ t → r.scope.number ≡ k.last + 1 → r.scope.undoes ≢ 0 → r.scope.split ≡ false → r.scope.stage ≡ Planning
-      → r.scope.left ≡ 106496 → n.reserved + 106496 ≡ k.reserved → IsIn seen may_leave origin base (state_of k base) (record k { running = n.running; last = k.last + 1; reserved = n.reserved })
-  undoing_in k n t e r safe aborting idle last inverse copy items named under budget txn number back unsplit planning left freed =
+  pub undoing_in : (k n : Core D) (t : ℕ) (e : Entry) (r : OpScope) → IsConsistent seen may_leave origin base k → state_in k.live.members t ≡ Some Aborting → All (λ (q : OpScope). q.txn ≢ t) k.running.items
+      → last_effect t k.live.standing ≡ Some e → inverse_of e.op e.reply ≡ Some r.op → n.running.items ≡ k.running.items ++ r ∷ [] → last_operation (member_of k.live.members t) ≡ Some r.undoes
+      → IsUnderWay origin.relations origin.counters (world seen origin.pages k.operations) r → HasBudget r → r.txn ≡ t → r.number ≡ k.last + 1 → r.undoes ≢ 0 → r.split ≡ false → r.stage ≡ Planning
+      → r.left ≡ 106496 → n.reserved + 106496 ≡ k.reserved → IsIn seen may_leave origin base (state_of k base) (record k { running = n.running; last = k.last + 1; reserved = n.reserved })
+  undoing_in k n t e r safe aborting idle last inverse items named under budget txn number back unsplit planning left freed =
       let fit = safe.fit in
       let z : Core D = record k { running = n.running; last = k.last + 1; reserved = n.reserved } in
-      let runs : (u : ℕ) → running_in k.running.items u ≡ running_in n.running.items u = λ u. sym (running_also k.running.items r u back) ∙ ap (λ (rs : List Running). running_in rs u) (sym items) in
+      let runs : (u : ℕ) → running_in k.running.items u ≡ running_in n.running.items u = λ u. sym (running_also k.running.items r u back) ∙ ap (λ (rs : List OpScope). running_in rs u) (sym items) in
       let state : state_of k base ≡ state_of z base = λ i. record {
         book = k.book.items;
         sessions = λ u. option_map (λ (m : Member). m.session) (member_of k.live.members u);
@@ -108,15 +108,14 @@ module _ {D : Type 0} (seen : D → List ℕ) (may_leave : D → List ℕ → Ty
       let own : IsOwned k.live.members k.live.standing r = record {
         at_work = rw txn (aborting_open (member_of k.live.members t) aborting);
         room = λ fore. absurd (back fore);
-        copy = λ fore. absurd (back fore);
-        inverse = λ b2. record { named = ap (λ (u : ℕ). last_operation (member_of k.live.members u)) txn ∙ named; entry = e; last = rw txn last; inverse = inverse; copy = copy; unsplit = unsplit };
+        inverse = λ b2. record { named = ap (λ (u : ℕ). last_operation (member_of k.live.members u)) txn ∙ named; entry = e; last = rw txn last; inverse = inverse; unsplit = unsplit };
         newest = λ fore. absurd (back fore);
         taken = λ is. absurd cc;
         aborts = λ b2. ap (state_in k.live.members) txn ∙ aborting;
       } in
       let sums = sums_push k.running.items n.running.items r items in
       let pages = sums.pages in let lefts = sums.left in let keeps = sums.kept in let takes = sums.taken in
-      let test : (r.scope.undoes == 0) ≡ false = ne_eqb r.scope.undoes 0 back in
+      let test : (r.undoes == 0) ≡ false = ne_eqb r.undoes 0 back in
       let pages_r : pages_of r ≡ 0 = rw test refl in
       let kept_r : kept_bytes r ≡ 0 = rw test refl in
       let taken_r : taken_bytes r ≡ 106496 = rw test refl in
@@ -133,7 +132,7 @@ module _ {D : Type 0} (seen : D → List ℕ) (may_leave : D → List ℕ → Ty
               txn = λ is. idle i d lt (sym is ∙ txn);
             }));
             numbered = numbered_last k.last (k.last + 1) k.live.begun k.live.members k.operations.locks (appended k.operations.store.log) (omega arith) (let left_now = fit.numbers in let begun = fit.numbered.few_transactions in omega (arith, left_now, begun, freed)) fit.numbered;
-            locked = subst (λ (rs : List Running). AreHeldBy rs k.operations.locks) (sym items) (held_push k.running.items r k.operations.locks fit.locked);
+            locked = subst (λ (rs : List OpScope). AreHeldBy rs k.operations.locks) (sym items) (held_push k.running.items r k.operations.locks fit.locked);
             small = fit.small;
             log = omega arith;
             reserves = omega arith;

@@ -16,7 +16,7 @@ use Rattle.mt_core.specs.Runs.{running_in, AreApart, AreHeldBy, IsRunning, IsOwn
 use Rattle.mt_core.specs.Consistent.{Origin, state_of, IsQueued, IsEscrowed, IsConsistent, IsIn}
 use Rattle.mt_core.specs.declared.parts.Commit.{Commit}
 use Rattle.mt_core.specs.declared.parts.Core.{Core}
-use Rattle.mt_core.specs.declared.parts.Running.{Running}
+use Rattle.mt_op.specs.declared.scope.OpScope.{OpScope}
 
 module _ {D : Type 0} (seen : D → List ℕ) (may_leave : D → List ℕ → Type 0) (origin : Origin) (base : Base) where
   pub rooms_in : (k n : Core D) → IsConsistent seen may_leave origin base k → n.running.items ≡ k.running.items → n.commits.items ≡ k.commits.items → n.book.items ≡ k.book.items → vec_len n.book ≡ vec_len k.book → vec_capacity k.book ≤ vec_capacity n.book
@@ -46,7 +46,7 @@ module _ {D : Type 0} (seen : D → List ℕ) (may_leave : D → List ℕ → Ty
             owned = subst (All (IsOwned k.live.members k.live.standing)) (sym running) fit.owned;
             apart = subst (AllPairs AreApart) (sym running) fit.apart;
             numbered = fit.numbered;
-            locked = subst (λ (rs : List Running). AreHeldBy rs k.operations.locks) (sym running) fit.locked;
+            locked = subst (λ (rs : List OpScope). AreHeldBy rs k.operations.locks) (sym running) fit.locked;
             small = fit.small;
             log = omega arith;
             reserves = omega arith;

@@ -29,7 +29,7 @@ use Rattle.mt_core.specs.Restartable.{IsRestartable}
 use Rattle.mt_core.specs.Turned.{TurnsOver, turned}
 use Rattle.mt_core.specs.declared.parts.Commit.{Commit}
 use Rattle.mt_core.specs.declared.parts.Core.{Core}
-use Rattle.mt_core.specs.declared.parts.Running.{Running}
+use Rattle.mt_op.specs.declared.scope.OpScope.{OpScope}
 
 -- of which none is anybody's
 no_pending : (ps : List Pending) → ((t : ℕ) → pending_of t ps ≡ []) → ps ≡ []
@@ -55,9 +55,9 @@ module _ {D : Type 0} (seen : D → List ℕ) (may_leave : D → List ℕ → Ty
   pub none_runs : k.running.items ≡ []
   none_runs = go k.running.items safe.fit.owned
     where
-      go : (rs : List Running) → All (IsOwned k.live.members k.live.standing) rs → rs ≡ []
+      go : (rs : List OpScope) → All (IsOwned k.live.members k.live.standing) rs → rs ≡ []
       go [] all = refl
-      go (r ∷ rs) all = absurd (let at_work = (all 0 r (omega arith)).at_work in let none : is_open (member_of k.live.members r.scope.txn) ≡ false = ap is_open (none_lives r.scope.txn) in cc)
+      go (r ∷ rs) all = absurd (let at_work = (all 0 r (omega arith)).at_work in let none : is_open (member_of k.live.members r.txn) ≡ false = ap is_open (none_lives r.txn) in cc)
 
   pub none_commits : k.commits.items ≡ []
   none_commits = go k.commits.items safe.fit.queued.each
@@ -69,7 +69,7 @@ module _ {D : Type 0} (seen : D → List ℕ) (may_leave : D → List ℕ → Ty
   none_pending : k.escrow.pending ≡ []
   none_pending = no_pending k.escrow.pending (λ t. safe.fit.kept.tied t
       ∙ ap (λ (es : List Entry). pending_of t (adds es) ++ add_of t (running_in k.running.items t)) none_stands
-      ∙ ap (λ (rs : List Running). pending_of t (adds []) ++ add_of t (running_in rs t)) none_runs)
+      ∙ ap (λ (rs : List OpScope). pending_of t (adds []) ++ add_of t (running_in rs t)) none_runs)
 
   -- the pages hold what the book leaves
   pub booked_holds : base ≡ after origin.first k.book.items
@@ -133,7 +133,7 @@ module _ {D : Type 0} (seen : D → List ℕ) (may_leave : D → List ℕ → Ty
     mine : IsIn seen may_leave goes_on base (state_of k base) is_k
     mine =
         let was = safe.fit in
-        let no_running = ap (λ (rs : List Running). length rs) running in let no_commits = ap (λ (cs : List Commit). length cs) commits in let no_standing = ap (λ (es : List Entry). length es) none_stands in
+        let no_running = ap (λ (rs : List OpScope). length rs) running in let no_commits = ap (λ (cs : List Commit). length cs) commits in let no_standing = ap (λ (es : List Entry). length es) none_stands in
         let kept = ap (sum_by kept_bytes) running in let taken = ap (sum_by taken_bytes) running in let left = ap (sum_by left_of) running in let claimed_pages = ap (sum_by pages_of) running in
         let entries = ap (sum_by entry_bytes) none_stands in let entry_claims = ap (sum_by entry_pages) none_stands in let no_members = ap (λ (ms : List Member). length ms) nobody in
         let room = fresh.room in let nothing = reserves_nothing in let unclaimed = fresh.unclaimed in let booked = was.booked in

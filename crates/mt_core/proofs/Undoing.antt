@@ -25,7 +25,6 @@ use Rattle.mt_core.specs.Consistent.{Origin, IsConsistent}
 use Rattle.mt_core.specs.Runs.{AreApart, state_in}
 use Rattle.mt_core.specs.Work.{effect_steps, effects_left, steps_with, abort_steps, undo_steps, most_steps, LeavesStanding}
 use Rattle.mt_core.specs.declared.parts.Core.{Core}
-use Rattle.mt_core.specs.declared.parts.Running.{Running}
 use Rattle.mt_core.proofs.Lists.{pairs_head, pairs_tail, pair_at, all_remove}
 use Rattle.mt_core.proofs.Underway.{apart_flip}
 
@@ -68,94 +67,94 @@ module _ (all t : ℕ) where
 -- ---- the operation under way
 
 module _ (all effects : ℕ) where
-  pub back_with : (r : Running) → r.scope.undoes ≢ 0 → steps_with all r effects ≡ work_of r.scope + (effects - (2 * all + 10))
-  back_with r back = let not_zero : (r.scope.undoes == 0) ≡ false = ne_eqb r.scope.undoes 0 back in rw not_zero refl
+  pub back_with : (r : OpScope) → r.undoes ≢ 0 → steps_with all r effects ≡ work_of r + (effects - (2 * all + 10))
+  back_with r back = let not_zero : (r.undoes == 0) ≡ false = ne_eqb r.undoes 0 back in rw not_zero refl
 
-  pub fore_with : (r : Running) → r.scope.undoes ≡ 0 → steps_with all r effects ≡ r.scope.standing + 1 + effects
-  fore_with r fore = let is_zero : (r.scope.undoes == 0) ≡ true = eq-eqb r.scope.undoes 0 fore in rw is_zero refl
+  pub fore_with : (r : OpScope) → r.undoes ≡ 0 → steps_with all r effects ≡ r.standing + 1 + effects
+  fore_with r fore = let is_zero : (r.undoes == 0) ≡ true = eq-eqb r.undoes 0 fore in rw is_zero refl
 
-  pub abort_at : (rs : List Running) (i : ℕ) (r : Running) → i < length rs → r ≡ get_or rs i r → AllPairs AreApart rs → abort_steps all rs r.scope.txn effects ≡ steps_with all r effects
+  pub abort_at : (rs : List OpScope) (i : ℕ) (r : OpScope) → i < length rs → r ≡ get_or rs i r → AllPairs AreApart rs → abort_steps all rs r.txn effects ≡ steps_with all r effects
   abort_at [] i r within there apart = absurd (omega (arith, within))
-  abort_at (x ∷ xs) zero r within there apart = let same : (x.scope.txn == r.scope.txn) ≡ true = eq-eqb x.scope.txn r.scope.txn (ap (λ (y : Running). y.scope.txn) (sym there)) in
-      rw same (ap (λ (y : Running). steps_with all y effects) (sym there))
+  abort_at (x ∷ xs) zero r within there apart = let same : (x.txn == r.txn) ≡ true = eq-eqb x.txn r.txn (ap (λ (y : OpScope). y.txn) (sym there)) in
+      rw same (ap (λ (y : OpScope). steps_with all y effects) (sym there))
   abort_at (x ∷ xs) (suc i) r within there apart =
-      let other : x.scope.txn ≢ r.scope.txn = λ is. (pairs_head AreApart x xs apart i r (omega (arith, within))).txn (ap (λ (y : Running). y.scope.txn) (sym there) ∙ sym is) in
-      let away : (x.scope.txn == r.scope.txn) ≡ false = ne_eqb x.scope.txn r.scope.txn other in
+      let other : x.txn ≢ r.txn = λ is. (pairs_head AreApart x xs apart i r (omega (arith, within))).txn (ap (λ (y : OpScope). y.txn) (sym there) ∙ sym is) in
+      let away : (x.txn == r.txn) ≡ false = ne_eqb x.txn r.txn other in
       rw away (abort_at xs i r (omega (arith, within)) there (pairs_tail AreApart x xs apart))
 
   -- of a transaction that runs nothing
-  pub abort_idle : (rs : List Running) (t : ℕ) → All (λ (r : Running). r.scope.txn ≢ t) rs → abort_steps all rs t effects ≡ effects
+  pub abort_idle : (rs : List OpScope) (t : ℕ) → All (λ (r : OpScope). r.txn ≢ t) rs → abort_steps all rs t effects ≡ effects
   abort_idle [] t none = refl
-  abort_idle (x ∷ xs) t none = let away : (x.scope.txn == t) ≡ false = ne_eqb x.scope.txn t (All-head (λ (r : Running). r.scope.txn ≢ t) x xs none) in rw away (abort_idle xs t (All-tail (λ (r : Running). r.scope.txn ≢ t) x xs none))
+  abort_idle (x ∷ xs) t none = let away : (x.txn == t) ≡ false = ne_eqb x.txn t (All-head (λ (r : OpScope). r.txn ≢ t) x xs none) in rw away (abort_idle xs t (All-tail (λ (r : OpScope). r.txn ≢ t) x xs none))
 
   -- behind the end of its operation
-  pub abort_removed : (rs : List Running) (i : ℕ) (r : Running) → i < length rs → r ≡ get_or rs i r → AllPairs AreApart rs → abort_steps all (remove rs i) r.scope.txn effects ≡ effects
-  abort_removed rs i r within there apart = abort_idle (remove rs i) r.scope.txn (all_remove (λ (q : Running). q.scope.txn ≢ r.scope.txn) rs i within (λ j d lt other.
+  pub abort_removed : (rs : List OpScope) (i : ℕ) (r : OpScope) → i < length rs → r ≡ get_or rs i r → AllPairs AreApart rs → abort_steps all (remove rs i) r.txn effects ≡ effects
+  abort_removed rs i r within there apart = abort_idle (remove rs i) r.txn (all_remove (λ (q : OpScope). q.txn ≢ r.txn) rs i within (λ j d lt other.
       let pair = pair_at AreApart rs apart_flip apart i j d within lt other in
-      λ is. pair.txn (is ∙ ap (λ (y : Running). y.scope.txn) (there ∙ get_or_default rs i r d within))))
+      λ is. pair.txn (is ∙ ap (λ (y : OpScope). y.txn) (there ∙ get_or_default rs i r d within))))
 
   -- and once one has begun
-  pub abort_begun : (rs : List Running) (r : Running) → All (λ (q : Running). q.scope.txn ≢ r.scope.txn) rs → abort_steps all (rs ++ r ∷ []) r.scope.txn effects ≡ steps_with all r effects
-  abort_begun [] r none = let same : (r.scope.txn == r.scope.txn) ≡ true = eq-eqb r.scope.txn r.scope.txn refl in rw same refl
-  abort_begun (x ∷ xs) r none = let away : (x.scope.txn == r.scope.txn) ≡ false = ne_eqb x.scope.txn r.scope.txn (All-head (λ (q : Running). q.scope.txn ≢ r.scope.txn) x xs none) in rw away (abort_begun xs r (All-tail (λ (q : Running). q.scope.txn ≢ r.scope.txn) x xs none))
+  pub abort_begun : (rs : List OpScope) (r : OpScope) → All (λ (q : OpScope). q.txn ≢ r.txn) rs → abort_steps all (rs ++ r ∷ []) r.txn effects ≡ steps_with all r effects
+  abort_begun [] r none = let same : (r.txn == r.txn) ≡ true = eq-eqb r.txn r.txn refl in rw same refl
+  abort_begun (x ∷ xs) r none = let away : (x.txn == r.txn) ≡ false = ne_eqb x.txn r.txn (All-head (λ (q : OpScope). q.txn ≢ r.txn) x xs none) in rw away (abort_begun xs r (All-tail (λ (q : OpScope). q.txn ≢ r.txn) x xs none))
 
 -- ---- of parts
 
 module _ {D : Type 0} where
-  pub undo_idle : (k : Core D) (t : ℕ) → All (λ (r : Running). r.scope.txn ≢ t) k.running.items → undo_steps k t ≡ effects_left (pages k.operations.store.pool) k.live.standing t
+  pub undo_idle : (k : Core D) (t : ℕ) → All (λ (r : OpScope). r.txn ≢ t) k.running.items → undo_steps k t ≡ effects_left (pages k.operations.store.pool) k.live.standing t
   undo_idle k t none = abort_idle (pages k.operations.store.pool) (effects_left (pages k.operations.store.pool) k.live.standing t) k.running.items t none
 
-  pub undo_removed : (n : Core D) (rs : List Running) (place t all : ℕ) (q : Running) (es : List Entry) → place < length rs → q ≡ get_or rs place q → AllPairs AreApart rs → q.scope.txn ≡ t
+  pub undo_removed : (n : Core D) (rs : List OpScope) (place t all : ℕ) (q : OpScope) (es : List Entry) → place < length rs → q ≡ get_or rs place q → AllPairs AreApart rs → q.txn ≡ t
       → n.running.items ≡ remove rs place → pages n.operations.store.pool ≡ all → n.live.standing ≡ es → undo_steps n t ≡ effects_left all es t
   undo_removed n rs place t all q es within there apart own items size standing =
       (λ i. abort_steps (size i) (items i) (sym own i) (effects_left (size i) (standing i) t)) ∙ abort_removed all (effects_left all es t) rs place q within there apart
 
-  pub undo_begun : (k n : Core D) (r : Running) → All (λ (q : Running). q.scope.txn ≢ r.scope.txn) k.running.items → r.scope.undoes ≢ 0
+  pub undo_begun : (k n : Core D) (r : OpScope) → All (λ (q : OpScope). q.txn ≢ r.txn) k.running.items → r.undoes ≢ 0
       → n.running.items ≡ k.running.items ++ r ∷ [] → pages n.operations.store.pool ≡ pages k.operations.store.pool → n.live.standing ≡ k.live.standing
-      → undo_steps n r.scope.txn ≡ work_of r.scope + (effects_left (pages k.operations.store.pool) k.live.standing r.scope.txn - (2 * pages k.operations.store.pool + 10))
-  undo_begun k n r none back items size standing = let all = pages k.operations.store.pool in let effects = effects_left all k.live.standing r.scope.txn in
-      (λ i. abort_steps (size i) (items i) r.scope.txn (effects_left (size i) (standing i) r.scope.txn)) ∙ abort_begun all effects k.running.items r none ∙ back_with all effects r back
+      → undo_steps n r.txn ≡ work_of r + (effects_left (pages k.operations.store.pool) k.live.standing r.txn - (2 * pages k.operations.store.pool + 10))
+  undo_begun k n r none back items size standing = let all = pages k.operations.store.pool in let effects = effects_left all k.live.standing r.txn in
+      (λ i. abort_steps (size i) (items i) r.txn (effects_left (size i) (standing i) r.txn)) ∙ abort_begun all effects k.running.items r none ∙ back_with all effects r back
 
   -- an operation is at the place at which it was
-  pub record IsMoved (k n : Core D) (place : ℕ) (x q : Running) : Type 0 where
+  pub record IsMoved (k n : Core D) (place : ℕ) (x q : OpScope) : Type 0 where
     pub within : place < length k.running.items
     pub at : x ≡ get_or k.running.items place x
     pub apart : AllPairs AreApart k.running.items
     pub inside : place < length n.running.items
     pub now : q ≡ get_or n.running.items place q
     pub apart_now : AllPairs AreApart n.running.items
-    pub same : SameOp x.scope q.scope
-    pub total : x.scope.seen.total ≡ pages k.operations.store.pool
+    pub same : SameOp x q
+    pub total : x.seen.total ≡ pages k.operations.store.pool
     pub size : pages n.operations.store.pool ≡ pages k.operations.store.pool
     pub standing : n.live.standing ≡ k.live.standing
 
-  steps_moved : (k n : Core D) (place : ℕ) (x q : Running) → IsMoved k n place x q → let all = pages k.operations.store.pool in let effects = effects_left all k.live.standing x.scope.txn in
-      (undo_steps k x.scope.txn ≡ steps_with all x effects) × (undo_steps n x.scope.txn ≡ steps_with all q effects)
-  steps_moved k n place x q m = let all = pages k.operations.store.pool in let effects = effects_left all k.live.standing x.scope.txn in (
+  steps_moved : (k n : Core D) (place : ℕ) (x q : OpScope) → IsMoved k n place x q → let all = pages k.operations.store.pool in let effects = effects_left all k.live.standing x.txn in
+      (undo_steps k x.txn ≡ steps_with all x effects) × (undo_steps n x.txn ≡ steps_with all q effects)
+  steps_moved k n place x q m = let all = pages k.operations.store.pool in let effects = effects_left all k.live.standing x.txn in (
     abort_at all effects k.running.items place x m.within m.at m.apart,
-    (λ i. abort_steps (m.size i) n.running.items (sym m.same.txn i) (effects_left (m.size i) (m.standing i) x.scope.txn)) ∙ abort_at all effects n.running.items place q m.inside m.now m.apart_now,
+    (λ i. abort_steps (m.size i) n.running.items (sym m.same.txn i) (effects_left (m.size i) (m.standing i) x.txn)) ∙ abort_at all effects n.running.items place q m.inside m.now m.apart_now,
   )
 
-  pub inverse_moved : (k n : Core D) (place : ℕ) (x q : Running) → IsMoved k n place x q → x.scope.undoes ≢ 0 → let all = pages k.operations.store.pool in let rest = effects_left all k.live.standing x.scope.txn - (2 * all + 10) in
-      (undo_steps k x.scope.txn ≡ work_of x.scope + rest) × (undo_steps n x.scope.txn ≡ work_of q.scope + rest)
-  inverse_moved k n place x q m back = let all = pages k.operations.store.pool in let effects = effects_left all k.live.standing x.scope.txn in let both = steps_moved k n place x q m in
+  pub inverse_moved : (k n : Core D) (place : ℕ) (x q : OpScope) → IsMoved k n place x q → x.undoes ≢ 0 → let all = pages k.operations.store.pool in let rest = effects_left all k.live.standing x.txn - (2 * all + 10) in
+      (undo_steps k x.txn ≡ work_of x + rest) × (undo_steps n x.txn ≡ work_of q + rest)
+  inverse_moved k n place x q m back = let all = pages k.operations.store.pool in let effects = effects_left all k.live.standing x.txn in let both = steps_moved k n place x q m in
       (both.0 ∙ back_with all effects x back, both.1 ∙ back_with all effects q (λ is. back (sym m.same.undoes ∙ is)))
 
-  pub forward_moved : (k n : Core D) (place : ℕ) (x q : Running) → IsMoved k n place x q → x.scope.undoes ≡ 0 → let effects = effects_left (pages k.operations.store.pool) k.live.standing x.scope.txn in
-      (undo_steps k x.scope.txn ≡ x.scope.standing + 1 + effects) × (undo_steps n x.scope.txn ≡ q.scope.standing + 1 + effects)
-  forward_moved k n place x q m fore = let all = pages k.operations.store.pool in let effects = effects_left all k.live.standing x.scope.txn in let both = steps_moved k n place x q m in
+  pub forward_moved : (k n : Core D) (place : ℕ) (x q : OpScope) → IsMoved k n place x q → x.undoes ≡ 0 → let effects = effects_left (pages k.operations.store.pool) k.live.standing x.txn in
+      (undo_steps k x.txn ≡ x.standing + 1 + effects) × (undo_steps n x.txn ≡ q.standing + 1 + effects)
+  forward_moved k n place x q m fore = let all = pages k.operations.store.pool in let effects = effects_left all k.live.standing x.txn in let both = steps_moved k n place x q m in
       (both.0 ∙ fore_with all effects x fore, both.1 ∙ fore_with all effects q (m.same.undoes ∙ fore))
 
 module _ {D : Type 0} (seen : D → List ℕ) (may_leave : D → List ℕ → Type 0) (origin : Origin) (base : Base) where
   -- how many pages there are, by an operation that is under way
-  pub total_at : (k : Core D) (place : ℕ) (x : Running) → IsConsistent seen may_leave origin base k → place < length k.running.items → x ≡ get_or k.running.items place x → x.scope.seen.total ≡ pages k.operations.store.pool
-  total_at k place x safe within at = ap (λ (r : Running). r.scope.seen.total) at ∙ (safe.runs place x within).under.total
+  pub total_at : (k : Core D) (place : ℕ) (x : OpScope) → IsConsistent seen may_leave origin base k → place < length k.running.items → x ≡ get_or k.running.items place x → x.seen.total ≡ pages k.operations.store.pool
+  total_at k place x safe within at = ap (λ (r : OpScope). r.seen.total) at ∙ (safe.runs place x within).under.total
 
-  pub moved_of : (k n : Core D) (place : ℕ) (x : Running) → IsConsistent seen may_leave origin base k → IsConsistent seen may_leave origin base n → place < length k.running.items → x ≡ get_or k.running.items place x
-      → length n.running.items ≡ length k.running.items → ((q : Running) → q ≡ get_or n.running.items place q → SameOp x.scope q.scope) → n.live ≡ k.live → IsMoved k n place x (get_or n.running.items place x)
+  pub moved_of : (k n : Core D) (place : ℕ) (x : OpScope) → IsConsistent seen may_leave origin base k → IsConsistent seen may_leave origin base n → place < length k.running.items → x ≡ get_or k.running.items place x
+      → length n.running.items ≡ length k.running.items → ((q : OpScope) → q ≡ get_or n.running.items place q → SameOp x q) → n.live ≡ k.live → IsMoved k n place x (get_or n.running.items place x)
   moved_of k n place x safe safe_now within at count same live =
       let inside : place < length n.running.items = omega (arith, within, count) in
-      let q : Running = get_or n.running.items place x in
+      let q : OpScope = get_or n.running.items place x in
       let now : q ≡ get_or n.running.items place q = get_or_default n.running.items place x q inside in
       let total = total_at k place x safe within at in
       record {
@@ -198,12 +197,12 @@ effect_of all t e = go (e.txn == t) (is_some (inverse_of e.op e.reply))
     go false b = omega arith
 
 -- none of its operations under way is an inverse
-under_way : (all effects t : ℕ) (rs : List Running) → All (λ (r : Running). r.scope.txn ≡ t → (r.scope.undoes ≡ 0) × (r.scope.standing ≤ 8)) rs → abort_steps all rs t effects ≤ effects + 9
+under_way : (all effects t : ℕ) (rs : List OpScope) → All (λ (r : OpScope). r.txn ≡ t → (r.undoes ≡ 0) × (r.standing ≤ 8)) rs → abort_steps all rs t effects ≤ effects + 9
 under_way all effects t [] each = omega arith
-under_way all effects t (x ∷ xs) each = go (x.scope.txn == t) refl (under_way all effects t xs (All-tail (λ (r : Running). r.scope.txn ≡ t → (r.scope.undoes ≡ 0) × (r.scope.standing ≤ 8)) x xs each))
+under_way all effects t (x ∷ xs) each = go (x.txn == t) refl (under_way all effects t xs (All-tail (λ (r : OpScope). r.txn ≡ t → (r.undoes ≡ 0) × (r.standing ≤ 8)) x xs each))
   where
-    go : (c : Bool) → (x.scope.txn == t) ≡ c → abort_steps all xs t effects ≤ effects + 9 → cond c (steps_with all x effects) (abort_steps all xs t effects) ≤ effects + 9
-    go true is rest = let own = All-head (λ (r : Running). r.scope.txn ≡ t → (r.scope.undoes ≡ 0) × (r.scope.standing ≤ 8)) x xs each (eqb-true x.scope.txn t is) in let with = fore_with all effects x own.0 in let few = own.1 in omega (arith, with, few)
+    go : (c : Bool) → (x.txn == t) ≡ c → abort_steps all xs t effects ≤ effects + 9 → cond c (steps_with all x effects) (abort_steps all xs t effects) ≤ effects + 9
+    go true is rest = let own = All-head (λ (r : OpScope). r.txn ≡ t → (r.undoes ≡ 0) × (r.standing ≤ 8)) x xs each (eqb-true x.txn t is) in let with = fore_with all effects x own.0 in let few = own.1 in omega (arith, with, few)
     go false is rest = rest
 
 most_of : (steps effects n w : ℕ) → steps ≤ effects + 9 → effects ≤ n * w → 10 ≤ w → steps ≤ (n + 1) * w
@@ -213,8 +212,8 @@ module _ {D : Type 0} (seen : D → List ℕ) (may_leave : D → List ℕ → Ty
   pub few_steps : (k : Core D) (t : ℕ) → IsConsistent seen may_leave origin base k → state_in k.live.members t ≡ Some Open → undo_steps k t ≤ most_steps k t
   few_steps k t safe opened =
       let all = pages k.operations.store.pool in let effects = effects_left all k.live.standing t in
-      let each : All (λ (r : Running). r.scope.txn ≡ t → (r.scope.undoes ≡ 0) × (r.scope.standing ≤ 8)) k.running.items = λ i d lt own. let r = get_or k.running.items i d in (
-        ⊎_elim (λ (fore : r.scope.undoes ≡ 0). fore) (λ (back : r.scope.undoes ≡ 0 → ⊥). let now : Some Open ≡ Some Aborting = sym opened ∙ ap (state_in k.live.members) (sym own) ∙ (safe.fit.owned i d lt).aborts back in absurd cc) (cases_eq r.scope.undoes 0),
-        few_stand origin.relations origin.counters (world seen origin.pages k.operations) r.scope (safe.runs i d lt).under (safe.runs i d lt).moving,
+      let each : All (λ (r : OpScope). r.txn ≡ t → (r.undoes ≡ 0) × (r.standing ≤ 8)) k.running.items = λ i d lt own. let r = get_or k.running.items i d in (
+        ⊎_elim (λ (fore : r.undoes ≡ 0). fore) (λ (back : r.undoes ≡ 0 → ⊥). let now : Some Open ≡ Some Aborting = sym opened ∙ ap (state_in k.live.members) (sym own) ∙ (safe.fit.owned i d lt).aborts back in absurd cc) (cases_eq r.undoes 0),
+        few_stand origin.relations origin.counters (world seen origin.pages k.operations) r (safe.runs i d lt).under (safe.runs i d lt).moving,
       ) in
       most_of (undo_steps k t) effects (length (kept (only t) k.live.standing)) (2 * all + 10) (under_way all effects t k.running.items each) (few_of (effect_steps all t) t (2 * all + 10) (effect_of all t) k.live.standing) (omega arith)

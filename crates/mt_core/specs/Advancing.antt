@@ -7,7 +7,7 @@ use Rattle.mt_core.specs.Steps.{LeavesExplained, TellsOther, WantsFrame}
 use Rattle.mt_core.specs.declared.calls.Called.{Called}
 use Rattle.mt_core.specs.declared.parts.Core.{Core}
 use Rattle.mt_model.specs.declared.operations.Op.{Op}
-use Rattle.mt_core.specs.declared.parts.Running.{Running}
+use Rattle.mt_op.specs.declared.scope.OpScope.{OpScope}
 use Rattle.mt_log.specs.Words.{durable}
 use Rattle.mt_core.specs.Work.{LeavesStanding, LeavesUndo, CallRuns, RunsBehind}
 use Rattle.mt_model.specs.Model.{Base}
@@ -43,20 +43,21 @@ module _ {D : Type 0} (seen : D → List ℕ) (may_leave : D → List ℕ → Ty
   -- A step of the operation at a place answered this, from parts k to parts n.
   pub record IsAdvanced (k n : Core D) (place : ℕ) (result : Result Stepped Refusal) : Type 0 where
     pub length : length n.running.items ≡ length k.running.items
-    pub same : (origin : Origin) (base : Base) → IsConsistent seen may_leave origin base k → (r q : Running) → r ≡ slice_index_or k.running.items place r → q ≡ slice_index_or n.running.items place q → SameOp r.scope q.scope
+    pub same : (origin : Origin) (base : Base) → IsConsistent seen may_leave origin base k → (r q : OpScope) → r ≡ slice_index_or k.running.items place r → q ≡ slice_index_or n.running.items place q → SameOp r q
     pub live : n.live ≡ k.live
     pub commits : n.commits ≡ k.commits
     pub full : result ≡ Ok stepped.Flush → WantsFrame k n
-    pub works : (r q : Running) → r ≡ slice_index_or k.running.items place r → q ≡ slice_index_or n.running.items place q → Works r.scope q.scope result
-    pub locks : AtPlace k.running.items place (λ r. KeepsLocks r.scope.number (IsNext k.operations.rooms k.operations.locks r.scope) k.operations.locks n.operations.locks result)
+    pub works : (r q : OpScope) → r ≡ slice_index_or k.running.items place r → q ≡ slice_index_or n.running.items place q → Works r q result
+    pub locks : AtPlace k.running.items place (λ r. KeepsLocks r.number (IsNext k.operations.rooms k.operations.locks r) k.operations.locks n.operations.locks result)
     pub why : IfErr result IsCause
     pub faults : TellsFaults (failures k.operations.store.device) (failures n.operations.store.device) result
     pub advances : (origin : Origin) (base : Base) → IsConsistent seen may_leave origin base k → Advances seen may_leave origin base (state_of k base) n place result
-    pub other : (origin : Origin) (base : Base) → IsConsistent seen may_leave origin base k → AtPlace k.running.items place (λ r. TellsOther n.running.items r.scope.txn result)
+    pub other : (origin : Origin) (base : Base) → IsConsistent seen may_leave origin base k → AtPlace k.running.items place (λ r. TellsOther n.running.items r.txn result)
     pub book : n.book ≡ k.book
     pub durable : durable n.operations.store.log ≡ durable k.operations.store.log
     pub moments : LeavesExplained seen may_leave moment left_since k n
-    pub appends : (origin : Origin) (base : Base) → IsConsistent seen may_leave origin base k → AtPlace n.running.items place (λ r. StepAppends origin k n r.scope result)
+    pub once : moment n.operations.store.device ≤ moment k.operations.store.device + 1
+    pub appends : (origin : Origin) (base : Base) → IsConsistent seen may_leave origin base k → AtPlace n.running.items place (λ r. StepAppends origin k n r result)
 
 module _ {D : Type 0} (seen : D → List ℕ) (may_leave : D → List ℕ → Type 0) (failures : D → ℕ) (moment : D → ℕ) (left_since : D → ℕ → List ℕ → Type 0) where
   -- The operation at a place was taken back a step, which answered this, from parts k to parts n.
@@ -66,20 +67,21 @@ module _ {D : Type 0} (seen : D → List ℕ) (may_leave : D → List ℕ → Ty
     pub locks : n.operations.locks ≡ k.operations.locks
     pub full : result ≡ Ok back.Flush → WantsFrame k n
     pub length : length n.running.items ≡ length k.running.items
-    pub same : (origin : Origin) (base : Base) → IsConsistent seen may_leave origin base k → (r q : Running) → r ≡ slice_index_or k.running.items place r → q ≡ slice_index_or n.running.items place q → SameOp r.scope q.scope
-    pub puts : (r q : Running) → r ≡ slice_index_or k.running.items place r → q ≡ slice_index_or n.running.items place q → LeavesStanding r.scope q.scope result
+    pub same : (origin : Origin) (base : Base) → IsConsistent seen may_leave origin base k → (r q : OpScope) → r ≡ slice_index_or k.running.items place r → q ≡ slice_index_or n.running.items place q → SameOp r q
+    pub puts : (r q : OpScope) → r ≡ slice_index_or k.running.items place r → q ≡ slice_index_or n.running.items place q → LeavesStanding r q result
     pub why : IfErr result IsCause
     pub faults : TellsFaults (failures k.operations.store.device) (failures n.operations.store.device) result
     pub back : (origin : Origin) (base : Base) → IsConsistent seen may_leave origin base k → GoesBack seen may_leave origin base (state_of k base) n place result
     pub book : n.book ≡ k.book
     pub durable : durable n.operations.store.log ≡ durable k.operations.store.log
     pub moments : LeavesExplained seen may_leave moment left_since k n
+    pub once : moment n.operations.store.device ≤ moment k.operations.store.device + 1
     pub appends : (origin : Origin) (base : Base) → IsConsistent seen may_leave origin base k → QuietlyAppends origin.pages k n
 
 -- The operation at a place, which was ready and no inverse, ended with this reply.
 pub record EndsReady {D : Type 0} (seen : D → List ℕ) (may_leave : D → List ℕ → Type 0) (k n : Core D) (place : ℕ) (reply : Reply) : Type 0 where
   pub items : n.running.items ≡ remove k.running.items place
-  pub locks : AtPlace k.running.items place (λ r. n.operations.locks ≡ locks_without r.scope.number k.operations.locks)
+  pub locks : AtPlace k.running.items place (λ r. n.operations.locks ≡ locks_without r.number k.operations.locks)
   pub store : n.operations.store ≡ k.operations.store
   pub states : SameStates k n
   pub commits : n.commits ≡ k.commits
@@ -89,21 +91,21 @@ pub record EndsReady {D : Type 0} (seen : D → List ℕ) (may_leave : D → Lis
 -- The inverse at a place, which was ready, ended.
 pub record EndsInverse {D : Type 0} (seen : D → List ℕ) (may_leave : D → List ℕ → Type 0) (k n : Core D) (place : ℕ) : Type 0 where
   pub items : n.running.items ≡ remove k.running.items place
-  pub locks : AtPlace k.running.items place (λ r. n.operations.locks ≡ locks_without r.scope.number k.operations.locks)
+  pub locks : AtPlace k.running.items place (λ r. n.operations.locks ≡ locks_without r.number k.operations.locks)
   pub store : n.operations.store ≡ k.operations.store
   pub states : SameStates k n
   pub commits : n.commits ≡ k.commits
-  pub ends : (origin : Origin) (base : Base) (reply : Reply) → IsReadyAt seen may_leave origin base k place reply → AtPlace k.running.items place (λ r. UndoesIn seen may_leave origin base (state_of k base) n r.scope.txn r.scope.op)
+  pub ends : (origin : Origin) (base : Base) (reply : Reply) → IsReadyAt seen may_leave origin base k place reply → AtPlace k.running.items place (λ r. UndoesIn seen may_leave origin base (state_of k base) n r.txn r.op)
   pub notes : AtPlace k.running.items place (NotesUndone k n)
 
 -- The operation at a place, which was taken back and no inverse, is gone.
 pub record DropsOut {D : Type 0} (seen : D → List ℕ) (may_leave : D → List ℕ → Type 0) (k n : Core D) (place : ℕ) : Type 0 where
   pub items : n.running.items ≡ remove k.running.items place
   pub store : n.operations.store ≡ k.operations.store
-  pub locks : AtPlace k.running.items place (λ r. n.operations.locks ≡ locks_without r.scope.number k.operations.locks)
+  pub locks : AtPlace k.running.items place (λ r. n.operations.locks ≡ locks_without r.number k.operations.locks)
   pub live : n.live ≡ k.live
   pub commits : n.commits ≡ k.commits
-  pub drops : (origin : Origin) (base : Base) → IsClearedAt seen may_leave origin base k place → AtPlace k.running.items place (λ r. DropsIn seen may_leave origin base (state_of k base) n r.scope.txn)
+  pub drops : (origin : Origin) (base : Base) → IsClearedAt seen may_leave origin base k place → AtPlace k.running.items place (λ r. DropsIn seen may_leave origin base (state_of k base) n r.txn)
   pub book : n.book ≡ k.book
 
 -- The first of the commits under way, which is of this transaction, is booked.

@@ -53,7 +53,6 @@ use Rattle.mt_core.specs.declared.calls.Called.{Called}
 use Rattle.mt_core.specs.declared.calls.Called.TheVariants as answer
 use Rattle.mt_core.specs.declared.parts.Commit.{Commit}
 use Rattle.mt_core.specs.declared.parts.Core.{Core}
-use Rattle.mt_core.specs.declared.parts.Running.{Running}
 
 -- What a kernel began on: the base on which its book begins, and the schema; and of its log's area the pages as they
 -- were when that began, the base that they held, and the commits that were in the book by then.
@@ -219,22 +218,22 @@ abbrev pub log_kept : {D : Type 0} → Core D → ℕ
 log_kept k = used k.operations.store.log + sum_by left_of k.running.items + k.reserved
 
 -- of the operation at a place
-abbrev pub AtPlace : List Running → ℕ → (Running → Type 0) → Type 0
-AtPlace rs place P = (r : Running) → r ≡ slice_index_or rs place r → P r
+abbrev pub AtPlace : List OpScope → ℕ → (OpScope → Type 0) → Type 0
+AtPlace rs place P = (r : OpScope) → r ≡ slice_index_or rs place r → P r
 
 -- the place of a transaction's operation, if it has one
-abbrev pub IsPlaceOf : List Running → ℕ → Option ℕ → Type 0
-IsPlaceOf rs t (Some place) = (place < length rs) × AtPlace rs place (λ r. r.scope.txn ≡ t)
-IsPlaceOf rs t None = All (λ (r : Running). r.scope.txn ≢ t) rs
+abbrev pub IsPlaceOf : List OpScope → ℕ → Option ℕ → Type 0
+IsPlaceOf rs t (Some place) = (place < length rs) × AtPlace rs place (λ r. r.txn ≡ t)
+IsPlaceOf rs t None = All (λ (r : OpScope). r.txn ≢ t) rs
 
 -- all operations but the one at a place are under way, and it has come to a stage
-pub record IsAlone {D : Type 0} (seen : D → List ℕ) (origin : Origin) (k : Core D) (place : ℕ) (r : Running) (come : Stage) : Type 0 where
+pub record IsAlone {D : Type 0} (seen : D → List ℕ) (origin : Origin) (k : Core D) (place : ℕ) (r : OpScope) (come : Stage) : Type 0 where
   pub within : place < length k.running.items
   pub there : r ≡ slice_index_or k.running.items place r
-  pub own : IsUnderWay origin.relations origin.counters (world seen origin.pages k.operations) r.scope
-  pub stage : r.scope.stage ≡ come
-  pub known : r.scope.number ≤ k.last
-  pub others : (i : ℕ) (d : Running) → i < length k.running.items → i ≢ place → IsRunning origin.relations origin.counters (world seen origin.pages k.operations) k.last (slice_index_or k.running.items i d)
+  pub own : IsUnderWay origin.relations origin.counters (world seen origin.pages k.operations) r
+  pub stage : r.stage ≡ come
+  pub known : r.number ≤ k.last
+  pub others : (i : ℕ) (d : OpScope) → i < length k.running.items → i ≢ place → IsRunning origin.relations origin.counters (world seen origin.pages k.operations) k.last (slice_index_or k.running.items i d)
 
 -- before its end, the records had each call; none takes it back
 pub record IsReportedBefore (last : ℕ) (ms : List Member) (records : List Record) (s : OpScope) (reply : Reply) : Type 0 where
@@ -244,21 +243,21 @@ pub record IsReportedBefore (last : ℕ) (ms : List Member) (records : List Reco
   pub standing : s.undoes ≡ 0 → some_record (undoes_op s.txn s.number) was ≡ false
 
 -- The operation at a place has acted on the pages, with this reply, and has not ended yet.
-pub record IsReady {D : Type 0} (seen : D → List ℕ) (may_leave : D → List ℕ → Type 0) (origin : Origin) (base : Base) (k : Core D) (place : ℕ) (r : Running) (reply : Reply) : Type 0 where
+pub record IsReady {D : Type 0} (seen : D → List ℕ) (may_leave : D → List ℕ → Type 0) (origin : Origin) (base : Base) (k : Core D) (place : ℕ) (r : OpScope) (reply : Reply) : Type 0 where
   pub fit : IsFit seen may_leave origin base k
   pub alone : IsAlone seen origin k place r Ready
-  pub holds : Holds (held_in (world seen origin.pages k.operations)) (base_after base r.scope.op)
-  pub replies : reply_of base r.scope.op ≡ reply
+  pub holds : Holds (held_in (world seen origin.pages k.operations)) (base_after base r.op)
+  pub replies : reply_of base r.op ≡ reply
   pub small : HasSmallReply reply
-  pub outcome : IsReportedBefore k.last k.live.members (appended k.operations.store.log) r.scope reply
-  pub claims : claimed k.operations + own_needs r.scope.op r.scope.split ≡ sum_by pages_of k.running.items + sum_by entry_pages k.live.standing
+  pub outcome : IsReportedBefore k.last k.live.members (appended k.operations.store.log) r reply
+  pub claims : claimed k.operations + own_needs r.op r.split ≡ sum_by pages_of k.running.items + sum_by entry_pages k.live.standing
 
 -- what is at a place is ready, with this reply
 abbrev pub IsReadyAt : {D : Type 0} → (D → List ℕ) → (D → List ℕ → Type 0) → Origin → Base → Core D → ℕ → Reply → Type 0
 IsReadyAt seen may_leave origin base k place reply = AtPlace k.running.items place (λ r. IsReady seen may_leave origin base k place r reply)
 
 -- The operation at a place is taken back: nothing of it is left but its page locks, and its claims.
-pub record IsCleared {D : Type 0} (seen : D → List ℕ) (may_leave : D → List ℕ → Type 0) (origin : Origin) (base : Base) (k : Core D) (place : ℕ) (r : Running) : Type 0 where
+pub record IsCleared {D : Type 0} (seen : D → List ℕ) (may_leave : D → List ℕ → Type 0) (origin : Origin) (base : Base) (k : Core D) (place : ℕ) (r : OpScope) : Type 0 where
   pub fit : IsFit seen may_leave origin base k
   pub alone : IsAlone seen origin k place r Cleared
   pub holds : Holds (held_in (world seen origin.pages k.operations)) base
@@ -284,7 +283,7 @@ OnlyOperations k n = n ≡ record k { operations = n.operations }
 
 -- what a step of the operation at a place leaves, of parts that were in this state
 abbrev pub Advances : {D : Type 0} → (D → List ℕ) → (D → List ℕ → Type 0) → Origin → Base → State → Core D → ℕ → Result Stepped Refusal → Type 0
-Advances seen may_leave origin base s k place (Ok (stepped.Ready first second)) = ((r : Running) → r ≡ slice_index_or k.running.items place r → IsReady seen may_leave origin base k place r first) × (second ≡ first) × (s ≡ state_of k base)
+Advances seen may_leave origin base s k place (Ok (stepped.Ready first second)) = ((r : OpScope) → r ≡ slice_index_or k.running.items place r → IsReady seen may_leave origin base k place r first) × (second ≡ first) × (s ≡ state_of k base)
 Advances seen may_leave origin base s k place (Ok stepped.Went) = IsIn seen may_leave origin base s k
 Advances seen may_leave origin base s k place (Ok (stepped.Wait holder)) = IsIn seen may_leave origin base s k
 Advances seen may_leave origin base s k place (Ok (stepped.Again holder)) = IsIn seen may_leave origin base s k
@@ -293,7 +292,7 @@ Advances seen may_leave origin base s k place (Err why) = IsIn seen may_leave or
 
 -- what a step of its taking back leaves
 abbrev pub GoesBack : {D : Type 0} → (D → List ℕ) → (D → List ℕ → Type 0) → Origin → Base → State → Core D → ℕ → Result TakenBack Refusal → Type 0
-GoesBack seen may_leave origin base s k place (Ok taken.Clear) = ((r : Running) → r ≡ slice_index_or k.running.items place r → IsCleared seen may_leave origin base k place r) × (s ≡ state_of k base)
+GoesBack seen may_leave origin base s k place (Ok taken.Clear) = ((r : OpScope) → r ≡ slice_index_or k.running.items place r → IsCleared seen may_leave origin base k place r) × (s ≡ state_of k base)
 GoesBack seen may_leave origin base s k place (Ok taken.More) = IsIn seen may_leave origin base s k
 GoesBack seen may_leave origin base s k place (Ok taken.Flush) = IsIn seen may_leave origin base s k
 GoesBack seen may_leave origin base s k place (Err why) = IsIn seen may_leave origin base s k
@@ -304,13 +303,13 @@ pub record MayRun {D : Type 0} (origin : Origin) (k : Core D) (t : ℕ) (op : Op
   pub within : IsWithin origin.relations origin.counters op
   pub at_work : is_open (member_of k.live.members t) ≡ true
   pub room : has_room (member_of k.live.members t) ≡ true
-  pub idle : All (λ (r : Running). r.scope.txn ≢ t) k.running.items
+  pub idle : All (λ (r : OpScope). r.txn ≢ t) k.running.items
 
 -- but for room for its end
 pub record MayBeCalled {D : Type 0} (origin : Origin) (k : Core D) (t : ℕ) (op : Op) : Type 0 where
   pub within : IsWithin origin.relations origin.counters op
   pub at_work : is_open (member_of k.live.members t) ≡ true
-  pub idle : All (λ (r : Running). r.scope.txn ≢ t) k.running.items
+  pub idle : All (λ (r : OpScope). r.txn ≢ t) k.running.items
 
 -- Its lock is held: nobody was in the way. But for that lock the parts are as they were.
 pub record IsLocked {D : Type 0} (seen : D → List ℕ) (may_leave : D → List ℕ → Type 0) (origin : Origin) (base : Base) (was_locks : List (Object × List Holder)) (k : Core D) (t : ℕ) (op : Op) : Type 0 where
@@ -358,15 +357,15 @@ IsAskedFor e t (Delete r k) = Unit {0}
 IsAskedFor e t (Read c) = Unit {0}
 
 -- whose operation under way has a number, if one has
-abbrev pub IsOwnerOf : List Running → ℕ → Option ℕ → Type 0
-IsOwnerOf rs op (Some t) = (place : ℕ) × (place < length rs) × AtPlace rs place (λ r. (r.scope.number ≡ op) × (r.scope.txn ≡ t))
-IsOwnerOf rs op None = All (λ (r : Running). r.scope.number ≢ op) rs
+abbrev pub IsOwnerOf : List OpScope → ℕ → Option ℕ → Type 0
+IsOwnerOf rs op (Some t) = (place : ℕ) × (place < length rs) × AtPlace rs place (λ r. (r.number ≡ op) × (r.txn ≡ t))
+IsOwnerOf rs op None = All (λ (r : OpScope). r.number ≢ op) rs
 
 -- ---- the events of the laws
 
 -- the operation has ended, on the base that it leaves
-abbrev pub EndsIn : {D : Type 0} → (D → List ℕ) → (D → List ℕ → Type 0) → Origin → Base → Core D → Core D → Running → Type 0
-EndsIn seen may_leave origin base k n r = IsIn seen may_leave origin (base_after base r.scope.op) (ended (state_of k base) r.scope.txn r.scope.op) n
+abbrev pub EndsIn : {D : Type 0} → (D → List ℕ) → (D → List ℕ → Type 0) → Origin → Base → Core D → Core D → OpScope → Type 0
+EndsIn seen may_leave origin base k n r = IsIn seen may_leave origin (base_after base r.op) (ended (state_of k base) r.txn r.op) n
 
 -- the inverse has, of the last effect of its transaction, whose add is given back if it is one
 pub record UndoesIn {D : Type 0} (seen : D → List ℕ) (may_leave : D → List ℕ → Type 0) (origin : Origin) (base : Base) (s : State) (n : Core D) (t : ℕ) (inverse : Op) : Type 0 where
@@ -386,7 +385,7 @@ pub record DropsIn {D : Type 0} (seen : D → List ℕ) (may_leave : D → List 
 
 -- a step of its taking back; at its end the operation at the place is dropped
 abbrev pub BacksIn : {D : Type 0} → (D → List ℕ) → (D → List ℕ → Type 0) → Origin → Base → Core D → Core D → ℕ → Result TakenBack Refusal → Type 0
-BacksIn seen may_leave origin base k n place (Ok taken.Clear) = AtPlace k.running.items place (λ r. DropsIn seen may_leave origin base (state_of k base) n r.scope.txn)
+BacksIn seen may_leave origin base k n place (Ok taken.Clear) = AtPlace k.running.items place (λ r. DropsIn seen may_leave origin base (state_of k base) n r.txn)
 BacksIn seen may_leave origin base k n place (Ok taken.More) = IsIn seen may_leave origin base (state_of k base) n
 BacksIn seen may_leave origin base k n place (Ok taken.Flush) = IsIn seen may_leave origin base (state_of k base) n
 BacksIn seen may_leave origin base k n place (Err why) = IsIn seen may_leave origin base (state_of k base) n

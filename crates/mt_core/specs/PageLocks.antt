@@ -8,7 +8,7 @@ use Rattle.mt_op.specs.declared.answers.TakenBack.{TakenBack}
 use Rattle.mt_op.specs.declared.answers.TakenBack.TheVariants as taken
 use Rattle.mt_plock.specs.Releasing.{locks_without}
 use Rattle.mt_core.specs.declared.parts.Core.{Core}
-use Rattle.mt_core.specs.declared.parts.Running.{Running}
+use Rattle.mt_op.specs.declared.scope.OpScope.{OpScope}
 use Rattle.mt_core.specs.declared.steps.Going.{Going}
 use Rattle.mt_core.specs.declared.steps.Going.TheVariants as going
 use Rattle.mt_core.specs.declared.steps.Stepping.{Stepping}
@@ -23,15 +23,15 @@ step_of going.Flush = stepped.Flush
 
 -- They stay but for what its plan asks for next: it gets this lock, and no other; or waits for the smallest operation
 -- in the way; or gives all its own back, and no other's, if it begins anew or ends. A refused step leaves all.
-abbrev pub KeepsPageLocks : {D : Type 0} → Core D → Core D → Running → Result Stepping Refusal → Type 0
-KeepsPageLocks k n r (Ok (Ended reply)) = n.operations.locks ≡ locks_without r.scope.number k.operations.locks
-KeepsPageLocks k n r (Ok (GoingOn g)) = KeepsLocks r.scope.number (IsNext k.operations.rooms k.operations.locks r.scope) k.operations.locks n.operations.locks (Ok (step_of g))
+abbrev pub KeepsPageLocks : {D : Type 0} → Core D → Core D → OpScope → Result Stepping Refusal → Type 0
+KeepsPageLocks k n r (Ok (Ended reply)) = n.operations.locks ≡ locks_without r.number k.operations.locks
+KeepsPageLocks k n r (Ok (GoingOn g)) = KeepsLocks r.number (IsNext k.operations.rooms k.operations.locks r) k.operations.locks n.operations.locks (Ok (step_of g))
 KeepsPageLocks k n r (Err why) = n.operations.locks ≡ k.operations.locks
 
 -- They stay while a step of its taking back puts a page back. Once nothing else of it is left its own go, and no
 -- other's.
-abbrev pub GivesLocksBack : {D : Type 0} → Core D → Core D → Running → Result TakenBack Refusal → Type 0
-GivesLocksBack k n r (Ok taken.Clear) = n.operations.locks ≡ locks_without r.scope.number k.operations.locks
+abbrev pub GivesLocksBack : {D : Type 0} → Core D → Core D → OpScope → Result TakenBack Refusal → Type 0
+GivesLocksBack k n r (Ok taken.Clear) = n.operations.locks ≡ locks_without r.number k.operations.locks
 GivesLocksBack k n r (Ok taken.More) = n.operations.locks ≡ k.operations.locks
 GivesLocksBack k n r (Ok taken.Flush) = n.operations.locks ≡ k.operations.locks
 GivesLocksBack k n r (Err why) = n.operations.locks ≡ k.operations.locks

@@ -25,7 +25,6 @@ use Rattle.mt_core.specs.Booked.{txns_of, durable_count}
 use Rattle.mt_core.specs.Consistent.{Origin, session_in, IsConsistent}
 use Rattle.mt_core.specs.Runs.{is_at_work}
 use Rattle.mt_core.specs.declared.parts.Core.{Core}
-use Rattle.mt_core.specs.declared.parts.Running.{Running}
 
 -- ---- what did something
 
@@ -143,17 +142,17 @@ pub record SameBook {D : Type 0} (k n : Core D) : Type 0 where
   pub commits : n.commits.items ≡ k.commits.items
 
 -- an operation stands after all others, with this reply
-pub record NotesEnd {D : Type 0} (k n : Core D) (r : Running) (reply : Reply) : Type 0 where
+pub record NotesEnd {D : Type 0} (k n : Core D) (r : OpScope) (reply : Reply) : Type 0 where
   pub same : SameBook k n
-  pub standing : n.live.standing ≡ k.live.standing ++ record { txn = r.scope.txn; op = r.op; reply = reply } ∷ []
-  pub members : IsChanged k.live.members n.live.members r.scope.txn (λ m. with_call m r.scope.number (r.op, reply))
+  pub standing : n.live.standing ≡ k.live.standing ++ record { txn = r.txn; op = r.op; reply = reply } ∷ []
+  pub members : IsChanged k.live.members n.live.members r.txn (λ m. with_call m r.number (r.op, reply))
   pub count : length n.live.members ≡ length k.live.members
 
 -- the last effect of a transaction stands no more
-pub record NotesUndone {D : Type 0} (k n : Core D) (r : Running) : Type 0 where
+pub record NotesUndone {D : Type 0} (k n : Core D) (r : OpScope) : Type 0 where
   pub same : SameBook k n
-  pub standing : n.live.standing ≡ cut_back r.scope.txn k.live.standing
-  pub members : IsChanged k.live.members n.live.members r.scope.txn taken_back
+  pub standing : n.live.standing ≡ cut_back r.txn k.live.standing
+  pub members : IsChanged k.live.members n.live.members r.txn taken_back
   pub count : length n.live.members ≡ length k.live.members
 
 -- parts that are consistent, and become so, stay restartable

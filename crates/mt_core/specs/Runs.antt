@@ -18,36 +18,36 @@ use Rattle.mt_op.specs.declared.scope.Stage.{Stage}
 use Rattle.mt_op.specs.declared.scope.Stage.TheVariants.{Planning, Writing, Taking}
 use Rattle.mt_plock.specs.declared.guards.PageLock.{PageLock}
 use Rattle.mt_steps.specs.Plans.{own_needs, undo_pages}
-use Rattle.mt_core.specs.declared.parts.Running.{Running}
+use Rattle.mt_op.specs.declared.scope.OpScope.{OpScope}
 
 -- a transaction's operation that is no inverse
-abbrev pub is_for : ℕ → Running → Bool
-is_for t r = (r.scope.txn == t) && (r.scope.undoes == 0)
+abbrev pub is_for : ℕ → OpScope → Bool
+is_for t r = (r.txn == t) && (r.undoes == 0)
 
-abbrev pub running_in : List Running → ℕ → Option Op
+abbrev pub running_in : List OpScope → ℕ → Option Op
 running_in [] t = None
-running_in (r ∷ rs) t = cond (is_for t r) (Some r.scope.op) (running_in rs t)
+running_in (r ∷ rs) t = cond (is_for t r) (Some r.op) (running_in rs t)
 
-abbrev pub AreApart : Running → Running → Type 0
-AreApart r q = IsOther r.scope q.scope
+abbrev pub AreApart : OpScope → OpScope → Type 0
+AreApart r q = IsOther r q
 
 -- an operation under way has this number
-abbrev pub is_under_way : List Running → ℕ → Bool
-is_under_way rs number = list_any (λ (r : Running). r.scope.number == number) rs
+abbrev pub is_under_way : List OpScope → ℕ → Bool
+is_under_way rs number = list_any (λ (r : OpScope). r.number == number) rs
 
 -- each page lock is of an operation under way
-abbrev pub AreHeldBy : List Running → List PageLock → Type 0
+abbrev pub AreHeldBy : List OpScope → List PageLock → Type 0
 AreHeldBy rs locks = All (λ (l : PageLock). is_under_way rs l.op ≡ true) locks
 
 abbrev pub IsMoving : Stage → Type 0
 IsMoving stage = (stage ≡ Planning) ⊎ ((stage ≡ Writing) ⊎ (stage ≡ Taking))
 
 -- on the pages
-pub record IsRunning (relations counters : ℕ) (w : World) (last : ℕ) (r : Running) : Type 0 where
-  pub under : IsUnderWay relations counters w r.scope
-  pub budget : HasBudget r.scope
-  pub number : r.scope.number ≤ last
-  pub moving : IsMoving r.scope.stage
+pub record IsRunning (relations counters : ℕ) (w : World) (last : ℕ) (r : OpScope) : Type 0 where
+  pub under : IsUnderWay relations counters w r
+  pub budget : HasBudget r
+  pub number : r.number ≤ last
+  pub moving : IsMoving r.stage
 
 -- ---- its transaction
 
@@ -64,23 +64,21 @@ abbrev pub state_in : List Member → ℕ → Option TxnState
 state_in ms t = option_map (λ (m : Member). m.state) (member_of ms t)
 
 -- the last entry of its transaction that did something, which it takes back, by its operation's number
-pub record TakesBack (ms : List Member) (standing : List Entry) (r : Running) : Type 0 where
-  pub named : last_operation (member_of ms r.scope.txn) ≡ Some r.scope.undoes
+pub record TakesBack (ms : List Member) (standing : List Entry) (r : OpScope) : Type 0 where
+  pub named : last_operation (member_of ms r.txn) ≡ Some r.undoes
   pub entry : Entry
-  pub last : last_effect r.scope.txn standing ≡ Some entry
-  pub inverse : inverse_of entry.op entry.reply ≡ Some r.scope.op
-  pub copy : r.op ≡ entry.op
-  pub unsplit : r.scope.split ≡ false
+  pub last : last_effect r.txn standing ≡ Some entry
+  pub inverse : inverse_of entry.op entry.reply ≡ Some r.op
+  pub unsplit : r.split ≡ false
 
 -- Only what a transaction that is to be undone has called is taken back, and only of such a one are there inverses.
-pub record IsOwned (ms : List Member) (standing : List Entry) (r : Running) : Type 0 where
-  pub at_work : is_open (member_of ms r.scope.txn) ≡ true
-  pub room : r.scope.undoes ≡ 0 → has_room (member_of ms r.scope.txn) ≡ true
-  pub copy : r.scope.undoes ≡ 0 → r.op ≡ r.scope.op
-  pub inverse : r.scope.undoes ≢ 0 → TakesBack ms standing r
-  pub newest : r.scope.undoes ≡ 0 → IsAbove r.scope.number (member_of ms r.scope.txn)
-  pub taken : r.scope.stage ≡ Taking → (r.scope.undoes ≡ 0) × (state_in ms r.scope.txn ≡ Some Aborting)
-  pub aborts : r.scope.undoes ≢ 0 → state_in ms r.scope.txn ≡ Some Aborting
+pub record IsOwned (ms : List Member) (standing : List Entry) (r : OpScope) : Type 0 where
+  pub at_work : is_open (member_of ms r.txn) ≡ true
+  pub room : r.undoes ≡ 0 → has_room (member_of ms r.txn) ≡ true
+  pub inverse : r.undoes ≢ 0 → TakesBack ms standing r
+  pub newest : r.undoes ≡ 0 → IsAbove r.number (member_of ms r.txn)
+  pub taken : r.stage ≡ Taking → (r.undoes ≡ 0) × (state_in ms r.txn ≡ Some Aborting)
+  pub aborts : r.undoes ≢ 0 → state_in ms r.txn ≡ Some Aborting
 
 -- ---- claims and log bytes
 
@@ -109,16 +107,16 @@ abbrev pub entry_bytes : Entry → ℕ
 entry_bytes e = weighed undo_bytes e
 
 -- What is claimed for an operation and for its inverse; an inverse has what its entry claims.
-abbrev pub pages_of : Running → ℕ
-pages_of r = cond (r.scope.undoes == 0) (own_needs r.scope.op r.scope.split + undo_pages r.scope.op) 0
+abbrev pub pages_of : OpScope → ℕ
+pages_of r = cond (r.undoes == 0) (own_needs r.op r.split + undo_pages r.op) 0
 
-abbrev pub left_of : Running → ℕ
-left_of r = r.scope.left
+abbrev pub left_of : OpScope → ℕ
+left_of r = r.left
 
 -- log bytes kept for the inverse of what runs
-abbrev pub kept_bytes : Running → ℕ
-kept_bytes r = cond (r.scope.undoes == 0) (undo_bytes r.scope.op) 0
+abbrev pub kept_bytes : OpScope → ℕ
+kept_bytes r = cond (r.undoes == 0) (undo_bytes r.op) 0
 
 -- those that an inverse which runs has taken of what was kept for it
-abbrev pub taken_bytes : Running → ℕ
-taken_bytes r = cond (r.scope.undoes == 0) 0 OPERATION_LOG_BYTES
+abbrev pub taken_bytes : OpScope → ℕ
+taken_bytes r = cond (r.undoes == 0) 0 OPERATION_LOG_BYTES

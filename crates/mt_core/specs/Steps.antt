@@ -10,7 +10,7 @@ use Rattle.mt_pool.specs.Views.{IsFull}
 use Rattle.mt_space.specs.Changes.{PageBytes}
 use Rattle.mt_core.specs.Consistent.{Origin, state_of, IsIn, EndsIn, UndoesIn, IsOwnerOf}
 use Rattle.mt_core.specs.declared.parts.Core.{Core}
-use Rattle.mt_core.specs.declared.parts.Running.{Running}
+use Rattle.mt_op.specs.declared.scope.OpScope.{OpScope}
 use Rattle.mt_core.specs.declared.steps.Going.{Going}
 use Rattle.mt_core.specs.declared.steps.Going.TheVariants as going
 use Rattle.mt_core.specs.declared.steps.Stepping.{Stepping}
@@ -18,16 +18,16 @@ use Rattle.mt_core.specs.declared.steps.Stepping.TheVariants.{Going as GoingOn, 
 
 -- It ends, with the model's reply on the base; or the base and all that stands are as before.
 abbrev pub Steps : {D : Type 0} → (D → List ℕ) → (D → List ℕ → Type 0) → Origin → Base → Core D → Core D → ℕ → Result Stepping Refusal → Type 0
-Steps seen may_leave origin base k n place (Ok (Ended reply)) = (r : Running) → r ≡ slice_index_or k.running.items place r
-    → (reply_of base r.scope.op ≡ reply) × EndsIn seen may_leave origin base k n r
+Steps seen may_leave origin base k n place (Ok (Ended reply)) = (r : OpScope) → r ≡ slice_index_or k.running.items place r
+    → (reply_of base r.op ≡ reply) × EndsIn seen may_leave origin base k n r
 Steps seen may_leave origin base k n place (Ok (GoingOn going)) = IsIn seen may_leave origin base (state_of k base) n
 Steps seen may_leave origin base k n place (Err why) = IsIn seen may_leave origin base (state_of k base) n
 
 -- It ends, with the model's reply, and what it takes back stands no more; or the base and all that stands are as
 -- before.
 abbrev pub UndoSteps : {D : Type 0} → (D → List ℕ) → (D → List ℕ → Type 0) → Origin → Base → Core D → Core D → ℕ → Result Stepping Refusal → Type 0
-UndoSteps seen may_leave origin base k n place (Ok (Ended reply)) = (r : Running) → r ≡ slice_index_or k.running.items place r
-    → (reply_of base r.scope.op ≡ reply) × UndoesIn seen may_leave origin base (state_of k base) n r.scope.txn r.scope.op
+UndoSteps seen may_leave origin base k n place (Ok (Ended reply)) = (r : OpScope) → r ≡ slice_index_or k.running.items place r
+    → (reply_of base r.op ≡ reply) × UndoesIn seen may_leave origin base (state_of k base) n r.txn r.op
 UndoSteps seen may_leave origin base k n place (Ok (GoingOn going)) = IsIn seen may_leave origin base (state_of k base) n
 UndoSteps seen may_leave origin base k n place (Err why) = IsIn seen may_leave origin base (state_of k base) n
 
@@ -43,23 +43,23 @@ WantsFrame k n = IsFull k.operations.store.pool × (n.operations ≡ k.operation
 -- ---- who is in the way
 
 -- the operation of this number is under way, of another transaction than t
-abbrev pub IsOfOther : List Running → ℕ → ℕ → Type 0
+abbrev pub IsOfOther : List OpScope → ℕ → ℕ → Type 0
 IsOfOther rs t number = (u : ℕ) × (u ≢ t) × IsOwnerOf rs number (Some u)
 
 -- An operation of t waits, or begins anew, only for one of another transaction.
-abbrev pub AwaitsOther : List Running → ℕ → Going → Type 0
+abbrev pub AwaitsOther : List OpScope → ℕ → Going → Type 0
 AwaitsOther rs t going.Went = ⊤
 AwaitsOther rs t (going.Wait holder) = IsOfOther rs t holder
 AwaitsOther rs t (going.Again holder) = IsOfOther rs t holder
 AwaitsOther rs t going.Flush = ⊤
 
-abbrev pub NamesOther : List Running → ℕ → Result Stepping Refusal → Type 0
+abbrev pub NamesOther : List OpScope → ℕ → Result Stepping Refusal → Type 0
 NamesOther rs t (Ok (Ended reply)) = ⊤
 NamesOther rs t (Ok (GoingOn g)) = AwaitsOther rs t g
 NamesOther rs t (Err why) = ⊤
 
 -- the same of what a step of the operations answers
-abbrev pub TellsOther : List Running → ℕ → Result Stepped Refusal → Type 0
+abbrev pub TellsOther : List OpScope → ℕ → Result Stepped Refusal → Type 0
 TellsOther rs t (Ok stepped.Went) = ⊤
 TellsOther rs t (Ok (stepped.Wait holder)) = IsOfOther rs t holder
 TellsOther rs t (Ok (stepped.Again holder)) = IsOfOther rs t holder

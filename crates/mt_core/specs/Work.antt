@@ -12,16 +12,15 @@ use Rattle.mt_op.specs.declared.answers.TakenBack.TheVariants as taken
 use Rattle.mt_op.specs.declared.scope.OpScope.{OpScope}
 use Rattle.mt_pool.specs.Views.{pages}
 use Rattle.mt_core.specs.declared.parts.Core.{Core}
-use Rattle.mt_core.specs.declared.parts.Running.{Running}
 use Rattle.mt_core.specs.declared.steps.Going.{Going}
 use Rattle.mt_core.specs.declared.steps.Going.TheVariants as going
 use Rattle.mt_core.specs.declared.steps.Stepping.{Stepping}
 use Rattle.mt_core.specs.declared.steps.Stepping.TheVariants.{Going as GoingOn, Ended}
 
 -- how many it makes at most, if nobody is in its way
-abbrev pub steps_in : List Running → ℕ → ℕ
+abbrev pub steps_in : List OpScope → ℕ → ℕ
 steps_in [] t = 0
-steps_in (r ∷ rs) t = cond (r.scope.txn == t) (work_of r.scope) (steps_in rs t)
+steps_in (r ∷ rs) t = cond (r.txn == t) (work_of r) (steps_in rs t)
 
 -- A step that went on leaves fewer. One that begins anew may leave more, by two a page at most; every other leaves no
 -- more.
@@ -38,11 +37,11 @@ Lowers pages (Ok (GoingOn g)) before now = LeavesSteps pages g before now
 Lowers pages (Err why) before now = now ≤ before
 
 -- An operation of a transaction is under way after the others, with so many steps before it.
-abbrev pub RunsBehind : ℕ → ℕ → List Running → List Running → Type 0
-RunsBehind t steps old new = (r : Running) × (r.scope.txn ≡ t) × (work_of r.scope ≡ steps) × (new ≡ old ++ r ∷ [])
+abbrev pub RunsBehind : ℕ → ℕ → List OpScope → List OpScope → Type 0
+RunsBehind t steps old new = (r : OpScope) × (r.txn ≡ t) × (work_of r ≡ steps) × (new ≡ old ++ r ∷ [])
 
 -- what a call does to those under way: only one that is started changes them
-abbrev pub CallRuns : ℕ → ℕ → List Running → List Running → Result Called Refusal → Type 0
+abbrev pub CallRuns : ℕ → ℕ → List OpScope → List OpScope → Result Called Refusal → Type 0
 CallRuns t steps old new (Ok answer.Started) = RunsBehind t steps old new
 CallRuns t steps old new (Ok (answer.Wait holder)) = new ≡ old
 CallRuns t steps old new (Err why) = new ≡ old
@@ -58,12 +57,12 @@ effects_left pages es t = sum_by (effect_steps pages t) es
 
 -- An operation that is no inverse is put back, a page a step, and dropped out. An inverse represents one of the
 -- effects.
-abbrev pub steps_with : ℕ → Running → ℕ → ℕ
-steps_with pages r effects = cond (r.scope.undoes == 0) (r.scope.standing + 1 + effects) (work_of r.scope + (effects - (2 * pages + 10)))
+abbrev pub steps_with : ℕ → OpScope → ℕ → ℕ
+steps_with pages r effects = cond (r.undoes == 0) (r.standing + 1 + effects) (work_of r + (effects - (2 * pages + 10)))
 
-abbrev pub abort_steps : ℕ → List Running → ℕ → ℕ → ℕ
+abbrev pub abort_steps : ℕ → List OpScope → ℕ → ℕ → ℕ
 abort_steps pages [] t effects = effects
-abort_steps pages (r ∷ rs) t effects = cond (r.scope.txn == t) (steps_with pages r effects) (abort_steps pages rs t effects)
+abort_steps pages (r ∷ rs) t effects = cond (r.txn == t) (steps_with pages r effects) (abort_steps pages rs t effects)
 
 -- how many steps the abort of a transaction makes at most before its end, if nobody is in its way
 abbrev pub undo_steps : {D : Type 0} → Core D → ℕ → ℕ

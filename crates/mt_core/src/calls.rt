@@ -15,16 +15,17 @@ ghost use Rattle.mt_core.specs.Consistent.{SameCommits, SameStates, log_kept, Or
 ghost use Rattle.mt_core.specs.Causes.{IsAnswered};
 ghost use Rattle.mt_core.specs.Restartable.{StaysRestartable};
 ghost use Rattle.mt_core.specs.Work.{CallRuns};
-ghost use Rattle.mt_core.specs.declared.parts.Running.{Running};
+ghost use Rattle.mt_op.specs.declared.scope.OpScope.{OpScope};
 ghost use Rattle.mt_core.specs.Advancing.{AdmitsCall, AsksLeave, LocksObject, StartsCall};
 
 use crate::ends::let_go;
-use crate::parts::{Core, Running};
+use crate::parts::Core;
 use crate::reservations::{bytes_to_undo, left_in};
 use mt_base::{OpNo, Refusal, TxnNo};
 use mt_disk::Device;
 use mt_escrow::Escrow;
 use mt_model::{Object, Op};
+use mt_op::OpScope;
 use mt_slock::Asked;
 use mt_steps::{pages_for, pages_to_undo};
 use std::alloc::Global;
@@ -64,11 +65,11 @@ fn into_object(op: Op) -> Object
 }
 
 // The place of a transaction's operation among those under way, if it has one.
-fn place_in(running: &[Running], txn: TxnNo) -> Option<usize>
+fn place_in(running: &[OpScope], txn: TxnNo) -> Option<usize>
     ensures { IsPlaceOf running.now txn result }
 {
     for (place, one) in running.iter().enumerate() {
-        if one.scope.txn() == txn {
+        if one.txn() == txn {
             return Some(place);
         }
     }
@@ -79,7 +80,7 @@ impl<D: Device> Core<D> {
     /// The place of a transaction's operation among those under way; `None` if it runs nothing.
     pub fn place_of(&self, txn: TxnNo) -> Option<usize>
         ensures place { IsPlaceOf self.now.running.items txn result }
-        ensures busy { is_some result ≡ list_any (λ (r : Running). r.scope.txn == txn) self.now.running.items }
+        ensures busy { is_some result ≡ list_any (λ (r : OpScope). r.txn == txn) self.now.running.items }
     {
         place_in(self.running.as_slice(), txn)
     }
@@ -96,18 +97,18 @@ impl<D: Device> Core<D> {
         &mut self,
         alloc: Global,
         txn: TxnNo,
-        op: Op,
+        op: &Op,
         split: bool,
     ) -> Result<Called, Refusal>
         requires safe { ∥ ((origin : Origin) × (base : Base) × IsConsistent D.seen D.may_leave origin base self.old
-            × MayBeCalled origin self.old txn op) ∥₁ }
+            × MayBeCalled origin self.old txn op.now) ∥₁ }
         requires few { self.old.last < MAX_BEGUN }
         ensures called { (origin : Origin) (base : Base) → IsConsistent D.seen D.may_leave origin base self.old
-            → MayBeCalled origin self.old txn op
-            → IsCalled D.seen D.may_leave origin base (state_of self.old base) self.new txn op result }
+            → MayBeCalled origin self.old txn op.now
+            → IsCalled D.seen D.may_leave origin base (state_of self.old base) self.new txn op.now result }
         ensures answer { (origin : Origin) (base : Base) → IsConsistent D.seen D.may_leave origin base self.old
-            → MayBeCalled origin self.old txn op
-            → IsAnswered D.seen origin self.old (log_kept self.old) txn op split result }
+            → MayBeCalled origin self.old txn op.now
+            → IsAnswered D.seen origin self.old (log_kept self.old) txn op.now split result }
         ensures states { SameStates self.old self.new }
         ensures runs { CallRuns txn (2 * pages self.old.operations.store.pool + 9) self.old.running.items
             self.new.running.items result }
@@ -119,7 +120,7 @@ impl<D: Device> Core<D> {
         let object = op.object()?;
         self.live.room(txn)?;
         self.running.reserve(1)?;
-        self.lock(alloc, txn, op, own, split, object)
+        self.lock(alloc, txn, own, split, object)
     }
 
     // Whether the log has room for so many bytes beside those that are kept.
@@ -135,63 +136,47 @@ impl<D: Device> Core<D> {
 
     // Starts an operation for which all is granted, if there are pages and log bytes for it and for its inverse.
     // If it is refused it is given back.
-    fn start(
-        &mut self,
-        alloc: Global,
-        txn: TxnNo,
-        own: Op,
-        end: Op,
-        split: bool,
-    ) -> Result<(), (Refusal, Op)>
+    fn start(&mut self, alloc: Global, txn: TxnNo, op: Op, split: bool) -> Result<(), (Refusal, Op)>
         requires granted { ∥ ((origin : Origin) × (base : Base) × (locks : List (Object × List Holder))
-            × (escrow : Escrowed) × IsGranted D.seen D.may_leave origin base locks escrow self.old txn end) ∥₁ }
-        requires same { own ≡ end }
+            × (escrow : Escrowed) × IsGranted D.seen D.may_leave origin base locks escrow self.old txn op) ∥₁ }
         requires room { vec_len self.old.running < vec_capacity self.old.running }
         requires few { self.old.last < MAX_BEGUN }
-        ensures { StartsCall D.seen D.may_leave self.old self.new txn end split result }
+        ensures { StartsCall D.seen D.may_leave self.old self.new txn op split result }
     {
-        let pages = pages_for(&own, split) + pages_to_undo(&own);
-        let bytes = bytes_to_undo(&own);
+        let pages = pages_for(&op, split) + pages_to_undo(&op);
+        let bytes = bytes_to_undo(&op);
         let takes = self.log_takes(2 * bytes);
         match self.operations.claim(pages) {
             Ok(()) => {}
-            Err(why) => return Err((why, end)),
+            Err(why) => return Err((why, op)),
         }
         if !takes {
             self.operations.give_back(pages);
-            return Err((Refusal::LogFull, end));
+            return Err((Refusal::LogFull, op));
         }
         let number = self.last + 1;
         match self
             .operations
-            .begin_op(alloc, txn, OpNo::new(number), own, 0, split)
+            .begin_op(alloc, txn, OpNo::new(number), op, 0, split)
         {
             Ok(scope) => {
                 self.last = number;
                 self.reserved += bytes;
-                self.running.push_reserved(Running { scope, op: end });
+                self.running.push_reserved(scope);
                 Ok(())
             }
-            Err(why) => {
+            Err((why, op)) => {
                 self.operations.give_back(pages);
-                Err((why, end))
+                Err((why, op))
             }
         }
     }
 
     // Asks leave for an operation that is an add, and starts it. Its lock is had. If it is refused it is given
     // back.
-    fn admit(
-        &mut self,
-        alloc: Global,
-        txn: TxnNo,
-        op: Op,
-        own: Op,
-        split: bool,
-    ) -> Result<(), (Refusal, Op)>
+    fn admit(&mut self, alloc: Global, txn: TxnNo, op: Op, split: bool) -> Result<(), (Refusal, Op)>
         requires locked { ∥ ((origin : Origin) × (base : Base) × (locks : List (Object × List Holder))
             × IsLocked D.seen D.may_leave origin base locks self.old txn op) ∥₁ }
-        requires same { own ≡ op }
         requires room { vec_len self.old.running < vec_capacity self.old.running }
         requires few { self.old.last < MAX_BEGUN }
         ensures { AdmitsCall D.seen D.may_leave self.old self.new txn op split result }
@@ -200,7 +185,7 @@ impl<D: Device> Core<D> {
             Ok(()) => {}
             Err(why) => return Err((why, op)),
         }
-        match self.start(alloc, txn, own, op, split) {
+        match self.start(alloc, txn, op, split) {
             Ok(()) => Ok(()),
             Err((why, op)) => {
                 let_go(&mut self.escrow, txn, &op);
@@ -215,13 +200,12 @@ impl<D: Device> Core<D> {
         alloc: Global,
         txn: TxnNo,
         op: Op,
-        own: Op,
         split: bool,
         object: Object,
     ) -> Result<Called, Refusal>
         requires safe { ∥ ((origin : Origin) × (base : Base) × IsConsistent D.seen D.may_leave origin base self.old
             × MayRun origin self.old txn op) ∥₁ }
-        requires same { (own ≡ op) × (object ≡ object_of op) }
+        requires same { object ≡ object_of op }
         requires room { vec_len self.old.running < vec_capacity self.old.running }
         requires few { self.old.last < MAX_BEGUN }
         ensures { LocksObject D.seen D.may_leave self.old self.new txn op split result }
@@ -230,7 +214,7 @@ impl<D: Device> Core<D> {
         match self.locks.ask(txn, object, mode)? {
             Asked::Wait(holder) => Ok(Called::Wait(holder)),
             Asked::Granted { was_held } => {
-                match self.admit(alloc, txn, op, own, split) {
+                match self.admit(alloc, txn, op, split) {
                     Ok(()) => Ok(Called::Started),
                     Err((why, op)) => {
                         if was_held {

@@ -23,7 +23,7 @@ ghost use Rattle.std.specs.Vec.{vec_len, vec_capacity};
 ghost use Rattle.mt_core.specs.declared.commits.TheConstants.{END_LOG_BYTES};
 ghost use Rattle.mt_base.specs.declared.limits.TheConstants.{MAX_BEGUN, MAX_LIVE, TRANSACTION_LOG_BYTES};
 ghost use Rattle.mt_core.specs.declared.parts.Commit.{Commit};
-ghost use Rattle.mt_core.specs.declared.parts.Running.{Running};
+ghost use Rattle.mt_op.specs.declared.scope.OpScope.{OpScope};
 ghost use Rattle.mt_core.specs.Advancing.{LeavesFirst};
 
 use crate::parts::{Commit, Core};
@@ -107,7 +107,7 @@ impl<D: Device> Core<D> {
     pub fn commit_begin(&mut self, txn: TxnNo) -> Result<usize, Refusal>
         requires safe { IsSound D.seen D.may_leave self.old }
         requires at_work { is_open (member_of self.old.live.members txn) ≡ true }
-        requires idle { All (λ (r : Running). r.scope.txn ≢ txn) self.old.running.items }
+        requires idle { All (λ (r : OpScope). r.txn ≢ txn) self.old.running.items }
         ensures state { StaysIn D.seen D.may_leave self.old self.new }
         ensures place { IfOk result (λ place.
             place ≡ length self.old.book.items + length self.old.commits.items + 1) }
@@ -201,6 +201,7 @@ impl<D: Device> Core<D> {
         ensures quiet { IsOk result
             → D.faults self.new.operations.store.device ≡ D.faults self.old.operations.store.device }
         ensures moments { LeavesExplained D.seen D.may_leave D.moment D.left_since self.old self.new }
+        ensures once { D.moment self.new.operations.store.device ≤ D.moment self.old.operations.store.device + 1 }
         ensures restartable { StaysRestartable D.seen D.may_leave self.old self.new }
     {
         self.operations.force_step()
@@ -226,6 +227,7 @@ impl<D: Device> Core<D> {
         ensures cause { HasCause (D.faults self.old.operations.store.device)
             (D.faults self.new.operations.store.device) result }
         ensures moments { LeavesExplained D.seen D.may_leave D.moment D.left_since self.old self.new }
+        ensures once { D.moment self.new.operations.store.device ≤ D.moment self.old.operations.store.device + 1 }
         ensures restartable { StaysRestartable D.seen D.may_leave self.old self.new }
     {
         self.operations.flush_step()

@@ -2,12 +2,12 @@
 ghost use Rattle.std.specs.Prelude.{◌≡◌};
 ghost use Rattle.mt_core.specs.Detached.{attached};
 
-use crate::parts::{Commit, Core, Running};
+use crate::parts::{Commit, Core};
 use mt_disk::Device;
 use mt_escrow::Escrow;
 use mt_live::Live;
 use mt_model::Committed;
-use mt_op::DetachedOperations;
+use mt_op::{DetachedOperations, OpScope};
 use mt_slock::LockTable;
 
 /// The core without its device: all that it has in memory.
@@ -18,7 +18,7 @@ pub struct DetachedCore {
     pub(crate) live: Live,
     pub(crate) locks: LockTable,
     pub(crate) escrow: Escrow,
-    pub(crate) running: Vec<Running>,
+    pub(crate) running: Vec<OpScope>,
     pub(crate) commits: Vec<Commit>,
     pub(crate) book: Vec<Committed>,
     pub(crate) last: u64,

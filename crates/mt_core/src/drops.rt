@@ -1,6 +1,6 @@
 // An operation that an abort finds unfinished is put back page by page, and then dropped out.
 // Its page locks, its claims and its pending add go with it. Its semantic lock stays until the transaction ends.
-ghost use Rattle.std.specs.Prelude.{◌≡◌, ◌<◌, Ok, Some, IfErr, length};
+ghost use Rattle.std.specs.Prelude.{◌≡◌, ◌≤◌, ◌+◌, ◌<◌, Ok, Some, IfErr, length};
 ghost use Rattle.mt_log.specs.Words.{durable};
 ghost use Rattle.mt_model.specs.Model.{Base};
 ghost use Rattle.mt_op.specs.Faults.{TellsFaults};
@@ -11,11 +11,11 @@ ghost use Rattle.mt_core.specs.Consistent.{BacksIn, state_in, IsSound, IsCleared
 ghost use Rattle.mt_core.specs.Restartable.{StaysRestartable};
 ghost use Rattle.mt_core.specs.Steps.{LeavesExplained, WantsFrame};
 ghost use Rattle.mt_core.specs.Work.{LowersBack, undo_steps};
-ghost use Rattle.mt_core.specs.declared.parts.Running.{Running};
+ghost use Rattle.mt_op.specs.declared.scope.OpScope.{OpScope};
 ghost use Rattle.mt_core.specs.PageLocks.{GivesLocksBack};
 
 use crate::ends::let_go;
-use crate::parts::{Core, Running};
+use crate::parts::Core;
 use crate::reservations::bytes_to_undo;
 use mt_base::Refusal;
 use mt_disk::Device;
@@ -29,11 +29,11 @@ impl<D: Device> Core<D> {
     fn take_back(&mut self, place: usize) -> Result<TakenBack, Refusal>
         requires safe { IsSound D.seen D.may_leave self.old }
         requires within { place < length self.old.running.items }
-        requires aborting { AtPlace self.old.running.items place (λ r. (r.scope.undoes ≡ 0)
-            × (state_in self.old.live.members r.scope.txn ≡ Some Aborting)) }
+        requires aborting { AtPlace self.old.running.items place (λ r. (r.undoes ≡ 0)
+            × (state_in self.old.live.members r.txn ≡ Some Aborting)) }
         ensures { IsTakenBack D.seen D.may_leave D.faults D.moment D.left_since self.old self.new place result }
     {
-        self.operations.take_back(&mut self.running[place].scope)
+        self.operations.take_back(&mut self.running[place])
     }
 
     // Drops an operation out that was taken back and is no inverse. Its page locks go, and so does what was kept for
@@ -42,13 +42,13 @@ impl<D: Device> Core<D> {
         requires cleared { ∥ ((origin : Origin) × (base : Base)
             × IsClearedAt D.seen D.may_leave origin base self.old place) ∥₁ }
         requires within { place < length self.old.running.items }
-        requires forward { AtPlace self.old.running.items place (λ r. r.scope.undoes ≡ 0) }
+        requires forward { AtPlace self.old.running.items place (λ r. r.undoes ≡ 0) }
         ensures { DropsOut D.seen D.may_leave self.old self.new place }
     {
-        let Running { scope, op } = self.running.remove(place);
+        let scope = self.running.remove(place);
         let txn = scope.txn();
-        let pages = pages_for(scope.op(), scope.split()) + pages_to_undo(&op);
-        self.operations.drop_out(scope);
+        let pages = pages_for(scope.op(), scope.split()) + pages_to_undo(scope.op());
+        let op = self.operations.drop_out(scope);
         self.operations.give_back(pages);
         self.reserved -= bytes_to_undo(&op);
         let_go(&mut self.escrow, txn, &op);
@@ -63,12 +63,12 @@ impl<D: Device> Core<D> {
     pub fn take_back_step(&mut self, place: usize) -> Result<TakenBack, Refusal>
         requires safe { IsSound D.seen D.may_leave self.old }
         requires within { place < length self.old.running.items }
-        requires aborting { AtPlace self.old.running.items place (λ r. (r.scope.undoes ≡ 0)
-            × (state_in self.old.live.members r.scope.txn ≡ Some Aborting)) }
+        requires aborting { AtPlace self.old.running.items place (λ r. (r.undoes ≡ 0)
+            × (state_in self.old.live.members r.txn ≡ Some Aborting)) }
         ensures back { (origin : Origin) (base : Base) → IsConsistent D.seen D.may_leave origin base self.old
             → BacksIn D.seen D.may_leave origin base self.old self.new place result }
         ensures lowers { AtPlace self.old.running.items place (λ r. LowersBack result
-            (undo_steps self.old r.scope.txn) (undo_steps self.new r.scope.txn)) }
+            (undo_steps self.old r.txn) (undo_steps self.new r.txn)) }
         ensures locks { AtPlace self.old.running.items place (λ r. GivesLocksBack self.old self.new r result) }
         ensures live { self.new.live ≡ self.old.live }
         ensures commits { self.new.commits ≡ self.old.commits }
@@ -78,6 +78,7 @@ impl<D: Device> Core<D> {
             (D.faults self.new.operations.store.device) result }
         ensures durable { durable self.new.operations.store.log ≡ durable self.old.operations.store.log }
         ensures moments { LeavesExplained D.seen D.may_leave D.moment D.left_since self.old self.new }
+        ensures once { D.moment self.new.operations.store.device ≤ D.moment self.old.operations.store.device + 1 }
         ensures restartable { StaysRestartable D.seen D.may_leave self.old self.new }
     {
         match self.take_back(place)? {

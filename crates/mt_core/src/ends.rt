@@ -1,15 +1,17 @@
 // What changes in the core once an operation or an inverse has ended: what counts, claims, log bytes, pending adds.
 // `steps` calls this after the last step. No page and no record of the log changes here.
-ghost use Rattle.std.specs.Prelude.{◌≡◌, ◌≢◌, ◌<◌, ◌++◌, [], List, length};
+ghost use Rattle.std.specs.Prelude.{◌≡◌, Some, ◌≢◌, ◌<◌, ◌++◌, [], List, length};
 ghost use Rattle.mt_live.specs.Adds.{GivesBack, add_before};
 ghost use Rattle.mt_model.specs.declared.pending_add.Pending.{Pending};
-ghost use Rattle.mt_model.specs.Model.{Base};
+ghost use Rattle.mt_model.specs.Model.{Base, inverse_of};
+ghost use Rattle.mt_inverse.specs.Steps.{IsWithinSteps};
+ghost use Rattle.mt_model.specs.declared.operations.Op.{Op};
 ghost use Rattle.mt_model.specs.declared.operations.Reply.{Reply};
 ghost use Rattle.mt_core.specs.Consistent.{IsReadyAt, AtPlace, Origin};
-ghost use Rattle.mt_core.specs.declared.parts.Running.{Running};
+ghost use Rattle.mt_op.specs.declared.scope.OpScope.{OpScope};
 ghost use Rattle.mt_core.specs.Advancing.{EndsInverse, EndsReady};
 
-use crate::parts::{Core, Running};
+use crate::parts::Core;
 use crate::reservations::{bytes_kept, bytes_to_undo, pages_kept};
 use mt_base::TxnNo;
 use mt_disk::Device;
@@ -29,6 +31,18 @@ pub(crate) fn let_go(escrow: &mut Escrow, txn: TxnNo, op: &Op)
     }
 }
 
+// If the inverse is an add, so is what it takes back, and the last such add of the transaction is pending no more.
+fn let_inverted_go(escrow: &mut Escrow, txn: TxnNo, inverse: &Op)
+    requires { IsWithinSteps inverse.now }
+    ensures given { (op : Op) (reply : Reply) → inverse_of op reply ≡ Some inverse.now
+        → GivesBack txn op escrow.old.pending escrow.new.pending }
+    ensures committed { escrow.new.committed ≡ escrow.old.committed }
+{
+    if let Op::Add(counter, step) = inverse {
+        escrow.taken_back(txn, *counter, -*step);
+    }
+}
+
 impl<D: Device> Core<D> {
     // Ends an operation that is ready and no inverse: it stands after all others, with this reply. If it did
     // nothing, what was kept for its inverse is free.
@@ -36,13 +50,13 @@ impl<D: Device> Core<D> {
         requires ready { ∥ ((origin : Origin) × (base : Base)
             × IsReadyAt D.seen D.may_leave origin base self.old place reply) ∥₁ }
         requires within { place < length self.old.running.items }
-        requires forward { AtPlace self.old.running.items place (λ r. r.scope.undoes ≡ 0) }
+        requires forward { AtPlace self.old.running.items place (λ r. r.undoes ≡ 0) }
         ensures { EndsReady D.seen D.may_leave self.old self.new place reply }
     {
-        let Running { scope, op } = self.running.remove(place);
+        let scope = self.running.remove(place);
         let txn = scope.txn();
         let number = scope.number();
-        self.operations.end(scope);
+        let op = self.operations.end(scope);
         self.operations
             .give_back(pages_to_undo(&op) - pages_kept(&op, &reply));
         self.reserved -= bytes_to_undo(&op) - bytes_kept(&op, &reply);
@@ -54,13 +68,13 @@ impl<D: Device> Core<D> {
         requires ready { ∥ ((origin : Origin) × (base : Base) × (reply : Reply)
             × IsReadyAt D.seen D.may_leave origin base self.old place reply) ∥₁ }
         requires within { place < length self.old.running.items }
-        requires back { AtPlace self.old.running.items place (λ r. r.scope.undoes ≢ 0) }
+        requires back { AtPlace self.old.running.items place (λ r. r.undoes ≢ 0) }
         ensures { EndsInverse D.seen D.may_leave self.old self.new place }
     {
-        let Running { scope, op } = self.running.remove(place);
+        let scope = self.running.remove(place);
         let txn = scope.txn();
-        self.operations.end(scope);
+        let inverse = self.operations.end(scope);
         self.live.undone(txn);
-        let_go(&mut self.escrow, txn, &op);
+        let_inverted_go(&mut self.escrow, txn, &inverse);
     }
 }

@@ -22,5 +22,5 @@ mod views;
 pub use calls::Called;
 pub use detached_core::DetachedCore;
 pub use next_area::Rest;
-pub use parts::{Commit, Core, Running};
+pub use parts::{Commit, Core};
 pub use steps::{Going, Stepping};

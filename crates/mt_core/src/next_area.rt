@@ -3,12 +3,12 @@ ghost use Rattle.std.specs.Prelude.{◌≡◌};
 ghost use Rattle.mt_core.specs.Consistent.{IsFresh};
 ghost use Rattle.mt_core.specs.Turned.{IsRestOf, Resumes};
 
-use crate::parts::{Core, Running};
+use crate::parts::Core;
 use mt_disk::Device;
 use mt_escrow::Escrow;
 use mt_live::Live;
 use mt_model::Committed;
-use mt_op::Operations;
+use mt_op::{OpScope, Operations};
 use mt_slock::LockTable;
 
 /// What a kernel has beside its operations and its escrow: the book, and the numbers of transactions and operations.
@@ -44,10 +44,9 @@ impl<D: Device + Drop> Core<D> {
         let mut running = running;
         let mut operations = operations;
         while let Some(one) = running.pop() {
-            let Running { scope, op: _ } = one;
-            operations.give_up(scope);
+            operations.give_up(one);
         }
-        match <[Running; 0]>::try_from(running) {
+        match <[OpScope; 0]>::try_from(running) {
             Ok([]) => {}
             Err(_rest) => unreachable!(),
         }

@@ -12,16 +12,10 @@ use mt_base::{LogPos, TxnNo};
 use mt_disk::Device;
 use mt_escrow::Escrow;
 use mt_live::Live;
-use mt_model::{Committed, Op};
+use mt_model::Committed;
 use mt_op::{OpScope, Operations};
 use mt_slock::LockTable;
 use std::alloc::Global;
-
-/// An operation under way, with a copy for its end: of itself, or of the operation that it takes back.
-pub struct Running {
-    pub(crate) scope: OpScope,
-    pub(crate) op: Op,
-}
 
 /// A commit under way: its record is appended, and is not yet known to be durable.
 #[derive(Clone, Copy, PartialEq, Eq, Debug)]
@@ -38,7 +32,7 @@ pub struct Core<D: Device> {
     pub(crate) live: Live,
     pub(crate) locks: LockTable,
     pub(crate) escrow: Escrow,
-    pub(crate) running: Vec<Running>,
+    pub(crate) running: Vec<OpScope>,
     // in the order of their records
     pub(crate) commits: Vec<Commit>,
     pub(crate) book: Vec<Committed>,

@@ -3,10 +3,10 @@ ghost use Rattle.std.specs.Prelude.{◌≡◌, ◌<◌, ◌+◌, ◌^◌};
 ghost use Rattle.std.specs.List.{sum_by};
 ghost use Rattle.mt_core.specs.Runs.{undo_bytes, call_pages, call_bytes, left_of};
 
-use crate::parts::Running;
 use mt_base::limits::OPERATION_LOG_BYTES;
 use mt_inverse::has_effect;
 use mt_model::{Op, Reply};
+use mt_op::OpScope;
 use mt_steps::pages_to_undo;
 
 // Bytes of the log that the operation's inverse may append.
@@ -66,13 +66,13 @@ pub(crate) fn all_bytes_kept(calls: &[(Op, Reply)]) -> u64
 }
 
 // Bytes of the log that are kept for the operations under way.
-pub(crate) fn left_in(running: &[Running]) -> u64
+pub(crate) fn left_in(running: &[OpScope]) -> u64
     requires { sum_by left_of running.now < 2 ^ 64 }
     ensures { result ≡ sum_by left_of running.now }
 {
     let mut left = 0;
     for one in running {
-        left += one.scope.left();
+        left += one.left();
     }
     left
 }

@@ -1,6 +1,6 @@
 // Steps of operations that go forward, and of inverses. mt_op makes the step; this notes in the core what has ended.
 // A step writes no page into its slot: if it lacks a frame it answers `Flush`, and who calls flushes and asks again.
-ghost use Rattle.std.specs.Prelude.{◌≡◌, ◌≢◌, ◌⊎◌, ◌<◌, ℕ, Ok, IfErr, length, slice_index_or};
+ghost use Rattle.std.specs.Prelude.{◌≡◌, ◌≤◌, ◌+◌, ◌≢◌, ◌⊎◌, ◌<◌, ℕ, Ok, IfErr, length, slice_index_or};
 ghost use Rattle.mt_log.specs.Words.{durable};
 ghost use Rattle.mt_model.specs.Model.{Base};
 ghost use Rattle.mt_op.specs.declared.scope.Stage.TheVariants.{Planning, Writing};
@@ -16,7 +16,7 @@ ghost use Rattle.mt_core.specs.Restartable.{StaysRestartable, StepAppends};
 ghost use Rattle.mt_core.specs.Steps.{LeavesExplained, Steps, UndoSteps, TellsOther, NamesOther, WantsFrame};
 ghost use Rattle.mt_core.specs.PageLocks.{KeepsPageLocks};
 ghost use Rattle.mt_op.specs.Holds.{IsNext, KeepsLocks};
-ghost use Rattle.mt_core.specs.declared.parts.Running.{Running};
+ghost use Rattle.mt_op.specs.declared.scope.OpScope.{OpScope};
 
 use crate::parts::Core;
 use mt_base::{OpNo, Refusal};
@@ -52,11 +52,11 @@ impl<D: Device> Core<D> {
     fn advance(&mut self, alloc: Global, place: usize) -> Result<Stepped, Refusal>
         requires safe { IsSound D.seen D.may_leave self.old }
         requires within { place < length self.old.running.items }
-        requires stage { AtPlace self.old.running.items place (λ r. (r.scope.stage ≡ Planning) ⊎ (r.scope.stage
+        requires stage { AtPlace self.old.running.items place (λ r. (r.stage ≡ Planning) ⊎ (r.stage
             ≡ Writing)) }
         ensures { IsAdvanced D.seen D.may_leave D.faults D.moment D.left_since self.old self.new place result }
     {
-        self.operations.step(alloc, &mut self.running[place].scope)
+        self.operations.step(alloc, &mut self.running[place])
     }
 
     /// Makes a step of an operation that is no inverse, at a place of those under way. If it ends it has acted
@@ -67,11 +67,11 @@ impl<D: Device> Core<D> {
     pub fn step(&mut self, alloc: Global, place: usize) -> Result<Stepping, Refusal>
         requires safe { IsSound D.seen D.may_leave self.old }
         requires within { place < length self.old.running.items }
-        requires forward { AtPlace self.old.running.items place (λ r. r.scope.undoes ≡ 0) }
-        requires stage { AtPlace self.old.running.items place (λ r. (r.scope.stage ≡ Planning) ⊎ (r.scope.stage
+        requires forward { AtPlace self.old.running.items place (λ r. r.undoes ≡ 0) }
+        requires stage { AtPlace self.old.running.items place (λ r. (r.stage ≡ Planning) ⊎ (r.stage
             ≡ Writing)) }
         ensures work { AtPlace self.old.running.items place (λ r. Lowers (pages self.old.operations.store.pool) result
-            (steps_in self.old.running.items r.scope.txn) (steps_in self.new.running.items r.scope.txn)) }
+            (steps_in self.old.running.items r.txn) (steps_in self.new.running.items r.txn)) }
         ensures states { SameStates self.old self.new }
         ensures commits { self.new.commits ≡ self.old.commits }
         ensures full { result ≡ Ok (Stepping.Going Going.Flush) → WantsFrame self.old self.new }
@@ -81,10 +81,11 @@ impl<D: Device> Core<D> {
         ensures steps { (origin : Origin) (base : Base) → IsConsistent D.seen D.may_leave origin base self.old
             → Steps D.seen D.may_leave origin base self.old self.new place result }
         ensures other { (origin : Origin) (base : Base) → IsConsistent D.seen D.may_leave origin base self.old
-            → AtPlace self.old.running.items place (λ r. NamesOther self.new.running.items r.scope.txn result) }
+            → AtPlace self.old.running.items place (λ r. NamesOther self.new.running.items r.txn result) }
         ensures locks { AtPlace self.old.running.items place (λ r. KeepsPageLocks self.old self.new r result) }
         ensures durable { durable self.new.operations.store.log ≡ durable self.old.operations.store.log }
         ensures moments { LeavesExplained D.seen D.may_leave D.moment D.left_since self.old self.new }
+        ensures once { D.moment self.new.operations.store.device ≤ D.moment self.old.operations.store.device + 1 }
         ensures restartable { StaysRestartable D.seen D.may_leave self.old self.new }
     {
         match self.advance(alloc, place)? {
@@ -107,13 +108,13 @@ impl<D: Device> Core<D> {
     pub fn undo_step(&mut self, alloc: Global, place: usize) -> Result<Stepping, Refusal>
         requires safe { IsSound D.seen D.may_leave self.old }
         requires within { place < length self.old.running.items }
-        requires back { AtPlace self.old.running.items place (λ r. r.scope.undoes ≢ 0) }
-        requires stage { AtPlace self.old.running.items place (λ r. (r.scope.stage ≡ Planning) ⊎ (r.scope.stage
+        requires back { AtPlace self.old.running.items place (λ r. r.undoes ≢ 0) }
+        requires stage { AtPlace self.old.running.items place (λ r. (r.stage ≡ Planning) ⊎ (r.stage
             ≡ Writing)) }
         ensures work { AtPlace self.old.running.items place (λ r. Lowers (pages self.old.operations.store.pool) result
-            (steps_in self.old.running.items r.scope.txn) (steps_in self.new.running.items r.scope.txn)) }
+            (steps_in self.old.running.items r.txn) (steps_in self.new.running.items r.txn)) }
         ensures lowers { AtPlace self.old.running.items place (λ r. LowersUndo (pages self.old.operations.store.pool)
-            result (undo_steps self.old r.scope.txn) (undo_steps self.new r.scope.txn)) }
+            result (undo_steps self.old r.txn) (undo_steps self.new r.txn)) }
         ensures states { SameStates self.old self.new }
         ensures commits { self.new.commits ≡ self.old.commits }
         ensures full { result ≡ Ok (Stepping.Going Going.Flush) → WantsFrame self.old self.new }
@@ -123,10 +124,11 @@ impl<D: Device> Core<D> {
         ensures steps { (origin : Origin) (base : Base) → IsConsistent D.seen D.may_leave origin base self.old
             → UndoSteps D.seen D.may_leave origin base self.old self.new place result }
         ensures other { (origin : Origin) (base : Base) → IsConsistent D.seen D.may_leave origin base self.old
-            → AtPlace self.old.running.items place (λ r. NamesOther self.new.running.items r.scope.txn result) }
+            → AtPlace self.old.running.items place (λ r. NamesOther self.new.running.items r.txn result) }
         ensures locks { AtPlace self.old.running.items place (λ r. KeepsPageLocks self.old self.new r result) }
         ensures durable { durable self.new.operations.store.log ≡ durable self.old.operations.store.log }
         ensures moments { LeavesExplained D.seen D.may_leave D.moment D.left_since self.old self.new }
+        ensures once { D.moment self.new.operations.store.device ≤ D.moment self.old.operations.store.device + 1 }
         ensures restartable { StaysRestartable D.seen D.may_leave self.old self.new }
     {
         match self.advance(alloc, place)? {

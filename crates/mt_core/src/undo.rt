@@ -12,9 +12,9 @@ ghost use Rattle.mt_core.specs.Consistent.{IsSound, SameStates, SameStatesBut, S
 ghost use Rattle.mt_core.specs.Restartable.{StaysRestartable};
 ghost use Rattle.mt_core.specs.Runs.{is_open};
 ghost use Rattle.mt_core.specs.Work.{undo_steps};
-ghost use Rattle.mt_core.specs.declared.parts.Running.{Running};
+ghost use Rattle.mt_op.specs.declared.scope.OpScope.{OpScope};
 
-use crate::parts::{Core, Running};
+use crate::parts::Core;
 use mt_base::limits::{OPERATION_LOG_BYTES, TRANSACTION_LOG_BYTES};
 use mt_base::{OpNo, Refusal, TxnNo};
 use mt_disk::Device;
@@ -31,7 +31,7 @@ impl<D: Device> Core<D> {
     pub fn undo_begin(&mut self, alloc: Global, txn: TxnNo) -> Result<bool, Refusal>
         requires safe { IsSound D.seen D.may_leave self.old }
         requires aborting { state_in self.old.live.members txn ≡ Some Aborting }
-        requires idle { All (λ (r : Running). r.scope.txn ≢ txn) self.old.running.items }
+        requires idle { All (λ (r : OpScope). r.txn ≢ txn) self.old.running.items }
         ensures state { StaysIn D.seen D.may_leave self.old self.new }
         ensures nothing { result ≡ Ok false → last_effect txn self.old.live.standing ≡ None }
         ensures same { result ≡ Ok false → self.new ≡ self.old }
@@ -50,17 +50,21 @@ impl<D: Device> Core<D> {
         let Some(inverse) = inverse_of(last.op, last.reply)? else {
             return Ok(false);
         };
-        let op = last.op.try_clone()?;
         let undoes = last.number.get();
         self.running.reserve(1)?;
         let number = self.last + 1;
-        let scope = self
+        match self
             .operations
-            .begin_op(alloc, txn, OpNo::new(number), inverse, undoes, false)?;
-        self.last = number;
-        self.reserved -= OPERATION_LOG_BYTES;
-        self.running.push_reserved(Running { scope, op });
-        Ok(true)
+            .begin_op(alloc, txn, OpNo::new(number), inverse, undoes, false)
+        {
+            Ok(scope) => {
+                self.last = number;
+                self.reserved -= OPERATION_LOG_BYTES;
+                self.running.push_reserved(scope);
+                Ok(true)
+            }
+            Err((why, _inverse)) => Err(why),
+        }
     }
 
     /// Ends an abort of which nothing is left to undo: its end is appended, the transaction is gone with its locks,
@@ -70,7 +74,7 @@ impl<D: Device> Core<D> {
     pub fn abort_end(&mut self, txn: TxnNo) -> Result<(), Refusal>
         requires safe { IsSound D.seen D.may_leave self.old }
         requires at_work { is_open (member_of self.old.live.members txn) ≡ true }
-        requires idle { All (λ (r : Running). r.scope.txn ≢ txn) self.old.running.items }
+        requires idle { All (λ (r : OpScope). r.txn ≢ txn) self.old.running.items }
         requires nothing { last_effect txn self.old.live.standing ≡ None }
         ensures gone { (origin : Origin) (base : Base) → IsConsistent D.seen D.may_leave origin base self.old
             → OnOk result (IsIn D.seen D.may_leave origin base (gone (state_of self.old base) txn) self.new) }

@@ -1,22 +1,23 @@
 // What mt_txn reads of the core: its transactions, its log, its book and what is under way. Nothing changes here.
 ghost use Rattle.std.specs.Prelude.{◌≡◌, ◌==◌, ◌<◌, ◌≢◌, ℕ, length, Some, true, not};
 ghost use Rattle.mt_core.specs.Consistent.{AtPlace, IsOwnerOf};
-ghost use Rattle.mt_core.specs.declared.parts.Running.{Running};
+ghost use Rattle.mt_op.specs.declared.scope.OpScope.{OpScope};
 
-use crate::parts::{Core, Running};
+use crate::parts::Core;
 use mt_base::{OpNo, TxnNo};
 use mt_disk::Device;
 use mt_live::Live;
 use mt_log::Log;
 use mt_model::Committed;
+use mt_op::OpScope;
 
 // The transaction whose operation under way has this number, if there is one.
-fn owner_in(running: &[Running], op: OpNo) -> Option<TxnNo>
+fn owner_in(running: &[OpScope], op: OpNo) -> Option<TxnNo>
     ensures { IsOwnerOf running.now op result }
 {
     for (place, one) in running.iter().enumerate() {
-        if one.scope.number() == op {
-            return Some(running[place].scope.txn());
+        if one.number() == op {
+            return Some(running[place].txn());
         }
     }
     None
@@ -54,9 +55,9 @@ impl<D: Device> Core<D> {
     /// Whether the operation at a place is an inverse.
     pub fn is_inverse(&self, place: usize) -> bool
         requires { place < length self.now.running.items }
-        ensures { AtPlace self.now.running.items place (λ r. result ≡ not (r.scope.undoes == 0)) }
+        ensures { AtPlace self.now.running.items place (λ r. result ≡ not (r.undoes == 0)) }
     {
-        self.running[place].scope.undoes() != 0
+        self.running[place].undoes() != 0
     }
 
     /// The durable commits, in their order.

@@ -6,7 +6,7 @@ use Rattle.std.specs.Option.{option_map}
 use mathlib.Core.Logic.{∥∥₁_elim}
 use Rattle.mt_disk.specs.declared.device.Device.{Ghosts}
 use Rattle.mt_core.specs.Runs.{AreHeldBy, IsOwned, is_open}
-use Rattle.mt_core.specs.declared.parts.Running.{Running}
+use Rattle.mt_op.specs.declared.scope.OpScope.{OpScope}
 use Rattle.mt_live.specs.Entries.{Entry}
 use Rattle.mt_live.specs.Lives.{member_of}
 use Rattle.mt_live.specs.Members.{Member}
@@ -27,16 +27,16 @@ not_true true never = absurd (never refl)
 not_true false never = refl
 
 -- no operation is of nobody
-none_runs : (ms : List Member) (standing : List Entry) (rs : List Running) → ms ≡ [] → All (IsOwned ms standing) rs → rs ≡ []
+none_runs : (ms : List Member) (standing : List Entry) (rs : List OpScope) → ms ≡ [] → All (IsOwned ms standing) rs → rs ≡ []
 none_runs ms standing [] none owned = refl
 none_runs ms standing (r ∷ rs) none owned =
     let works = (owned 0 r (omega arith)).at_work in
-    let wrong : ◌≡◌ {A = Bool} false true = ap (λ (l : List Member). is_open (member_of l r.scope.txn)) (sym none) ∙ works in absurd cc
+    let wrong : ◌≡◌ {A = Bool} false true = ap (λ (l : List Member). is_open (member_of l r.txn)) (sym none) ∙ works in absurd cc
 
-none_held : (rs : List Running) (locks : List PageLock) → rs ≡ [] → AreHeldBy rs locks → length locks ≡ 0
+none_held : (rs : List OpScope) (locks : List PageLock) → rs ≡ [] → AreHeldBy rs locks → length locks ≡ 0
 none_held rs [] none held = refl
 none_held rs (l ∷ locks) none held =
-    let one = subst (λ (q : List Running). AreHeldBy q (l ∷ locks)) none held 0 l (omega arith) in
+    let one = subst (λ (q : List OpScope). AreHeldBy q (l ∷ locks)) none held 0 l (omega arith) in
     let wrong : ◌≡◌ {A = Bool} false true = one in absurd cc
 
 module _ {D : Type 0} {g : Ghosts D} (seen : D → List ℕ) (may_leave : D → List ℕ → Type 0) where

@@ -1,5 +1,5 @@
 -- An operation that writes goes ahead: what a call of it does behind the bringing of its page, and what is left where it does nothing.
-use Rattle.std.proofs.Common.{◌≡◌, ◌+◌, ℕ, List, [], inr, refl, sym, ap, ◌∙◌, subst, arith}
+use Rattle.std.proofs.Common.{◌≡◌, ◌≤◌, ◌+◌, ℕ, List, [], inr, refl, sym, ap, ◌∙◌, subst, arith}
 use Rattle.std.specs.Prelude.{Result, Ok, Err, IfErr, OnErr}
 use Rattle.mt_base.specs.declared.refusal.Refusal.{Refusal}
 use Rattle.mt_disk.specs.Disk.{LeavesOnly}
@@ -91,6 +91,7 @@ module _ {D : Type 0} (seen : D → List ℕ) (may_leave : D → List ℕ → Ty
     (right : (opening : PageBytes) (relations counters : ℕ) → IsRight seen may_leave opening relations counters o → IsRight seen may_leave opening relations counters m)
     (rests : (opening : PageBytes) → Rests (world seen opening o) (world seen opening m))
     (moments : (opening : PageBytes) → IsKept seen may_leave opening o.store → LeavesOnly moment left_since o.store.device m.store.device (Explains opening o.store))
+    (once : moment m.store.device ≤ moment o.store.device + 1)
     (spent : used m.store.log ≡ used o.store.log) (area : area_size m.store.log ≡ area_size o.store.log) (lasting : durable m.store.log ≡ durable o.store.log) (map : m.map ≡ o.map) (locks : m.locks ≡ o.locks) where
   records : appended m.store.log ≡ appended o.store.log
   records = (rests (λ n. [])).records
@@ -119,6 +120,7 @@ module _ {D : Type 0} (seen : D → List ℕ) (may_leave : D → List ℕ → Ty
     flush = λ is. refl;
     why = why;
     faults = outcome;
+    once = once;
   }
 
   -- a call behind it that does not touch the device
@@ -147,4 +149,5 @@ module _ {D : Type 0} (seen : D → List ℕ) (may_leave : D → List ℕ → Ty
     flush = a.flush;
     why = a.why;
     faults = reported_behind (failures o.store.device) (failures m.store.device) (failures n.store.device) r unfailed a.faults;
+    once = subst (λ (d : D). moment d ≤ moment o.store.device + 1) (sym device) once;
   }

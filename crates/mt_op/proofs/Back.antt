@@ -49,6 +49,7 @@ pub record TakesBack {D : Type 0} (seen : D → List ℕ) (may_leave : D → Lis
   pub full : r ≡ Ok taken.Flush → IsFull o.store.pool × (n ≡ o)
   pub why : IfErr r IsCause
   pub faults : TellsFaults (failures o.store.device) (failures n.store.device) r
+  pub once : moment n.store.device ≤ moment o.store.device + 1
 
 -- nothing was done: it is refused, or has to wait for a frame
 abbrev pub TakesNone : Result TakenBack Refusal → Type 0
@@ -100,12 +101,14 @@ module _ {D : Type 0} (seen : D → List ℕ) (may_leave : D → List ℕ → Ty
     full = λ is. absurd cc;
     why = tt;
     faults = no_fault_ok (failures o.store.device) (failures o.store.device) taken.Clear refl;
+    once = omega arith;
   }
 
 module _ {D : Type 0} (seen : D → List ℕ) (may_leave : D → List ℕ → Type 0) (moment : D → ℕ) (left_since : D → ℕ → List ℕ → Type 0) (failures : D → ℕ) (o m : Operations D) (s : OpScope)
     (right : (opening : PageBytes) (relations counters : ℕ) → IsRight seen may_leave opening relations counters o → IsRight seen may_leave opening relations counters m)
     (rests : (opening : PageBytes) → Rests (world seen opening o) (world seen opening m))
     (moments : (opening : PageBytes) → IsKept seen may_leave opening o.store → LeavesOnly moment left_since o.store.device m.store.device (Explains opening o.store))
+    (once : moment m.store.device ≤ moment o.store.device + 1)
     (log : m.store.log ≡ o.store.log) (map : m.map ≡ o.map) (locks : m.locks ≡ o.locks) (few : s.standing ≤ 8) where
   same_claims : claimed m ≡ claimed o
   same_claims = ap (λ (x : SpaceMap). reserved_of x.space) map
@@ -131,6 +134,7 @@ module _ {D : Type 0} (seen : D → List ℕ) (may_leave : D → List ℕ → Ty
     full = full;
     why = why;
     faults = outcome;
+    once = once;
   }
 
   -- a page that is in a frame is put back
@@ -156,4 +160,5 @@ module _ {D : Type 0} (seen : D → List ℕ) (may_leave : D → List ℕ → Ty
     full = λ is. absurd (b.never is);
     why = cause_of r b.only_memory;
     faults = reported_behind (failures o.store.device) (failures m.store.device) (failures n.store.device) r unfailed (no_fault (failures m.store.device) (failures n.store.device) r b.only_memory (ap failures b.device));
+    once = subst (λ (d : D). moment d ≤ moment o.store.device + 1) (sym b.device) once;
   }

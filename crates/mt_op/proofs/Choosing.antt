@@ -68,6 +68,7 @@ module _ {D : Type 0} (seen : D → List ℕ) (may_leave : D → List ℕ → Ty
     (right : (opening : PageBytes) (relations counters : ℕ) → IsRight seen may_leave opening relations counters o → IsRight seen may_leave opening relations counters m)
     (rests : (opening : PageBytes) → Rests (world seen opening o) (world seen opening m))
     (moments : (opening : PageBytes) → IsKept seen may_leave opening o.store → LeavesOnly moment left_since o.store.device m.store.device (Explains opening o.store))
+    (once : moment m.store.device ≤ moment o.store.device + 1)
     (log : m.store.log ≡ o.store.log) (map : m.map ≡ o.map) (locks : m.locks ≡ o.locks) (rooms : m.rooms ≡ o.rooms) where
   -- nothing but what is in frames has changed
   pub idle_locks : (r : Result Stepped Refusal) → IsIdle r → (r ≡ Ok stepped.Flush → IsFull o.store.pool × (m ≡ o)) → IfErr r IsCause
@@ -85,6 +86,7 @@ module _ {D : Type 0} (seen : D → List ℕ) (may_leave : D → List ℕ → Ty
     scope = same_scope s r (idle_asks r idle);
     why = why;
     faults = outcome;
+    once = once;
   }
 
   -- it is asked for behind it
@@ -108,6 +110,7 @@ module _ {D : Type 0} (seen : D → List ℕ) (may_leave : D → List ℕ → Ty
     scope = scope;
     why = cause_memory r memory;
     faults = reported_behind (failures o.store.device) (failures m.store.device) (failures n.store.device) r unfailed (no_fault (failures m.store.device) (failures n.store.device) r memory (ap (λ (x : Store D). failures x.device) store));
+    once = subst (λ (x : Store D). moment x.device ≤ moment o.store.device + 1) (sym store) once;
   }
 
 -- ---- a step that plans
@@ -168,6 +171,7 @@ module _ {D : Type 0} (seen : D → List ℕ) (may_leave : D → List ℕ → Ty
     scope = inl (stays_same s);
     why = inl refl;
     faults = no_fault (failures o.store.device) (failures o.store.device) (Err refusal.NoMemory) refl refl;
+    once = omega arith;
   }
 
 module _ {D : Type 0} (seen : D → List ℕ) (may_leave : D → List ℕ → Type 0) (moment : D → ℕ) (left_since : D → ℕ → List ℕ → Type 0) (failures : D → ℕ) (o n : Operations D) (s t : OpScope) (planning : s.stage ≡ Planning) where
@@ -187,6 +191,7 @@ module _ {D : Type 0} (seen : D → List ℕ) (may_leave : D → List ℕ → Ty
     scope = l.scope;
     why = tt;
     faults = reported_ok (failures o.store.device) (failures n.store.device) (Ok a) a (Some a) refl l.faults;
+    once = l.once;
   }
 
   pub locked_err : (why : Refusal) → HasBudget s → LocksPage seen may_leave moment left_since failures o n s t (Err why) → PlansOn seen may_leave moment left_since failures o n s t (Err why)
@@ -205,6 +210,7 @@ module _ {D : Type 0} (seen : D → List ℕ) (may_leave : D → List ℕ → Ty
     scope = l.scope;
     why = l.why;
     faults = reported_err (failures o.store.device) (failures n.store.device) (Err why) (Err why) why refl refl l.faults;
+    once = l.once;
   }
 
 -- ---- a page of the plan is locked to be written
@@ -263,6 +269,7 @@ pub record MakesStep {D : Type 0} (seen : D → List ℕ) (may_leave : D → Lis
   pub went : s.stage ≡ Writing → r ≡ Ok stepped.Went → t.written ≡ s.written + 1
   pub why : IfErr r IsCause
   pub faults : TellsFaults (failures o.store.device) (failures n.store.device) r
+  pub once : moment n.store.device ≤ moment o.store.device + 1
 
 pub room_still : (old new : Log) (left now : ℕ) → new ≡ old → now ≡ left → used old + left < area_size old → used new + now < area_size new
 room_still old new left now log same room = subst (λ (X : Type 0). X) (λ i. used (sym log i) + sym same i < area_size (sym log i)) room
@@ -290,6 +297,7 @@ module _ {D : Type 0} (seen : D → List ℕ) (may_leave : D → List ℕ → Ty
     went = λ writing. a.went;
     why = a.why;
     faults = a.faults;
+    once = a.once;
   }
 
   -- it is refused while it plans
@@ -312,6 +320,7 @@ module _ {D : Type 0} (seen : D → List ℕ) (may_leave : D → List ℕ → Ty
     went = λ writing is. absurd cc;
     why = p.why;
     faults = reported_err (failures o.store.device) (failures n.store.device) (Err why) (Err why) why refl refl p.faults;
+    once = p.once;
   }
 
   -- it goes on planning
@@ -335,6 +344,7 @@ module _ {D : Type 0} (seen : D → List ℕ) (may_leave : D → List ℕ → Ty
     went = λ writing. absurd (not_writing s planning writing);
     why = tt;
     faults = reported_ok (failures o.store.device) (failures n.store.device) (Ok (Some a)) (Some a) a refl p.faults;
+    once = p.once;
   }
 
   -- its plan is made, and it goes ahead
@@ -364,4 +374,5 @@ module _ {D : Type 0} (seen : D → List ℕ) (may_leave : D → List ℕ → Ty
         went = λ writing. absurd (not_writing s planning writing);
         why = a.why;
         faults = reported_behind (failures o.store.device) (failures n.store.device) (failures z.store.device) r (ap (λ (x : Operations D). failures x.store.device) made.0) a.faults;
+        once = subst (λ (x : Operations D). moment z.store.device ≤ moment x.store.device + 1) made.0 a.once;
       }

@@ -39,6 +39,7 @@ pub record GoesAhead {D : Type 0} (seen : D → List ℕ) (may_leave : D → Lis
   pub steps : (opening : PageBytes) (relations counters : ℕ) → IsRight seen may_leave opening relations counters o → IsUnderWay relations counters (world seen opening o) s → relations ≤ MAX_RELATIONS → counters ≤ MAX_COUNTERS
       → IsRight seen may_leave opening relations counters n × Steps relations counters (world seen opening o) (world seen opening n) s t r
   pub moments : (opening : PageBytes) → IsKept seen may_leave opening o.store → LeavesOnly moment left_since o.store.device n.store.device (Explains opening o.store)
+  pub once : moment n.store.device ≤ moment o.store.device + 1
   pub log : used n.store.log + t.left ≡ used o.store.log + s.left
   pub area : area_size n.store.log ≡ area_size o.store.log
   pub durable : durable n.store.log ≡ durable o.store.log
@@ -80,6 +81,7 @@ pub record LocksPage {D : Type 0} (seen : D → List ℕ) (may_leave : D → Lis
   pub goes : (opening : PageBytes) (relations counters : ℕ) → IsRight seen may_leave opening relations counters o → IsUnderWay relations counters (world seen opening o) s
       → IsRight seen may_leave opening relations counters n × GoesOn relations counters (world seen opening o) (world seen opening n) s t r
   pub moments : (opening : PageBytes) → IsKept seen may_leave opening o.store → LeavesOnly moment left_since o.store.device n.store.device (Explains opening o.store)
+  pub once : moment n.store.device ≤ moment o.store.device + 1
   pub log : n.store.log ≡ o.store.log
   pub map : n.map ≡ o.map
   pub same : IsAsFar s t
@@ -124,6 +126,7 @@ pub record PlansOn {D : Type 0} (seen : D → List ℕ) (may_leave : D → List 
   pub goes : (opening : PageBytes) (relations counters : ℕ) → IsRight seen may_leave opening relations counters o → IsUnderWay relations counters (world seen opening o) s → relations ≤ MAX_RELATIONS
       → IsRight seen may_leave opening relations counters n × IsPlannedOn relations counters (world seen opening o) (world seen opening n) s t r
   pub moments : (opening : PageBytes) → IsKept seen may_leave opening o.store → LeavesOnly moment left_since o.store.device n.store.device (Explains opening o.store)
+  pub once : moment n.store.device ≤ moment o.store.device + 1
   pub made : r ≡ Ok None → (n ≡ o) × (t.stage ≡ Writing)
   pub log : n.store.log ≡ o.store.log
   pub map : n.map ≡ o.map
@@ -143,6 +146,7 @@ pub record BringsPage {D : Type 0} (seen : D → List ℕ) (may_leave : D → Li
   pub kept : (opening : PageBytes) → IsKept seen may_leave opening o.store → IsKept seen may_leave opening n.store
   pub rests : (opening : PageBytes) → Rests (world seen opening o) (world seen opening n)
   pub moments : (opening : PageBytes) → IsKept seen may_leave opening o.store → LeavesOnly moment left_since o.store.device n.store.device (Explains opening o.store)
+  pub once : moment n.store.device ≤ moment o.store.device + 1
   pub there : r ≡ Ok true → IsThere n.store.pool page
   pub full : r ≡ Ok false → IsFull o.store.pool × (n ≡ o)
   pub place : n.store.pool.place ≡ o.store.pool.place

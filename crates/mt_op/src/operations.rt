@@ -147,7 +147,7 @@ impl<D: Device> Operations<D> {
     /// Begins an operation, with a number that no other has, of a transaction that has no other under way. `undoes`
     /// is the number of the operation that it takes back, or 0. An insert splits a bucket of the index only if
     /// `split` is set. It holds no page lock, and no page has been looked at. The only refusal is
-    /// [`Refusal::NoMemory`].
+    /// [`Refusal::NoMemory`], which hands the operation back.
     pub fn begin_op(
         &self,
         alloc: Global,
@@ -156,7 +156,7 @@ impl<D: Device> Operations<D> {
         op: Op,
         undoes: u64,
         split: bool,
-    ) -> Result<OpScope, Refusal>
+    ) -> Result<OpScope, (Refusal, Op)>
         requires pool { IsPool self.now.store.pool }
         requires numbers { IsTxn txn × IsOp number }
         ensures under { (opening : PageBytes) (relations counters : ℕ)
@@ -169,9 +169,11 @@ impl<D: Device> Operations<D> {
         ensures budget { IfOk result HasBudget }
         ensures work { IfOk result (λ s. work_of s ≡ 2 * pages self.now.store.pool + 9) }
         ensures left { IfOk result (λ s. s.left ≡ (if only_reads op then 0 else OPERATION_LOG_BYTES)) }
-        ensures only_memory { IfErr result (λ why. why ≡ Refusal.NoMemory) }
+        ensures only_memory { IfErr result (λ gone. (gone.0 ≡ Refusal.NoMemory) × (gone.1 ≡ op)) }
     {
-        let guards = Vec::with_capacity(alloc, 4)?;
+        let Ok(guards) = Vec::with_capacity(alloc, 4) else {
+            return Err((Refusal::NoMemory, op));
+        };
         let left = if reads_only(&op) {
             0
         } else {
@@ -295,6 +297,7 @@ impl<D: Device> Operations<D> {
         ensures moments { (opening : PageBytes) → IsKept D.seen D.may_leave opening self.old.store
             → LeavesOnly D.moment D.left_since self.old.store.device self.new.store.device
             (Explains opening self.old.store) }
+        ensures once { D.moment self.new.store.device ≤ D.moment self.old.store.device + 1 }
         ensures pool { self.new.store.pool ≡ self.old.store.pool }
         ensures ruling { self.new.store.ruling ≡ self.old.store.ruling }
         ensures claimed { claimed self.new ≡ claimed self.old }
@@ -323,6 +326,7 @@ impl<D: Device> Operations<D> {
         ensures moments { (opening : PageBytes) → IsKept D.seen D.may_leave opening self.old.store
             → LeavesOnly D.moment D.left_since self.old.store.device self.new.store.device
             (Explains opening self.old.store) }
+        ensures once { D.moment self.new.store.device ≤ D.moment self.old.store.device + 1 }
         ensures claimed { claimed self.new ≡ claimed self.old }
         ensures log { self.new.store.log ≡ self.old.store.log }
         ensures there { self.new.store.pool.of_page ≡ self.old.store.pool.of_page }
@@ -369,7 +373,7 @@ impl<D: Device> Operations<D> {
     pub fn give_up(&mut self, scope: OpScope)
         ensures store { self.new.store ≡ self.old.store }
     {
-        let (guards, _seen) = scope.into_guards_and_copies();
+        let (_op, guards, _seen) = scope.into_parts();
         self.locks.release_all(guards);
     }
 }

@@ -104,14 +104,14 @@ impl OpScope {
         self.left
     }
 
-    // Its guards, and its copies of the pages that it looked at. The rest of it is dropped.
-    pub(crate) fn into_guards_and_copies(self) -> (Vec<PageGuard>, Copies)
-        ensures { result ≡ (self.guards, self.seen) }
+    // The operation, its guards, and its copies of the pages that it looked at. The rest of it is dropped.
+    pub(crate) fn into_parts(self) -> (Op, Vec<PageGuard>, Copies)
+        ensures { result ≡ (self.op, self.guards, self.seen) }
     {
         let OpScope {
             txn: _,
             number: _,
-            op: _,
+            op,
             undoes: _,
             split: _,
             left: _,
@@ -125,6 +125,6 @@ impl OpScope {
             written: _,
             standing: _,
         } = self;
-        (guards, seen)
+        (op, guards, seen)
     }
 }

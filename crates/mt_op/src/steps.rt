@@ -77,6 +77,7 @@ impl<D: Device> Operations<D> {
         ensures moments { (opening : PageBytes) → IsKept D.seen D.may_leave opening self.old.store
             → LeavesOnly D.moment D.left_since self.old.store.device self.new.store.device
             (Explains opening self.old.store) }
+        ensures once { D.moment self.new.store.device ≤ D.moment self.old.store.device + 1 }
         ensures log { used self.new.store.log + scope.new.left ≡ used self.old.store.log + scope.old.left }
         ensures area { area_size self.new.store.log ≡ area_size self.old.store.log }
         ensures durable { durable self.new.store.log ≡ durable self.old.store.log }

@@ -23,6 +23,7 @@ use crate::scope::{OpScope, Stage};
 use mt_base::{PageNo, Refusal};
 use mt_disk::Device;
 use mt_frame::Record;
+use mt_model::Op;
 use mt_space::Pages;
 
 impl<D: Device> Operations<D> {
@@ -49,6 +50,7 @@ impl<D: Device> Operations<D> {
         ensures moments { (opening : PageBytes) → IsKept D.seen D.may_leave opening self.old.store
             → LeavesOnly D.moment D.left_since self.old.store.device self.new.store.device
             (Explains opening self.old.store) }
+        ensures once { D.moment self.new.store.device ≤ D.moment self.old.store.device + 1 }
         ensures more { result ≡ Ok taken.More → (scope.new.stage ≡ Taking)
             × (scope.new.standing + 1 ≡ scope.old.standing) }
         ensures clear { result ≡ Ok taken.Clear → (scope.new.stage ≡ Cleared) × (scope.old.standing ≤ 1) }
@@ -139,8 +141,8 @@ impl<D: Device> Operations<D> {
         Ok(TakenBack::Clear)
     }
 
-    /// Ends an operation that is ready: its locks are given back. It takes no memory.
-    pub fn end(&mut self, scope: OpScope)
+    /// Ends an operation that is ready, and gives it back: its locks go. It takes no memory.
+    pub fn end(&mut self, scope: OpScope) -> Op
         requires ready { scope.stage ≡ Ready }
         requires right { IsOneOf D.seen D.may_leave self.old scope }
         ensures right { (opening : PageBytes) (relations counters : ℕ)
@@ -155,13 +157,14 @@ impl<D: Device> Operations<D> {
         ensures locks { self.new.locks ≡ locks_without scope.number self.old.locks }
         ensures store { self.new.store ≡ self.old.store }
         ensures claimed { claimed self.new ≡ claimed self.old }
+        ensures op { result ≡ scope.op }
     {
-        self.release(scope); // its end is in the log
+        self.release(scope) // its end is in the log
     }
 
-    /// Drops an operation out that was taken back: its locks are given back, and nothing of it is left. It
+    /// Drops an operation out that was taken back, and gives it back: its locks go, and nothing of it is left. It
     /// takes no memory.
-    pub fn drop_out(&mut self, scope: OpScope)
+    pub fn drop_out(&mut self, scope: OpScope) -> Op
         requires cleared { scope.stage ≡ Cleared }
         requires right { IsOneOf D.seen D.may_leave self.old scope }
         ensures right { (opening : PageBytes) (relations counters : ℕ)
@@ -176,17 +179,21 @@ impl<D: Device> Operations<D> {
         ensures locks { self.new.locks ≡ locks_without scope.number self.old.locks }
         ensures store { self.new.store ≡ self.old.store }
         ensures claimed { claimed self.new ≡ claimed self.old }
+        ensures op { result ≡ scope.op }
     {
-        self.release(scope); // nothing else of it is left
+        self.release(scope) // nothing else of it is left
     }
 
-    // Gives the operation's locks back, and spends it. The memory of its copies is kept for those of others.
-    fn release(&mut self, scope: OpScope)
+    // Gives the operation's locks back, and takes it out of its scope. The memory of its copies is kept for those of
+    // others.
+    fn release(&mut self, scope: OpScope) -> Op
         requires locks { locks_of scope.number self.old.locks ≡ scope.guards.items }
-        ensures { Releases D.seen self.old self.new scope }
+        ensures released { Releases D.seen self.old self.new scope }
+        ensures op { result ≡ scope.op }
     {
-        let (guards, seen) = scope.into_guards_and_copies();
+        let (op, guards, seen) = scope.into_parts();
         self.locks.release_all(guards);
         self.spare.keep(seen);
+        op
     }
 }

@@ -38,7 +38,7 @@ fn give_up_behind(
     steps: u8,
 ) -> Result<Outcome, Refusal> {
     let txn = kernel.begin(1)?;
-    let mut outcome = called(kernel, txn, insert_of(alloc, 58)?);
+    let mut outcome = called(kernel, txn, &insert_of(alloc, 58)?);
     for _step in 0..steps {
         outcome = stepped(kernel, txn);
     }
@@ -110,8 +110,8 @@ fn call_again(
     kernel: &mut Kernel<MemDevice>,
     txn: TxnNo,
 ) -> Result<Outcome, Refusal> {
-    match called(kernel, txn, insert_of(alloc, 58)?) {
-        NO_MEMORY => Ok(called(kernel, txn, insert_of(alloc, 58)?)),
+    match called(kernel, txn, &insert_of(alloc, 58)?) {
+        NO_MEMORY => Ok(called(kernel, txn, &insert_of(alloc, 58)?)),
         other => Ok(other),
     }
 }

@@ -70,7 +70,7 @@ fn reported_of_call(called: Called) -> Outcome {
 }
 
 /// Calls an operation.
-pub fn called<D: Device>(kernel: &mut Kernel<D>, txn: TxnNo, op: Op) -> Outcome {
+pub fn called<D: Device>(kernel: &mut Kernel<D>, txn: TxnNo, op: &Op) -> Outcome {
     match kernel.call(txn, op) {
         Ok(called) => reported_of_call(called),
         Err(why) => Outcome::Refused(why),
@@ -121,7 +121,7 @@ fn stepped_or_flushed<D: Device>(kernel: &mut Kernel<D>, txn: TxnNo) -> Outcome 
 
 /// Makes an operation from its call to its reply, or to what is in its way.
 pub fn run<D: Device>(kernel: &mut Kernel<D>, txn: TxnNo, op: Op) -> Outcome {
-    let mut outcome = called(kernel, txn, op);
+    let mut outcome = called(kernel, txn, &op);
     for _step in 0..1000u16 {
         match outcome {
             Outcome::Started | Outcome::Went | Outcome::Again => {}

@@ -14,7 +14,7 @@ use Rattle.mt_core.specs.Runs.{state_in}
 use Rattle.mt_core.specs.declared.calls.Called.{Called}
 use Rattle.mt_core.specs.declared.calls.Called.TheVariants as call
 use Rattle.mt_core.specs.declared.parts.Core.{Core}
-use Rattle.mt_core.specs.declared.parts.Running.{Running}
+use Rattle.mt_op.specs.declared.scope.OpScope.{OpScope}
 use Rattle.mt_txn.proofs.Showing.{open_works, within_of}
 use Rattle.mt_txn.specs.Causes.{IsNamed, IsSized}
 use Rattle.mt_txn.specs.Events.{HasCalled, HasStepped, HasForced, HasAborted}
@@ -35,7 +35,7 @@ module _ {D : Type 0} {g : Ghosts D} (seen : D → List ℕ) (may_leave : D → 
   pub err_stepped : (t : ℕ) (n : Kernel D g) (r : Result Stepped Refusal) (y : Refusal) → r ≡ Err y → Shows seen may_leave first s n → HasStepped seen may_leave first s t r n
   err_stepped t n r y is shows = subst (λ x. HasStepped seen may_leave first s t x n) (sym is) shows
 
-  pub going_stepped : (t : ℕ) (n : Kernel D g) (rs : List Running) (gone : Going) (x : Stepped) → IsReportedAs rs gone x → Shows seen may_leave first s n → HasStepped seen may_leave first s t (Ok x) n
+  pub going_stepped : (t : ℕ) (n : Kernel D g) (rs : List OpScope) (gone : Going) (x : Stepped) → IsReportedAs rs gone x → Shows seen may_leave first s n → HasStepped seen may_leave first s t (Ok x) n
   going_stepped t n rs gone (step.Replied reply) outcome shows = absurd outcome
   going_stepped t n rs gone step.Went outcome shows = shows
   going_stepped t n rs gone (step.Wait other) outcome shows = shows
@@ -58,7 +58,7 @@ module _ {D : Type 0} {g : Ghosts D} (seen : D → List ℕ) (may_leave : D → 
 -- ---- a call
 
 module _ {D : Type 0} (seen : D → List ℕ) (may_leave : D → List ℕ → Type 0) (relations counters : ℕ) where
-  pub may_call : (k : Core D) (t : ℕ) (op : Op) (origin : Origin) → IsOrigin relations counters origin.first origin → IsNamed relations counters op → IsSized op → state_in k.live.members t ≡ Some Open → All (λ (r : Running). r.scope.txn ≢ t) k.running.items → MayBeCalled origin k t op
+  pub may_call : (k : Core D) (t : ℕ) (op : Op) (origin : Origin) → IsOrigin relations counters origin.first origin → IsNamed relations counters op → IsSized op → state_in k.live.members t ≡ Some Open → All (λ (r : OpScope). r.txn ≢ t) k.running.items → MayBeCalled origin k t op
   may_call k t op origin is named sized opened idle = record {
     within = subst (λ (X : Type 0). X) (λ i. IsWithin (sym is.relations_are i) (sym is.counters_are i) op) (within_of relations counters op named sized);
     at_work = open_works (member_of k.live.members t) opened;
@@ -92,7 +92,7 @@ call_answers seen may_leave first s t op (Err why) n shows = shows
 
 -- ---- the steps that are left
 
-pub going_lowers : (rs : List Running) (pages before now : ℕ) (gone : Going) (x : Stepped) → IsReportedAs rs gone x → LeavesSteps pages gone before now → LowersSteps pages (Ok x) before now
+pub going_lowers : (rs : List OpScope) (pages before now : ℕ) (gone : Going) (x : Stepped) → IsReportedAs rs gone x → LeavesSteps pages gone before now → LowersSteps pages (Ok x) before now
 going_lowers rs pages before now gone (step.Replied reply) outcome less = absurd outcome
 going_lowers rs pages before now gone step.Went outcome less = subst (λ g. LeavesSteps pages g before now) outcome less
 going_lowers rs pages before now gone (step.Wait other) outcome less = subst (λ g. LeavesSteps pages g before now) outcome.1 less
@@ -102,7 +102,7 @@ going_lowers rs pages before now gone step.Again outcome less = ⊎_elim
     (λ again. subst (λ g. LeavesSteps pages g before now) again less) outcome.1
 
 -- of an abort
-pub going_left : (rs : List Running) (pages before now : ℕ) (gone : Going) (x : AbortStepped) → IsAbortReportedAs rs gone x → LeavesSteps pages gone before now → LowersAbort pages (Ok x) before now
+pub going_left : (rs : List OpScope) (pages before now : ℕ) (gone : Going) (x : AbortStepped) → IsAbortReportedAs rs gone x → LeavesSteps pages gone before now → LowersAbort pages (Ok x) before now
 going_left rs pages before now gone abort.Ended outcome less = absurd outcome
 going_left rs pages before now gone abort.More outcome less = subst (λ g. LeavesSteps pages g before now) outcome less
 going_left rs pages before now gone (abort.Wait other) outcome less = subst (λ g. LeavesSteps pages g before now) outcome.1 less

@@ -16,7 +16,7 @@ use Rattle.mt_model.specs.declared.operations.Op.{Op}
 use Rattle.mt_core.specs.Runs.{running_in, state_in, is_for}
 use Rattle.mt_core.specs.declared.parts.Commit.{Commit}
 use Rattle.mt_core.specs.declared.parts.Core.{Core}
-use Rattle.mt_core.specs.declared.parts.Running.{Running}
+use Rattle.mt_op.specs.declared.scope.OpScope.{OpScope}
 use Rattle.mt_txn.specs.Causes.{is_busy}
 use Rattle.mt_txn.specs.Well.{IsWell, ShowsIn}
 
@@ -26,28 +26,28 @@ alike : {A B : Type 0} (f : Member → A) (g : Member → B) (o : Option Member)
 alike f g None = refl
 alike f g (Some m) = refl
 
-runs_in : (rs : List Running) (t : ℕ) (op : Op) → running_in rs t ≡ Some op → list_any (λ (r : Running). r.scope.txn == t) rs ≡ true
+runs_in : (rs : List OpScope) (t : ℕ) (op : Op) → running_in rs t ≡ Some op → list_any (λ (r : OpScope). r.txn == t) rs ≡ true
 runs_in [] t op is = absurd cc
-runs_in (r ∷ rs) t op is = go (r.scope.txn == t) refl (runs_in rs t op)
+runs_in (r ∷ rs) t op is = go (r.txn == t) refl (runs_in rs t op)
   where
-    go : (b : Bool) → (r.scope.txn == t) ≡ b → (running_in rs t ≡ Some op → list_any (λ (q : Running). q.scope.txn == t) rs ≡ true) → list_any (λ (q : Running). q.scope.txn == t) (r ∷ rs) ≡ true
-    go true its later = ap (λ (b : Bool). b || list_any (λ (q : Running). q.scope.txn == t) rs) its
+    go : (b : Bool) → (r.txn == t) ≡ b → (running_in rs t ≡ Some op → list_any (λ (q : OpScope). q.txn == t) rs ≡ true) → list_any (λ (q : OpScope). q.txn == t) (r ∷ rs) ≡ true
+    go true its later = ap (λ (b : Bool). b || list_any (λ (q : OpScope). q.txn == t) rs) its
     go false other later =
-        let rest : running_in rs t ≡ Some op = ap (λ (b : Bool). cond (b && (r.scope.undoes == 0)) (Some r.scope.op) (running_in rs t)) (sym other) ∙ is in
-        ap (λ (b : Bool). b || list_any (λ (q : Running). q.scope.txn == t) rs) other ∙ later rest
+        let rest : running_in rs t ≡ Some op = ap (λ (b : Bool). cond (b && (r.undoes == 0)) (Some r.op) (running_in rs t)) (sym other) ∙ is in
+        ap (λ (b : Bool). b || list_any (λ (q : OpScope). q.txn == t) rs) other ∙ later rest
 
-rests_in : (rs : List Running) (t : ℕ) → All (λ (r : Running). r.scope.txn ≡ t → (r.scope.undoes == 0) ≡ true) rs → running_in rs t ≡ None → list_any (λ (r : Running). r.scope.txn == t) rs ≡ false
+rests_in : (rs : List OpScope) (t : ℕ) → All (λ (r : OpScope). r.txn ≡ t → (r.undoes == 0) ≡ true) rs → running_in rs t ≡ None → list_any (λ (r : OpScope). r.txn == t) rs ≡ false
 rests_in [] t fore none = refl
-rests_in (r ∷ rs) t fore none = go (r.scope.txn == t) refl (rests_in rs t (All-tail (λ (q : Running). q.scope.txn ≡ t → (q.scope.undoes == 0) ≡ true) r rs fore))
+rests_in (r ∷ rs) t fore none = go (r.txn == t) refl (rests_in rs t (All-tail (λ (q : OpScope). q.txn ≡ t → (q.undoes == 0) ≡ true) r rs fore))
   where
-    go : (b : Bool) → (r.scope.txn == t) ≡ b → (running_in rs t ≡ None → list_any (λ (q : Running). q.scope.txn == t) rs ≡ false) → list_any (λ (q : Running). q.scope.txn == t) (r ∷ rs) ≡ false
+    go : (b : Bool) → (r.txn == t) ≡ b → (running_in rs t ≡ None → list_any (λ (q : OpScope). q.txn == t) rs ≡ false) → list_any (λ (q : OpScope). q.txn == t) (r ∷ rs) ≡ false
     go true its later =
-        let forward : (r.scope.undoes == 0) ≡ true = fore 0 r (omega arith) (eqb-true r.scope.txn t its) in
-        let own : is_for t r ≡ true = ap (λ (b : Bool). b && (r.scope.undoes == 0)) its ∙ forward in
-        let e : Some r.scope.op ≡ None = ap (λ (b : Bool). cond b (Some r.scope.op) (running_in rs t)) (sym own) ∙ none in absurd cc
+        let forward : (r.undoes == 0) ≡ true = fore 0 r (omega arith) (eqb-true r.txn t its) in
+        let own : is_for t r ≡ true = ap (λ (b : Bool). b && (r.undoes == 0)) its ∙ forward in
+        let e : Some r.op ≡ None = ap (λ (b : Bool). cond b (Some r.op) (running_in rs t)) (sym own) ∙ none in absurd cc
     go false other later =
-        let rest : running_in rs t ≡ None = ap (λ (b : Bool). cond (b && (r.scope.undoes == 0)) (Some r.scope.op) (running_in rs t)) (sym other) ∙ none in
-        ap (λ (b : Bool). b || list_any (λ (q : Running). q.scope.txn == t) rs) other ∙ later rest
+        let rest : running_in rs t ≡ None = ap (λ (b : Bool). cond (b && (r.undoes == 0)) (Some r.op) (running_in rs t)) (sym other) ∙ none in
+        ap (λ (b : Bool). b || list_any (λ (q : OpScope). q.txn == t) rs) other ∙ later rest
 
 -- ---- of a kernel
 
@@ -64,9 +64,9 @@ module _ {D : Type 0} (seen : D → List ℕ) (may_leave : D → List ℕ → Ty
   idle_of k first s shows t opened none = ∥∥₁_elim shows (hlevel props) (λ (origin, base, is, x).
       rests_in k.running.items t (λ i d lt own. fore (get_or k.running.items i d) own (x.consistent.fit.owned i d lt).aborts) (ap (λ (z : State). z.running t) (sym x.state) ∙ none))
     where
-      fore : (r : Running) → r.scope.txn ≡ t → (r.scope.undoes ≢ 0 → state_in k.live.members r.scope.txn ≡ Some Aborting) → (r.scope.undoes == 0) ≡ true
-      fore r own aborts = ⊎_elim (λ (forward : r.scope.undoes ≡ 0). ap (λ (n : ℕ). n == 0) forward)
-          (λ (back : r.scope.undoes ≢ 0). let now : Some Open ≡ Some Aborting = sym opened ∙ ap (state_in k.live.members) (sym own) ∙ aborts back in absurd cc) (cases_eq r.scope.undoes 0)
+      fore : (r : OpScope) → r.txn ≡ t → (r.undoes ≢ 0 → state_in k.live.members r.txn ≡ Some Aborting) → (r.undoes == 0) ≡ true
+      fore r own aborts = ⊎_elim (λ (forward : r.undoes ≡ 0). ap (λ (n : ℕ). n == 0) forward)
+          (λ (back : r.undoes ≢ 0). let now : Some Open ≡ Some Aborting = sym opened ∙ ap (state_in k.live.members) (sym own) ∙ aborts back in absurd cc) (cases_eq r.undoes 0)
 
   pub no_commits : (k : Core D) → IsWell seen may_leave relations counters k → ((t : ℕ) → state_in k.live.members t ≢ Some Committing) → k.commits.items ≡ []
   no_commits k well nobody = go k.commits.items refl

@@ -86,12 +86,12 @@ module _ {D : Type 0} (seen : D → List ℕ) (may_leave : D → List ℕ → Ty
   pub step_goes : (k n : Core D) (place : ℕ) (res : Result Stepping Refusal) → place < length k.running.items → ((origin : Origin) (base : Base) → IsConsistent seen may_leave origin base k → Steps seen may_leave origin base k n place res) → Goes k n
   step_goes k n place (Ok (Going going)) within go origin base safe = (base, (go origin base safe).consistent)
   step_goes k n place (Err why) within go origin base safe = (base, (go origin base safe).consistent)
-  step_goes k n place (Ok (Ended reply)) within go origin base safe = let at = at_place k.running.items place within in (base_after base at.0.scope.op, (go origin base safe at.0 at.1).1.consistent)
+  step_goes k n place (Ok (Ended reply)) within go origin base safe = let at = at_place k.running.items place within in (base_after base at.0.op, (go origin base safe at.0 at.1).1.consistent)
 
   pub undo_goes : (k n : Core D) (place : ℕ) (res : Result Stepping Refusal) → place < length k.running.items → ((origin : Origin) (base : Base) → IsConsistent seen may_leave origin base k → UndoSteps seen may_leave origin base k n place res) → Goes k n
   undo_goes k n place (Ok (Going going)) within go origin base safe = (base, (go origin base safe).consistent)
   undo_goes k n place (Err why) within go origin base safe = (base, (go origin base safe).consistent)
-  undo_goes k n place (Ok (Ended reply)) within go origin base safe = let at = at_place k.running.items place within in (base_after base at.0.scope.op, (go origin base safe at.0 at.1).1.leads.consistent)
+  undo_goes k n place (Ok (Ended reply)) within go origin base safe = let at = at_place k.running.items place within in (base_after base at.0.op, (go origin base safe at.0 at.1).1.leads.consistent)
 
   pub back_goes : (k n : Core D) (place : ℕ) (res : Result TakenBack Refusal) → place < length k.running.items → ((origin : Origin) (base : Base) → IsConsistent seen may_leave origin base k → BacksIn seen may_leave origin base k n place res) → Goes k n
   back_goes k n place (Ok taken.More) within go origin base safe = (base, (go origin base safe).consistent)

@@ -24,7 +24,7 @@ use Rattle.mt_core.specs.Consistent.{Origin, state_of, AtPlace, IsConsistent, Is
 use Rattle.mt_core.specs.Runs.{running_in, state_in, is_at_work, is_open, IsMoving, IsOwned, IsRunning}
 use Rattle.mt_core.specs.Steps.{Steps, UndoSteps}
 use Rattle.mt_core.specs.declared.parts.Core.{Core}
-use Rattle.mt_core.specs.declared.parts.Running.{Running}
+use Rattle.mt_op.specs.declared.scope.OpScope.{OpScope}
 use Rattle.mt_core.specs.declared.steps.Stepping.{Stepping}
 use Rattle.mt_core.specs.declared.steps.Stepping.TheVariants.{Going, Ended}
 use Rattle.mt_op.specs.Operations.{world}
@@ -61,21 +61,21 @@ module _ {D : Type 0} (seen : D → List ℕ) (may_leave : D → List ℕ → Ty
   pub sound_of : (k : Core D) → IsWell seen may_leave relations counters k → IsSound seen may_leave k
   sound_of k well = ∥∥₁_map well (λ (origin, base, is, safe). (origin, base, safe))
 
-  own_of : (k : Core D) (place : ℕ) (r : Running) → place < length k.running.items → r ≡ get_or k.running.items place r → (origin : Origin) (base : Base) → IsConsistent seen may_leave origin base k → IsOwned k.live.members k.live.standing r × IsMoving r.scope.stage
+  own_of : (k : Core D) (place : ℕ) (r : OpScope) → place < length k.running.items → r ≡ get_or k.running.items place r → (origin : Origin) (base : Base) → IsConsistent seen may_leave origin base k → IsOwned k.live.members k.live.standing r × IsMoving r.stage
   own_of k place r within there origin base safe = (
     subst (IsOwned k.live.members k.live.standing) (sym there) (safe.fit.owned place r within),
     (subst (IsRunning origin.relations origin.counters (world seen origin.pages k.operations) k.last) (sym there) (safe.runs place r within)).moving,
   )
 
   -- an operation of an open transaction is no inverse, and is not taken back
-  pub forward_of : (k : Core D) (t place : ℕ) → IsWell seen may_leave relations counters k → place < length k.running.items → AtPlace k.running.items place (λ r. r.scope.txn ≡ t) → state_in k.live.members t ≡ Some Open → AtPlace k.running.items place (λ r. r.scope.undoes ≡ 0)
-  forward_of k t place well within own opened r there = ⊎_elim (λ (fore : r.scope.undoes ≡ 0). fore) (λ (back : r.scope.undoes ≡ 0 → ⊥).
+  pub forward_of : (k : Core D) (t place : ℕ) → IsWell seen may_leave relations counters k → place < length k.running.items → AtPlace k.running.items place (λ r. r.txn ≡ t) → state_in k.live.members t ≡ Some Open → AtPlace k.running.items place (λ r. r.undoes ≡ 0)
+  forward_of k t place well within own opened r there = ⊎_elim (λ (fore : r.undoes ≡ 0). fore) (λ (back : r.undoes ≡ 0 → ⊥).
       absurd (∥∥₁_elim well (hlevel props) (λ (origin, base, is, safe).
       let aborts = (own_of k place r within there origin base safe).0.aborts back in
-      let now : state_in k.live.members t ≡ Some Aborting = ap (state_in k.live.members) (sym (own r there)) ∙ aborts in absurd cc))) (cases_eq r.scope.undoes 0)
+      let now : state_in k.live.members t ≡ Some Aborting = ap (state_in k.live.members) (sym (own r there)) ∙ aborts in absurd cc))) (cases_eq r.undoes 0)
 
-  pub stage_of : (k : Core D) (t place : ℕ) → IsWell seen may_leave relations counters k → place < length k.running.items → AtPlace k.running.items place (λ r. r.scope.txn ≡ t) → state_in k.live.members t ≡ Some Open → AtPlace k.running.items place (λ r. (r.scope.stage ≡ Planning) ⊎ (r.scope.stage ≡ Writing))
-  stage_of k t place well within own opened r there = going_of r.scope.stage (∥∥₁_map well (λ (origin, base, is, safe). let mine = own_of k place r within there origin base safe in (
+  pub stage_of : (k : Core D) (t place : ℕ) → IsWell seen may_leave relations counters k → place < length k.running.items → AtPlace k.running.items place (λ r. r.txn ≡ t) → state_in k.live.members t ≡ Some Open → AtPlace k.running.items place (λ r. (r.stage ≡ Planning) ⊎ (r.stage ≡ Writing))
+  stage_of k t place well within own opened r there = going_of r.stage (∥∥₁_map well (λ (origin, base, is, safe). let mine = own_of k place r within there origin base safe in (
     mine.1,
     λ taking.
         let aborting = (mine.0.taken taking).1 in
@@ -83,8 +83,8 @@ module _ {D : Type 0} (seen : D → List ℕ) (may_leave : D → List ℕ → Ty
   )))
 
   -- an inverse is not taken back
-  pub inverse_stage : (k : Core D) (place : ℕ) → IsWell seen may_leave relations counters k → place < length k.running.items → AtPlace k.running.items place (λ r. r.scope.undoes ≢ 0) → AtPlace k.running.items place (λ r. (r.scope.stage ≡ Planning) ⊎ (r.scope.stage ≡ Writing))
-  inverse_stage k place well within back r there = going_of r.scope.stage (∥∥₁_map well (λ (origin, base, is, safe). let mine = own_of k place r within there origin base safe in (mine.1, λ taking. back r there (mine.0.taken taking).0)))
+  pub inverse_stage : (k : Core D) (place : ℕ) → IsWell seen may_leave relations counters k → place < length k.running.items → AtPlace k.running.items place (λ r. r.undoes ≢ 0) → AtPlace k.running.items place (λ r. (r.stage ≡ Planning) ⊎ (r.stage ≡ Writing))
+  inverse_stage k place well within back r there = going_of r.stage (∥∥₁_map well (λ (origin, base, is, safe). let mine = own_of k place r within there origin base safe in (mine.1, λ taking. back r there (mine.0.taken taking).0)))
 
   -- ---- what is kept
 
@@ -132,7 +132,7 @@ module _ {D : Type 0} (seen : D → List ℕ) (may_leave : D → List ℕ → Ty
   StepShown n first s t (Ok (Going going)) = ShowsIn seen may_leave relations counters first s n
   StepShown n first s t (Err why) = ShowsIn seen may_leave relations counters first s n
 
-  pub step_shown : (k n : Core D) (first : Base) (s : State) (t place : ℕ) (res : Result Stepping Refusal) → place < length k.running.items → AtPlace k.running.items place (λ r. r.scope.txn ≡ t) → AtPlace k.running.items place (λ r. r.scope.undoes ≡ 0)
+  pub step_shown : (k n : Core D) (first : Base) (s : State) (t place : ℕ) (res : Result Stepping Refusal) → place < length k.running.items → AtPlace k.running.items place (λ r. r.txn ≡ t) → AtPlace k.running.items place (λ r. r.undoes ≡ 0)
       → ((origin : Origin) (base : Base) → IsConsistent seen may_leave origin base k → Steps seen may_leave origin base k n place res) → ShowsIn seen may_leave relations counters first s k → StepShown n first s t res
   step_shown k n first s t place (Ok (Going going)) within own fore go shows = led k n (λ z. z) first s (λ origin base safe. (base, go origin base safe)) shows
   step_shown k n first s t place (Err why) within own fore go shows = led k n (λ z. z) first s (λ origin base safe. (base, go origin base safe)) shows
@@ -141,25 +141,25 @@ module _ {D : Type 0} (seen : D → List ℕ) (may_leave : D → List ℕ → Ty
         ∥∥₁_map shows (λ (origin, base, is, x).
             let this = same_op origin base x r at.1 op runs in
             let here = go origin base x.consistent r at.1 in
-            (origin, base_after base r.scope.op, is, subst (λ (X : Type 0). X) (λ i. IsIn seen may_leave origin (base_after base r.scope.op) (ended (sym x.state i) (own r at.1 i) (this i)) n) here.1)),
+            (origin, base_after base r.op, is, subst (λ (X : Type 0). X) (λ i. IsIn seen may_leave origin (base_after base r.op) (ended (sym x.state i) (own r at.1 i) (this i)) n) here.1)),
         ∥∥₁_map shows (λ (origin, base, is, x).
             let this = same_op origin base x r at.1 op runs in
             let here = go origin base x.consistent r at.1 in
             (λ i. reply_of ((ap (λ (z : State). z.base) x.state) i) (sym this i)) ∙ here.0),
       )
     where
-      same_op : (origin : Origin) (base : Base) → IsIn seen may_leave origin base s k → (r : Running) → r ≡ get_or k.running.items place r → (op : Op) → s.running t ≡ Some op → r.scope.op ≡ op
+      same_op : (origin : Origin) (base : Base) → IsIn seen may_leave origin base s k → (r : OpScope) → r ≡ get_or k.running.items place r → (op : Op) → s.running t ≡ Some op → r.op ≡ op
       same_op origin base x r there op runs =
-          let mine : running_in k.running.items r.scope.txn ≡ Some r.scope.op = running_at k.running.items place r within there (fore r there) x.consistent.fit.apart in
+          let mine : running_in k.running.items r.txn ≡ Some r.op = running_at k.running.items place r within there (fore r there) x.consistent.fit.apart in
           let now : running_in k.running.items t ≡ Some op = ap (λ (z : State). z.running t) (sym x.state) ∙ runs in
-          let same : ◌≡◌ {A = Option Op} (Some r.scope.op) (Some op) = sym mine ∙ ap (running_in k.running.items) (own r there) ∙ now in cc
+          let same : ◌≡◌ {A = Option Op} (Some r.op) (Some op) = sym mine ∙ ap (running_in k.running.items) (own r there) ∙ now in cc
 
   pub step_well : (k n : Core D) (place : ℕ) (res : Result Stepping Refusal) → place < length k.running.items
       → ((origin : Origin) (base : Base) → IsConsistent seen may_leave origin base k → Steps seen may_leave origin base k n place res) → IsWell seen may_leave relations counters k → IsWell seen may_leave relations counters n
   step_well k n place (Ok (Going going)) within go well = well_led k n (λ z. z) (λ origin base safe. (base, go origin base safe)) well
   step_well k n place (Err why) within go well = well_led k n (λ z. z) (λ origin base safe. (base, go origin base safe)) well
   step_well k n place (Ok (Ended reply)) within go well = let at = at_place k.running.items place within in
-      ∥∥₁_map well (λ (origin, base, is, safe). (origin, base_after base at.0.scope.op, is, (go origin base safe at.0 at.1).1.consistent))
+      ∥∥₁_map well (λ (origin, base, is, safe). (origin, base_after base at.0.op, is, (go origin base safe at.0 at.1).1.consistent))
 
   -- ---- a step of an abort
 
@@ -174,16 +174,16 @@ module _ {D : Type 0} (seen : D → List ℕ) (may_leave : D → List ℕ → Ty
   UndoShown n first s t (Ok (Going going)) = ShowsIn seen may_leave relations counters first s n
   UndoShown n first s t (Err why) = ShowsIn seen may_leave relations counters first s n
 
-  pub undo_shown : (k n : Core D) (first : Base) (s : State) (t place : ℕ) (res : Result Stepping Refusal) → place < length k.running.items → AtPlace k.running.items place (λ r. r.scope.txn ≡ t)
+  pub undo_shown : (k n : Core D) (first : Base) (s : State) (t place : ℕ) (res : Result Stepping Refusal) → place < length k.running.items → AtPlace k.running.items place (λ r. r.txn ≡ t)
       → ((origin : Origin) (base : Base) → IsConsistent seen may_leave origin base k → UndoSteps seen may_leave origin base k n place res) → ShowsIn seen may_leave relations counters first s k → UndoShown n first s t res
   undo_shown k n first s t place (Ok (Going going)) within own go shows = led k n (λ z. z) first s (λ origin base safe. (base, go origin base safe)) shows
   undo_shown k n first s t place (Err why) within own go shows = led k n (λ z. z) first s (λ origin base safe. (base, go origin base safe)) shows
   undo_shown k n first s t place (Ok (Ended reply)) within own go shows = let at = at_place k.running.items place within in let r = at.0 in
       ∥∥₁_map shows (λ (origin, base, is, x).
-      let u = subst (λ (X : Type 0). X) (λ i. UndoesIn seen may_leave origin base (sym x.state i) n (own r at.1 i) r.scope.op) (go origin base x.consistent r at.1).1 in (
-        undone s t r.scope.op n.escrow.pending,
-        undoes u.last r.scope.op n.escrow.pending u.idle u.effect u.inverts u.given,
-        ∣ (origin, base_after base r.scope.op, is, u.leads) ∣₁,
+      let u = subst (λ (X : Type 0). X) (λ i. UndoesIn seen may_leave origin base (sym x.state i) n (own r at.1 i) r.op) (go origin base x.consistent r at.1).1 in (
+        undone s t r.op n.escrow.pending,
+        undoes u.last r.op n.escrow.pending u.idle u.effect u.inverts u.given,
+        ∣ (origin, base_after base r.op, is, u.leads) ∣₁,
       ))
 
   pub undo_well : (k n : Core D) (place : ℕ) (res : Result Stepping Refusal) → place < length k.running.items
@@ -191,7 +191,7 @@ module _ {D : Type 0} (seen : D → List ℕ) (may_leave : D → List ℕ → Ty
   undo_well k n place (Ok (Going going)) within go well = well_led k n (λ z. z) (λ origin base safe. (base, go origin base safe)) well
   undo_well k n place (Err why) within go well = well_led k n (λ z. z) (λ origin base safe. (base, go origin base safe)) well
   undo_well k n place (Ok (Ended reply)) within go well = let at = at_place k.running.items place within in
-      ∥∥₁_map well (λ (origin, base, is, safe). (origin, base_after base at.0.scope.op, is, (go origin base safe at.0 at.1).1.leads.consistent))
+      ∥∥₁_map well (λ (origin, base, is, safe). (origin, base_after base at.0.op, is, (go origin base safe at.0 at.1).1.leads.consistent))
 
   abbrev pub BackShown : Core D → Base → State → ℕ → Result TakenBack Refusal → Type 0
   BackShown n first s t (Ok taken.Clear) = ShowsBack n first s t
@@ -199,7 +199,7 @@ module _ {D : Type 0} (seen : D → List ℕ) (may_leave : D → List ℕ → Ty
   BackShown n first s t (Ok taken.Flush) = ShowsIn seen may_leave relations counters first s n
   BackShown n first s t (Err why) = ShowsIn seen may_leave relations counters first s n
 
-  pub back_shown : (k n : Core D) (first : Base) (s : State) (t place : ℕ) (res : Result TakenBack Refusal) → place < length k.running.items → AtPlace k.running.items place (λ r. r.scope.txn ≡ t)
+  pub back_shown : (k n : Core D) (first : Base) (s : State) (t place : ℕ) (res : Result TakenBack Refusal) → place < length k.running.items → AtPlace k.running.items place (λ r. r.txn ≡ t)
       → ((origin : Origin) (base : Base) → IsConsistent seen may_leave origin base k → BacksIn seen may_leave origin base k n place res) → ShowsIn seen may_leave relations counters first s k → BackShown n first s t res
   back_shown k n first s t place (Ok taken.More) within own go shows = led k n (λ z. z) first s (λ origin base safe. (base, go origin base safe)) shows
   back_shown k n first s t place (Ok taken.Flush) within own go shows = led k n (λ z. z) first s (λ origin base safe. (base, go origin base safe)) shows

@@ -13,7 +13,7 @@ use Rattle.mt_model.specs.Model.{Base}
 use Rattle.mt_pool.specs.Views.{pages}
 use Rattle.mt_txn.specs.Causes.{IsFault}
 use Rattle.mt_txn.specs.Events.{HasAborted}
-use Rattle.mt_txn.specs.Shown.{LeavesFound, SameSchema, Shows, StaysRestarting, TellsEachFault, is_failed}
+use Rattle.mt_txn.specs.Shown.{CallsOnce, LeavesFound, SameSchema, Shows, StaysRestarting, TellsEachFault, is_failed}
 use Rattle.mt_txn.specs.Work.{IsAbortForOther, LowersAbort}
 use Rattle.mt_txn.specs.declared.answers.AbortStepped.{AbortStepped}
 use Rattle.mt_txn.specs.declared.answers.AbortStepped.TheVariants.{Ended, Flush}
@@ -36,4 +36,5 @@ module _ {D : Type 0} {g : Ghosts D} (seen : D → List ℕ) (may_leave : D → 
     pub schema : SameSchema k n
     pub restarts : StaysRestarting seen may_leave k n
     pub moments : LeavesFound seen may_leave moment left_since k n
+    pub once : CallsOnce moment k n
     pub aborted : (first : Base) (s : State) → Shows seen may_leave first s k → HasAborted seen may_leave first s t result n

@@ -14,7 +14,7 @@ use Rattle.mt_model.specs.declared.operations.Op.TheVariants.{Get, Insert, Updat
 use Rattle.mt_core.specs.Consistent.{log_kept}
 use Rattle.mt_core.specs.Runs.{state_in}
 use Rattle.mt_core.specs.declared.parts.Core.{Core}
-use Rattle.mt_core.specs.declared.parts.Running.{Running}
+use Rattle.mt_op.specs.declared.scope.OpScope.{OpScope}
 
 -- the first of two causes
 abbrev pub first_of : Option Refusal → Option Refusal → Option Refusal
@@ -60,7 +60,7 @@ abort_cause failed k t = if failed then Some refusal.DeviceFailed else unless (i
 
 -- whether an operation of it is under way
 abbrev pub is_busy : {D : Type 0} → Core D → ℕ → Bool
-is_busy k t = list_any (λ (r : Running). r.scope.txn == t) k.running.items
+is_busy k t = list_any (λ (r : OpScope). r.txn == t) k.running.items
 
 abbrev pub busy_cause : {D : Type 0} → Core D → ℕ → Option Refusal
 busy_cause k t = if is_busy k t then Some refusal.Busy else None

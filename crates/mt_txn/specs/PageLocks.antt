@@ -4,7 +4,7 @@ use Rattle.mt_base.specs.declared.refusal.Refusal.{Refusal}
 use Rattle.mt_core.specs.Consistent.{AtPlace, IsOwnerOf}
 use Rattle.mt_core.specs.PageLocks.{KeepsPageLocks}
 use Rattle.mt_core.specs.declared.parts.Core.{Core}
-use Rattle.mt_core.specs.declared.parts.Running.{Running}
+use Rattle.mt_op.specs.declared.scope.OpScope.{OpScope}
 use Rattle.mt_core.specs.declared.steps.Going.TheVariants as going
 use Rattle.mt_core.specs.declared.steps.Stepping.TheVariants.{Going as GoingOn, Ended}
 use Rattle.mt_plock.specs.Releasing.{locks_without}
@@ -14,19 +14,19 @@ use Rattle.mt_txn.specs.declared.answers.Stepped.{Stepped}
 use Rattle.mt_txn.specs.declared.answers.Stepped.TheVariants as step
 
 -- This holds of the operation of t that is under way.
-abbrev pub OfRunning : List Running → ℕ → (Running → Type 0) → Type 0
-OfRunning rs t Holds = (place : ℕ) × (place < length rs) × AtPlace rs place (λ r. (r.scope.txn ≡ t) × Holds r)
+abbrev pub OfRunning : List OpScope → ℕ → (OpScope → Type 0) → Type 0
+OfRunning rs t Holds = (place : ℕ) × (place < length rs) × AtPlace rs place (λ r. (r.txn ≡ t) × Holds r)
 
 -- It keeps them as an operation that waits for one of this transaction. That holds a lock in the way.
-abbrev pub WaitsFor : {D : Type 0} → Core D → Core D → Running → ℕ → Type 0
+abbrev pub WaitsFor : {D : Type 0} → Core D → Core D → OpScope → ℕ → Type 0
 WaitsFor k n r other = (holder : ℕ) × IsOwnerOf n.running.items holder (Some other) × KeepsPageLocks k n r (Ok (GoingOn (going.Wait holder)))
 
 -- It gives its own back, since an operation that holds a lock in the way is smaller.
-abbrev pub BeginsAnew : {D : Type 0} → Core D → Core D → Running → Type 0
+abbrev pub BeginsAnew : {D : Type 0} → Core D → Core D → OpScope → Type 0
 BeginsAnew k n r = (holder : ℕ) × KeepsPageLocks k n r (Ok (GoingOn (going.Again holder)))
 
 -- What a step does to them: what it answers is reported as the step of the parts does.
-abbrev pub StepsLocks : {D : Type 0} → Core D → Core D → Running → Result Stepped Refusal → Type 0
+abbrev pub StepsLocks : {D : Type 0} → Core D → Core D → OpScope → Result Stepped Refusal → Type 0
 StepsLocks k n r (Ok (step.Replied reply)) = KeepsPageLocks k n r (Ok (Ended reply))
 StepsLocks k n r (Ok step.Went) = KeepsPageLocks k n r (Ok (GoingOn going.Went))
 StepsLocks k n r (Ok (step.Wait other)) = WaitsFor k n r other
@@ -36,8 +36,8 @@ StepsLocks k n r (Err why) = KeepsPageLocks k n r (Err why)
 
 -- What a step of an abort does to them, if an operation is under way: it gets one that the plan of its inverse wants
 -- next, and no other; or its own go, and no other's; or they stay.
-abbrev pub AbortsLocks : {D : Type 0} → Core D → Core D → Running → Result AbortStepped Refusal → Type 0
-AbortsLocks k n r (Ok abort.More) = KeepsPageLocks k n r (Ok (GoingOn going.Went)) ⊎ (n.operations.locks ≡ locks_without r.scope.number k.operations.locks)
+abbrev pub AbortsLocks : {D : Type 0} → Core D → Core D → OpScope → Result AbortStepped Refusal → Type 0
+AbortsLocks k n r (Ok abort.More) = KeepsPageLocks k n r (Ok (GoingOn going.Went)) ⊎ (n.operations.locks ≡ locks_without r.number k.operations.locks)
 AbortsLocks k n r (Ok (abort.Wait other)) = WaitsFor k n r other
 AbortsLocks k n r (Ok abort.Again) = BeginsAnew k n r
 AbortsLocks k n r (Ok abort.Flush) = n.operations.locks ≡ k.operations.locks

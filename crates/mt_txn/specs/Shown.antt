@@ -1,5 +1,5 @@
 -- A kernel as its callers see it.
-use Rattle.std.specs.Prelude.{ℕ, ◌≡◌, ◌||◌, Bool, true, List, Result, Err}
+use Rattle.std.specs.Prelude.{ℕ, ◌≡◌, ◌+◌, ◌≤◌, ◌||◌, Bool, true, List, Result, Err}
 use Rattle.mt_base.specs.Limits.{IsRelationCount}
 use Rattle.mt_base.specs.declared.refusal.Refusal.{Refusal}
 use Rattle.mt_base.specs.declared.refusal.Refusal.TheVariants.{DeviceFailed}
@@ -34,6 +34,10 @@ FailsForGood k result n = (is_failed k ≡ true → (result ≡ Err DeviceFailed
 -- The device failed in a call of kernel k only if the call is refused with 2.
 abbrev pub TellsEachFault : {D T : Type 0} → {g : Ghosts D} → (D → ℕ) → Kernel D g → Result T Refusal → Kernel D g → Type 0
 TellsEachFault faults k result n = (result ≡ Err DeviceFailed → ⊥) → faults n.core.operations.store.device ≡ faults k.core.operations.store.device
+
+-- The device was called once at most.
+abbrev pub CallsOnce : {D : Type 0} → {g : Ghosts D} → (D → ℕ) → Kernel D g → Kernel D g → Type 0
+CallsOnce moment k n = moment n.core.operations.store.device ≤ moment k.core.operations.store.device + 1
 
 -- Begun on this base, the kernel can be restarted from each beginning of its log's records; and so it stays.
 abbrev pub Restarts : {D : Type 0} → {g : Ghosts D} → (D → List ℕ) → (D → List ℕ → Type 0) → Base → Kernel D g → Type 0

@@ -4,7 +4,7 @@ use Rattle.mt_base.specs.declared.refusal.Refusal.{Refusal}
 use Rattle.mt_live.specs.Lives.{member_of}
 use Rattle.mt_live.specs.Members.{Member}
 use Rattle.mt_core.specs.Consistent.{IsOwnerOf}
-use Rattle.mt_core.specs.declared.parts.Running.{Running}
+use Rattle.mt_op.specs.declared.scope.OpScope.{OpScope}
 use Rattle.mt_core.specs.declared.steps.Going.{Going}
 use Rattle.mt_core.specs.declared.steps.Going.TheVariants as going
 use Rattle.mt_txn.specs.declared.answers.AbortStepped.{AbortStepped}
@@ -14,7 +14,7 @@ use Rattle.mt_txn.specs.declared.answers.Stepped.TheVariants as step
 
 -- What a step answers of an operation that goes on. It names the transaction whose operation holds the page; if none
 -- has that operation, it is asked again.
-abbrev pub IsReportedAs : List Running → Going → Stepped → Type 0
+abbrev pub IsReportedAs : List OpScope → Going → Stepped → Type 0
 IsReportedAs rs g (step.Replied reply) = ⊥
 IsReportedAs rs g step.Went = g ≡ going.Went
 IsReportedAs rs g (step.Wait other) = (holder : ℕ) × (g ≡ going.Wait holder) × IsOwnerOf rs holder (Some other)
@@ -23,7 +23,7 @@ IsReportedAs rs g step.Again =
 IsReportedAs rs g step.Flush = g ≡ going.Flush
 
 -- what a step of an abort answers of an inverse that goes on
-abbrev pub IsAbortReportedAs : List Running → Going → AbortStepped → Type 0
+abbrev pub IsAbortReportedAs : List OpScope → Going → AbortStepped → Type 0
 IsAbortReportedAs rs g abort.More = g ≡ going.Went
 IsAbortReportedAs rs g (abort.Wait other) = (holder : ℕ) × (g ≡ going.Wait holder) × IsOwnerOf rs holder (Some other)
 IsAbortReportedAs rs g abort.Again =

@@ -11,13 +11,13 @@ ghost use Rattle.mt_core.specs.Runs.{state_in};
 ghost use Rattle.mt_core.specs.Steps.{WantsFrame};
 ghost use Rattle.mt_core.specs.Work.{most_steps, undo_steps};
 ghost use Rattle.mt_pool.specs.Views.{pages};
-ghost use Rattle.mt_core.specs.declared.parts.Running.{Running};
+ghost use Rattle.mt_op.specs.declared.scope.OpScope.{OpScope};
 ghost use Rattle.mt_txn.specs.Aborted.{StepsAbort};
 ghost use Rattle.mt_txn.specs.Causes.{IsFault, abort_cause, is_busy, open_cause};
 ghost use Rattle.mt_txn.specs.Events.{HasAborted};
 ghost use Rattle.mt_txn.specs.Shown.{FailsForGood, SameSchema, Shows, Stays, StaysRestarting, TellsEachFault, is_failed};
 ghost use Rattle.mt_txn.specs.Work.{IsAbortReportedAs, IsAbortForOther, LowersAbort};
-ghost use Rattle.mt_txn.specs.Shown.{LeavesFound};
+ghost use Rattle.mt_txn.specs.Shown.{CallsOnce, LeavesFound};
 ghost use Rattle.mt_txn.specs.PageLocks.{AbortsLocks, OfRunning};
 
 use crate::answers::AbortStepped;
@@ -60,7 +60,7 @@ impl<D: Device> Kernel<D> {
     fn go_back(&mut self, txn: TxnNo, place: usize) -> Result<AbortStepped, Refusal>
         requires within { place < length self.old.core.running.items }
         requires own { AtPlace self.old.core.running.items place
-            (λ r. (r.scope.txn ≡ txn) × (r.scope.undoes ≡ 0)) }
+            (λ r. (r.txn ≡ txn) × (r.undoes ≡ 0)) }
         requires aborting { state_in self.old.core.live.members txn ≡ Some Aborting }
         ensures steps { StepsAbort D.seen D.may_leave D.faults D.moment D.left_since self.old txn result self.new }
         ensures marks { self.new.failed ≡ true → result ≡ Err Refusal.DeviceFailed }
@@ -80,7 +80,7 @@ impl<D: Device> Kernel<D> {
     fn undo_step(&mut self, txn: TxnNo, place: usize) -> Result<AbortStepped, Refusal>
         requires within { place < length self.old.core.running.items }
         requires own { AtPlace self.old.core.running.items place
-            (λ r. (r.scope.txn ≡ txn) × (r.scope.undoes ≢ 0)) }
+            (λ r. (r.txn ≡ txn) × (r.undoes ≢ 0)) }
         ensures steps { StepsAbort D.seen D.may_leave D.faults D.moment D.left_since self.old txn result self.new }
         ensures marks { self.new.failed ≡ true → result ≡ Err Refusal.DeviceFailed }
         ensures locks { AtPlace self.old.core.running.items place
@@ -114,7 +114,7 @@ impl<D: Device> Kernel<D> {
 
     // Begins the next inverse of a transaction that is to be undone and runs nothing, or ends its abort.
     fn undo_next(&mut self, txn: TxnNo) -> Result<AbortStepped, Refusal>
-        requires idle { All (λ (r : Running). r.scope.txn ≢ txn) self.old.core.running.items }
+        requires idle { All (λ (r : OpScope). r.txn ≢ txn) self.old.core.running.items }
         requires aborting { state_in self.old.core.live.members txn ≡ Some Aborting }
         ensures steps { StepsAbort D.seen D.may_leave D.faults D.moment D.left_since self.old txn result self.new }
         ensures marks { self.new.failed ≡ self.old.failed }
@@ -168,6 +168,7 @@ impl<D: Device> Kernel<D> {
         ensures schema { SameSchema self.old self.new }
         ensures restarts { StaysRestarting D.seen D.may_leave self.old self.new }
         ensures moments { LeavesFound D.seen D.may_leave D.moment D.left_since self.old self.new }
+        ensures once { CallsOnce D.moment self.old self.new }
         ensures aborted { (first : Base) (s : State) → Shows D.seen D.may_leave first s self.old
             → HasAborted D.seen D.may_leave first s txn result self.new }
     {

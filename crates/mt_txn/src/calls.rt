@@ -28,29 +28,29 @@ impl<D: Device> Kernel<D> {
     /// would leave the counter's bounds. Then 10 if too few pages are free and not claimed, 11 if the log has
     /// too few bytes left. If a younger transaction is in the way, it answers [`Called::Wait`]. Refusal 1 is for
     /// want of memory, at the point if it is wanted. In each of these cases nothing of the call is kept.
-    pub fn call(&mut self, txn: TxnNo, op: Op) -> Result<Called, Refusal>
+    pub fn call(&mut self, txn: TxnNo, op: &Op) -> Result<Called, Refusal>
         ensures early { (why : Refusal)
-            → call_cause self.old.relations self.old.counters (is_failed self.old) self.old.core txn op ≡ Some why
+            → call_cause self.old.relations self.old.counters (is_failed self.old) self.old.core txn op.now ≡ Some why
             → result ≡ Err why }
         ensures answer { call_cause self.old.relations self.old.counters
-            (is_failed self.old) self.old.core txn op ≡ None
-            → IsAnsweredBy D.seen D.may_leave self.old txn op result }
+            (is_failed self.old) self.old.core txn op.now ≡ None
+            → IsAnsweredBy D.seen D.may_leave self.old txn op.now result }
         ensures states { SameStates self.old.core self.new.core }
         ensures runs { CallRuns txn (2 * pages self.old.core.operations.store.pool + 9) self.old.core.running.items
             self.new.core.running.items result }
         ensures commits { SameCommits self.old.core self.new.core }
         ensures store { self.new.core.operations.store ≡ self.old.core.operations.store }
         ensures called { (first : Base) (s : State) → Shows D.seen D.may_leave first s self.old
-            → HasCalled D.seen D.may_leave first s txn op result self.new }
+            → HasCalled D.seen D.may_leave first s txn op.now result self.new }
         ensures fails { FailsForGood self.old result self.new }
         ensures unmoved { (why : Refusal)
-            → call_cause self.old.relations self.old.counters (is_failed self.old) self.old.core txn op ≡ Some why
+            → call_cause self.old.relations self.old.counters (is_failed self.old) self.old.core txn op.now ≡ Some why
             → self.new ≡ self.old }
         ensures schema { SameSchema self.old self.new }
         ensures restarts { StaysRestarting D.seen D.may_leave self.old self.new }
         ensures moments { LeavesFound D.seen D.may_leave D.moment D.left_since self.old self.new }
     {
-        if let Some(why) = self.call_cause(txn, &op) {
+        if let Some(why) = self.call_cause(txn, op) {
             return Err(why);
         }
         self.core.call(self.alloc, txn, op, true)

@@ -2,7 +2,7 @@
 ghost use Rattle.std.specs.Prelude.{◌≡◌, ◌≢◌, ◌<◌, ◌^◌, All, IfNone, None, Some, false, true};
 ghost use Rattle.mt_base.specs.declared.limits.TheConstants.{MAX_BEGUN};
 ghost use Rattle.mt_core.specs.Runs.{state_in};
-ghost use Rattle.mt_core.specs.declared.parts.Running.{Running};
+ghost use Rattle.mt_op.specs.declared.scope.OpScope.{OpScope};
 ghost use Rattle.mt_live.specs.declared.transactions.TxnState.TheVariants.{Open, Aborting};
 ghost use Rattle.mt_txn.specs.Shown.{is_failed};
 ghost use Rattle.mt_txn.specs.Causes.{IsNamed, IsSized, abort_cause, call_cause, count_cause, name_cause, open_cause, size_cause};
@@ -105,7 +105,7 @@ impl<D: Device> Kernel<D> {
         ensures cause { result ≡ call_cause self.now.relations self.now.counters
             (is_failed self.now) self.now.core txn op.now }
         ensures opened { IfNone result (state_in self.now.core.live.members txn ≡ Some Open) }
-        ensures idle { IfNone result (All (λ (r : Running). r.scope.txn ≢ txn) self.now.core.running.items) }
+        ensures idle { IfNone result (All (λ (r : OpScope). r.txn ≢ txn) self.now.core.running.items) }
         ensures few { IfNone result (self.now.core.last < MAX_BEGUN) }
         ensures named { IfNone result (IsNamed self.now.relations self.now.counters op.now) }
         ensures sized { IfNone result (IsSized op.now) }

@@ -14,7 +14,7 @@ ghost use Rattle.mt_core.specs.declared.parts.Commit.{Commit};
 ghost use Rattle.mt_txn.specs.Causes.{IsFailure, commit_cause};
 ghost use Rattle.mt_txn.specs.Events.{HasForced, IsForcedBy};
 ghost use Rattle.mt_txn.specs.Shown.{FailsForGood, SameSchema, Shows, Stays, StaysRestarting, TellsEachFault, is_failed};
-ghost use Rattle.mt_txn.specs.Shown.{LeavesFound};
+ghost use Rattle.mt_txn.specs.Shown.{CallsOnce, LeavesFound};
 
 use crate::answers::KernelForced;
 use crate::kernel::{Kernel, is_failure};
@@ -98,6 +98,7 @@ impl<D: Device> Kernel<D> {
         ensures schema { SameSchema self.old self.new }
         ensures restarts { StaysRestarting D.seen D.may_leave self.old self.new }
         ensures moments { LeavesFound D.seen D.may_leave D.moment D.left_since self.old self.new }
+        ensures once { CallsOnce D.moment self.old self.new }
     {
         if self.has_failed() {
             return Err(Refusal::DeviceFailed);
@@ -145,6 +146,7 @@ impl<D: Device> Kernel<D> {
         ensures schema { SameSchema self.old self.new }
         ensures restarts { StaysRestarting D.seen D.may_leave self.old self.new }
         ensures moments { LeavesFound D.seen D.may_leave D.moment D.left_since self.old self.new }
+        ensures once { CallsOnce D.moment self.old self.new }
     {
         if self.has_failed() {
             return Err(Refusal::DeviceFailed);

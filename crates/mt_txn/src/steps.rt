@@ -14,7 +14,7 @@ ghost use Rattle.mt_txn.specs.Causes.{IsFault, step_cause};
 ghost use Rattle.mt_txn.specs.Events.{HasStepped};
 ghost use Rattle.mt_txn.specs.PageLocks.{OfRunning, StepsLocks};
 ghost use Rattle.mt_txn.specs.Shown.{FailsForGood, SameSchema, Shows, StaysRestarting, TellsEachFault, is_failed};
-ghost use Rattle.mt_txn.specs.Shown.{LeavesFound};
+ghost use Rattle.mt_txn.specs.Shown.{CallsOnce, LeavesFound};
 
 use crate::answers::Stepped;
 use crate::kernel::{Kernel, is_failure};
@@ -59,6 +59,7 @@ impl<D: Device> Kernel<D> {
         ensures schema { SameSchema self.old self.new }
         ensures restarts { StaysRestarting D.seen D.may_leave self.old self.new }
         ensures moments { LeavesFound D.seen D.may_leave D.moment D.left_since self.old self.new }
+        ensures once { CallsOnce D.moment self.old self.new }
         ensures stepped { (first : Base) (s : State) → Shows D.seen D.may_leave first s self.old
             → HasStepped D.seen D.may_leave first s txn result self.new }
     {

@@ -36,7 +36,7 @@ module _ {D : Type 0} {g : Ghosts D} (seen : D → List ℕ) (may_leave : D → 
     finds_now k c starts count left = finds_commits seen may_leave k.relations k.counters first k.core c starts (only_now (device_under k) c left) count
 
     -- what was acknowledged is the book
-    pub answered_of : (events : List Event) (answers : List Answer) (k : Kernel D g) → ∥ HasRun seen may_leave faults first events answers k ∥₁ → length k.core.book.items ≡ length (acknowledged answers)
+    pub answered_of : (events : List Event) (answers : List Answer) (k : Kernel D g) → ∥ HasRun seen may_leave moment faults first events answers k ∥₁ → length k.core.book.items ≡ length (acknowledged answers)
     answered_of events answers k some = ∥∥₁_elim some (hlevel props) (λ r. ∥∥₁_elim r.shows (hlevel props) (λ (origin, base, is, x).
         let book : length r.state.book ≡ length k.core.book.items = ap (λ (s : State). length s.book) x.state in
         let outcome : length r.state.book ≡ length (map (λ t. commit_of (reported_of events answers t)) (acknowledged answers)) = ap (λ (cs : List Committed). length cs) r.outcome in
@@ -48,8 +48,8 @@ module _ {D : Type 0} {g : Ghosts D} (seen : D → List ℕ) (may_leave : D → 
       behind = λ i. k;
       last = refl;
       goes = λ i event answer lt. absurd (omega (arith, lt));
-      ran = λ i le. let none : i ≡ 0 = omega (arith, le) in subst (λ (j : ℕ). ∥ HasRun seen may_leave faults first (take j []) (take j []) k ∥₁) (sym none) (has_run seen may_leave faults first [] [] k (ran_none seen may_leave faults first k shows) starts);
-      answered = λ i le. let none : i ≡ 0 = omega (arith, le) in subst (λ (j : ℕ). length k.core.book.items ≡ length (acknowledged (take j []))) (sym none) (answered_of [] [] k (has_run seen may_leave faults first [] [] k (ran_none seen may_leave faults first k shows) starts));
+      ran = λ i le. let none : i ≡ 0 = omega (arith, le) in subst (λ (j : ℕ). ∥ HasRun seen may_leave moment faults first (take j []) (take j []) k ∥₁) (sym none) (has_run seen may_leave moment faults first [] [] k (ran_none seen may_leave moment faults first k shows) starts);
+      answered = λ i le. let none : i ≡ 0 = omega (arith, le) in subst (λ (j : ℕ). length k.core.book.items ≡ length (acknowledged (take j []))) (sym none) (answered_of [] [] k (has_run seen may_leave moment faults first [] [] k (ran_none seen may_leave moment faults first k shows) starts));
       later = λ i le. omega arith;
       each = λ i c le left. ∥∥₁_map (finds_now k c starts count left) (λ f. record { made = 0; past = le; within = omega arith; finds = f });
       begun = found.later;
@@ -59,7 +59,7 @@ module _ {D : Type 0} {g : Ghosts D} (seen : D → List ℕ) (may_leave : D → 
 
     module _ (events : List Event) (answers : List Answer) (event : Event) (answer : Answer) (k n : Kernel D g) (made : HasMade seen may_leave moment left_since faults k event answer n)
         (starts : Restarts seen may_leave first k) (now : Restarts seen may_leave first n) (count : IsRelationCount k.relations) (counts : IsRelationCount n.relations) (same : length events ≡ length answers)
-        (ran : ∥ HasRun seen may_leave faults first (events ++ event ∷ []) (answers ++ answer ∷ []) n ∥₁) (was : FoundUntil seen may_leave moment left_since faults since first events answers k (device_under k)) where
+        (ran : ∥ HasRun seen may_leave moment faults first (events ++ event ∷ []) (answers ++ answer ∷ []) n ∥₁) (was : FoundUntil seen may_leave moment left_since faults since first events answers k (device_under k)) where
       abbrev next : ℕ → Kernel D g
       next = put was.behind (length events + 1) n
 
@@ -98,20 +98,20 @@ module _ {D : Type 0} {g : Ghosts D} (seen : D → List ℕ) (may_leave : D → 
           subst (λ (X : Type 0). X) (λ j. HasMade seen may_leave moment left_since faults (sym from j) (sym one j) (sym two j) (sym to j)) made)
           (cases_lt i (length events))
 
-      ran_to : (i : ℕ) → i ≤ length (events ++ event ∷ []) → ∥ HasRun seen may_leave faults first (take i (events ++ event ∷ [])) (take i (answers ++ answer ∷ [])) (next i) ∥₁
+      ran_to : (i : ℕ) → i ≤ length (events ++ event ∷ []) → ∥ HasRun seen may_leave moment faults first (take i (events ++ event ∷ [])) (take i (answers ++ answer ∷ [])) (next i) ∥₁
       ran_to i le = ⊎_elim
           (λ (less : i < length events + 1).
           let short : i ≤ length events = omega (arith, less) in
           let one : take i (events ++ event ∷ []) ≡ take i events = take-append-le i events (event ∷ []) short in
           let two : take i (answers ++ answer ∷ []) ≡ take i answers = take-append-le i answers (answer ∷ []) (omega (arith, short, same)) in
           let there : next i ≡ was.behind i = old i short in
-          subst (λ (X : Type 0). X) (λ j. ∥ HasRun seen may_leave faults first (sym one j) (sym two j) (sym there j) ∥₁) (was.ran i short))
+          subst (λ (X : Type 0). X) (λ j. ∥ HasRun seen may_leave moment faults first (sym one j) (sym two j) (sym there j) ∥₁) (was.ran i short))
           (λ (ge : length events + 1 ≤ i).
           let is = whole i ge le in
           let one : take i (events ++ event ∷ []) ≡ events ++ event ∷ [] = take_all i (events ++ event ∷ []) (omega (arith, is, longer)) in
           let two : take i (answers ++ answer ∷ []) ≡ answers ++ answer ∷ [] = take_all i (answers ++ answer ∷ []) (omega (arith, is, longer_reported)) in
           let there : next i ≡ n = ap next is ∙ own in
-          subst (λ (X : Type 0). X) (λ j. ∥ HasRun seen may_leave faults first (sym one j) (sym two j) (sym there j) ∥₁) ran)
+          subst (λ (X : Type 0). X) (λ j. ∥ HasRun seen may_leave moment faults first (sym one j) (sym two j) (sym there j) ∥₁) ran)
           (cases_lt i (length events + 1))
 
       rises : moment (device_under k) ≤ moment (device_under n)
@@ -190,13 +190,13 @@ module _ {D : Type 0} {g : Ghosts D} (seen : D → List ℕ) (may_leave : D → 
       }
 
     pub found_more : (events : List Event) (answers : List Answer) (event : Event) (answer : Answer) (k n : Kernel D g) → HasMade seen may_leave moment left_since faults k event answer n → Restarts seen may_leave first k → IsRelationCount k.relations → IsRelationCount n.relations
-        → Ran seen may_leave faults first (events ++ event ∷ []) (answers ++ answer ∷ []) n → Found events answers k → Found (events ++ event ∷ []) (answers ++ answer ∷ []) n
+        → Ran seen may_leave moment faults first (events ++ event ∷ []) (answers ++ answer ∷ []) n → Found events answers k → Found (events ++ event ∷ []) (answers ++ answer ∷ []) n
     found_more events answers event answer k n made starts count counts ran found =
         let now = made.restarts first starts in
         ∥∥₁_elim ran ∥∥₁_prop (λ (acts, s, makes, shows).
-        let same = makes_same seen may_leave faults first (events ++ event ∷ []) (answers ++ answer ∷ []) acts s n makes in
+        let same = makes_same seen may_leave moment faults first (events ++ event ∷ []) (answers ++ answer ∷ []) acts s n makes in
         let short : length events ≡ length answers = let one = length-append events (event ∷ []) in let two = length-append answers (answer ∷ []) in omega (arith, same, one, two) in
-        ∥∥₁_map found (λ was. more events answers event answer k n made starts now count counts short (has_run seen may_leave faults first (events ++ event ∷ []) (answers ++ answer ∷ []) n ran now) was))
+        ∥∥₁_map found (λ was. more events answers event answer k n made starts now count counts short (has_run seen may_leave moment faults first (events ++ event ∷ []) (answers ++ answer ∷ []) n ran now) was))
 
     -- until a device that the last kernel has left
     pub found_until : (events : List Event) (answers : List Answer) (k : Kernel D g) (device : D) → FindsMeanwhile moment left_since k.relations k.counters first k.core device → FoundUntil seen may_leave moment left_since faults since first events answers k (device_under k)

@@ -121,8 +121,8 @@ pub stay_more : (answers : List Answer) (answer : Answer) → StayBroken answers
 stay_more [] answer stay each = (λ broken. tt, tt)
 stay_more (x ∷ answers) answer stay each = (λ broken. each_append IsBroken answers (answer ∷ []) (stay.0 broken) (each.0 broken, tt), stay_more answers answer stay.1 each.1)
 
-module _ {D : Type 0} {g : Ghosts D} (seen : D → List ℕ) (may_leave : D → List ℕ → Type 0) (faults : D → ℕ) (first : Base) where
-  makes_acted : (events : List Event) (answers : List Answer) (acts : List Act) (s : State) (n : Kernel D g) → Makes seen may_leave faults first events answers acts s n → IsActed first (calls_in acts) × (run first (calls_in acts) ≡ s.base)
+module _ {D : Type 0} {g : Ghosts D} (seen : D → List ℕ) (may_leave : D → List ℕ → Type 0) (moment faults : D → ℕ) (first : Base) where
+  makes_acted : (events : List Event) (answers : List Answer) (acts : List Act) (s : State) (n : Kernel D g) → Makes seen may_leave moment faults first events answers acts s n → IsActed first (calls_in acts) × (run first (calls_in acts) ≡ s.base)
   makes_acted _ _ _ _ n (starts k shows) = (tt, refl)
   makes_acted _ _ _ z n (goes_on events answers acts more s _ k _ event answer before made) =
       let was = makes_acted events answers acts s k before in
@@ -257,17 +257,17 @@ module _ {D : Type 0} {g : Ghosts D} (seen : D → List ℕ) (may_leave : D → 
     moves_queue z _ _ _ (books ts) due phases =
         first_leave k.core.commits.items n.core.commits.items ts.items (durable_count k.core.commits.items due.0) due.2 due.3 ∙ sym (append-nil (txns_of k.core.commits.items))
 
-  makes_shows : (events : List Event) (answers : List Answer) (acts : List Act) (s : State) (n : Kernel D g) → Makes seen may_leave faults first events answers acts s n → Shows seen may_leave first s n
+  makes_shows : (events : List Event) (answers : List Answer) (acts : List Act) (s : State) (n : Kernel D g) → Makes seen may_leave moment faults first events answers acts s n → Shows seen may_leave first s n
   makes_shows _ _ _ _ n (starts k shows) = shows
   makes_shows _ _ _ z n (goes_on events answers acts more s _ k _ event answer before made) = made.shows
 
-  pub makes_same : (events : List Event) (answers : List Answer) (acts : List Act) (s : State) (n : Kernel D g) → Makes seen may_leave faults first events answers acts s n → length events ≡ length answers
+  pub makes_same : (events : List Event) (answers : List Answer) (acts : List Act) (s : State) (n : Kernel D g) → Makes seen may_leave moment faults first events answers acts s n → length events ≡ length answers
   makes_same _ _ _ _ n (starts k shows) = refl
   makes_same _ _ _ z n (goes_on events answers acts more s _ k _ event answer before made) =
       let same = makes_same events answers acts s k before in
       length-append events (event ∷ []) ∙ ap (λ (l : ℕ). l + 1) same ∙ sym (length-append answers (answer ∷ []))
 
-  makes_reported : (events : List Event) (answers : List Answer) (acts : List Act) (s : State) (n : Kernel D g) → Makes seen may_leave faults first events answers acts s n
+  makes_reported : (events : List Event) (answers : List Answer) (acts : List Act) (s : State) (n : Kernel D g) → Makes seen may_leave moment faults first events answers acts s n
       → ∥ AreReported s (Phase n) (λ t. reported_of events answers t) (acknowledged answers) ∥₁
   makes_reported _ _ _ _ n (starts k shows) = ∣ record {
     each = λ t forward. absurd (let back : is_forward (Phase k t) ≡ false = none_back (Phase k t) (sym (lives_of seen may_leave k.relations k.counters k.core first (start first) shows t)) in let wrong : true ≡ false = sym forward ∙ back in cc);
@@ -285,7 +285,7 @@ module _ {D : Type 0} {g : Ghosts D} (seen : D → List ℕ) (may_leave : D → 
       (moves_reported s k n (λ t. reported_of events answers t) (acknowledged answers) z event answer more made.moves made.due made.phases made.shows kept queued.each queued.apart are)))))
 
   -- the acknowledged ones, and those under way behind them, are all that have begun
-  makes_queue : (events : List Event) (answers : List Answer) (acts : List Act) (s : State) (n : Kernel D g) → Makes seen may_leave faults first events answers acts s n
+  makes_queue : (events : List Event) (answers : List Answer) (acts : List Act) (s : State) (n : Kernel D g) → Makes seen may_leave moment faults first events answers acts s n
       → ∥ acknowledged answers ++ txns_of n.core.commits.items ≡ committing events answers ∥₁
   makes_queue _ _ _ _ n (starts k shows) = ∥∥₁_map shows (λ (origin, base, is, x).
       ap (λ (cs : List CommitUnderWay). txns_of cs) (none_under_way k.core.live.members k.core.commits.items x.consistent.fit.queued.each (λ t. sym (lives_of seen may_leave k.relations k.counters k.core first (start first) shows t))))
@@ -333,24 +333,24 @@ module _ {D : Type 0} {g : Ghosts D} (seen : D → List ℕ) (may_leave : D → 
         (each_map (λ x. IsBroken x → is_failed k ≡ true) (λ x. IsBroken x → is_failed n ≡ true) (λ x before broken. let was = before broken in ap (λ (y : Kernel D g). is_failed y) (fails.0 was).1 ∙ was) answers failed) (fails.1, tt),
   )
 
-  pub makes_broken : (events : List Event) (answers : List Answer) (acts : List Act) (s : State) (n : Kernel D g) → Makes seen may_leave faults first events answers acts s n → AreBroken answers n
+  pub makes_broken : (events : List Event) (answers : List Answer) (acts : List Act) (s : State) (n : Kernel D g) → Makes seen may_leave moment faults first events answers acts s n → AreBroken answers n
   makes_broken _ _ _ _ n (starts k shows) = (tt, tt)
   makes_broken _ _ _ z n (goes_on events answers acts more s _ k _ event answer before made) = broken_more answers k n answer made.fails (makes_broken events answers acts s k before)
 
   -- ---- the events so far
 
   abbrev pub Ran : List Event → List Answer → Kernel D g → Type 0
-  Ran events answers n = ∥ ((acts : List Act) × (s : State) × Makes seen may_leave faults first events answers acts s n × Shows seen may_leave first s n) ∥₁
+  Ran events answers n = ∥ ((acts : List Act) × (s : State) × Makes seen may_leave moment faults first events answers acts s n × Shows seen may_leave first s n) ∥₁
 
   pub ran_none : (k : Kernel D g) → Shows seen may_leave first (start first) k → Ran [] [] k
   ran_none k shows = ∣ ([], start first, starts k shows, shows) ∣₁
 
-  pub ran_more : (moment : D → ℕ) (left_since : D → ℕ → List ℕ → Type 0) (events : List Event) (answers : List Answer) (k n : Kernel D g) (event : Event) (answer : Answer) → HasMade seen may_leave moment left_since faults k event answer n → Restarts seen may_leave first k → Ran events answers k → Ran (events ++ event ∷ []) (answers ++ answer ∷ []) n
-  ran_more moment left_since events answers k n event answer made restarts ran = ∥∥₁_elim ran (hlevel props) (λ (acts, s, before, shows).
+  pub ran_more : (left_since : D → ℕ → List ℕ → Type 0) (events : List Event) (answers : List Answer) (k n : Kernel D g) (event : Event) (answer : Answer) → HasMade seen may_leave moment left_since faults k event answer n → Restarts seen may_leave first k → Ran events answers k → Ran (events ++ event ∷ []) (answers ++ answer ∷ []) n
+  ran_more left_since events answers k n event answer made restarts ran = ∥∥₁_elim ran (hlevel props) (λ (acts, s, before, shows).
       ∥∥₁_map (made.leads first s restarts shows) (λ (more, z, moves, now).
       (acts ++ more, z, goes_on events answers acts more s z k n event answer before (record { moves = moves; due = made.due; device = made.device; phases = made.phases; fails = made.fails; schema = made.schema; shows = now }), now)))
 
-  pub has_run : (events : List Event) (answers : List Answer) (n : Kernel D g) → Ran events answers n → Restarts seen may_leave first n → ∥ HasRun seen may_leave faults first events answers n ∥₁
+  pub has_run : (events : List Event) (answers : List Answer) (n : Kernel D g) → Ran events answers n → Restarts seen may_leave first n → ∥ HasRun seen may_leave moment faults first events answers n ∥₁
   has_run events answers n ran restarts = ∥∥₁_elim ran (hlevel props) (λ (acts, s, made, shows).
       ∥∥₁_elim (makes_reported events answers acts s n made) (hlevel props) (λ outcome.
       ∥∥₁_elim (makes_queue events answers acts s n made) (hlevel props) (λ queue.

@@ -39,7 +39,7 @@ module _ {D : Type 0} (g : Ghosts D) (seen : D → List ℕ) (may_leave : D → 
   module _ (relations counters : ℕ) (since : D) (first : Base) where
     -- the events so far have led to this kernel
     pub record RunsOn (events : List Event) (answers : List Answer) (n : Kernel D g) : Type 0 where
-      pub ran : Ran seen may_leave faults first events answers n
+      pub ran : Ran seen may_leave moment faults first events answers n
       pub starts : Restarts seen may_leave first n
       pub found : Found seen may_leave moment left_since only_now faults since first events answers n
       pub schema : (n.relations ≡ relations) × (n.counters ≡ counters)
@@ -54,22 +54,22 @@ module _ {D : Type 0} (g : Ghosts D) (seen : D → List ℕ) (may_leave : D → 
 
     pub runs_none : (k : Kernel D g) → Shows seen may_leave first (start first) k → Restarts seen may_leave first k → FindsSince moment left_since since first k → (k.relations ≡ relations) × (k.counters ≡ counters) → RunsTo [] [] (Stands k)
     runs_none k shows starts finds schema = record {
-      ran = ran_none seen may_leave faults first k shows;
+      ran = ran_none seen may_leave moment faults first k shows;
       starts = starts;
       found = found_none seen may_leave moment left_since only_now faults since first k shows starts finds k.schema;
       schema = schema;
     }
 
     -- behind answers of a kernel that has not failed, any other comes
-    unbroken : (events : List Event) (answers : List Answer) (answer : Answer) (k : Kernel D g) → early_cause k ≡ None → HasRun seen may_leave faults first events answers k → StayBroken (answers ++ answer ∷ [])
+    unbroken : (events : List Event) (answers : List Answer) (answer : Answer) (k : Kernel D g) → early_cause k ≡ None → HasRun seen may_leave moment faults first events answers k → StayBroken (answers ++ answer ∷ [])
     unbroken events answers answer k may run =
         stay_more answers answer run.broken
         (each_map (λ x. IsBroken x → is_failed k ≡ true) (λ x. IsBroken x → IsBroken answer)
-        (λ x before broken. absurd (let failed = early_failed k (before broken) in let wrong : Some refusal.DeviceFailed ≡ None = sym failed ∙ may in cc)) answers (makes_broken seen may_leave faults first events answers run.acts run.state k run.made).1)
+        (λ x before broken. absurd (let failed = early_failed k (before broken) in let wrong : Some refusal.DeviceFailed ≡ None = sym failed ∙ may in cc)) answers (makes_broken seen may_leave moment faults first events answers run.acts run.state k run.made).1)
 
     ends : (events : List Event) (answers : List Answer) (k : Kernel D g) (event : Event) (answer : Answer) (device : D) → RunsOn events answers k → HasEndedBy seen may_leave moment left_since faults k event answer device → ∥ EndsAs (events ++ event ∷ []) (answers ++ answer ∷ []) device ∥₁
     ends events answers k event answer device runs by =
-        ∥∥₁_elim (has_run seen may_leave faults first events answers k runs.ran runs.starts) ∥∥₁_prop (λ run.
+        ∥∥₁_elim (has_run seen may_leave moment faults first events answers k runs.ran runs.starts) ∥∥₁_prop (λ run.
         ∥∥₁_map runs.found (λ found. record {
           ended = record {
             done = events;
@@ -109,7 +109,7 @@ module _ {D : Type 0} (g : Ghosts D) (seen : D → List ℕ) (may_leave : D → 
 
     pub runs_more : (events : List Event) (answers : List Answer) (standing next : Standing D g) (event : Event) (answer : Answer) → GoesTo seen may_leave moment left_since faults standing event answer next → RunsTo events answers standing → RunsTo (events ++ event ∷ []) (answers ++ answer ∷ []) next
     runs_more events answers (Stands k) (Stands n) event answer made runs =
-        let ran = ran_more seen may_leave faults first moment left_since events answers k n event answer made runs.starts runs.ran in
+        let ran = ran_more seen may_leave moment faults first left_since events answers k n event answer made runs.starts runs.ran in
         record {
           ran = ran;
           starts = made.restarts first runs.starts;
@@ -127,7 +127,7 @@ module _ {D : Type 0} (g : Ghosts D) (seen : D → List ℕ) (may_leave : D → 
         subst (λ (es : List Event). RunsTo es (answers ++ answer ∷ []) next) all (runs_more (take i events) answers standing next event answer goes runs)
 
     pub has_run_to : (events : List Event) (answers : List Answer) (standing : Standing D g) → RunsTo events answers standing → ∥ HasRunTo seen may_leave moment left_since faults relations counters first events answers standing ∥₁
-    has_run_to events answers (Stands n) runs = has_run seen may_leave faults first events answers n runs.ran runs.starts
+    has_run_to events answers (Stands n) runs = has_run seen may_leave moment faults first events answers n runs.ran runs.starts
     has_run_to events answers (Ended device) runs = ∥∥₁_map runs (λ f. f.ended)
 
     pub found_to : (events : List Event) (answers : List Answer) (standing : Standing D g) → RunsTo events answers standing → ∥ FoundTo seen may_leave moment left_since faults relations counters since first events answers standing ∥₁

@@ -101,7 +101,7 @@ module _ {D : Type 0} {g : Ghosts D} (seen : D → List ℕ) (may_leave : D → 
 
   module _ (device : D) (e : HasEnded g seen may_leave moment left_since faults relations counters first events answers device) where
     done_same : length e.done ≡ length e.outcome
-    done_same = makes_same seen may_leave faults first e.done e.outcome e.ran.acts e.ran.state e.kernel e.ran.made
+    done_same = makes_same seen may_leave moment faults first e.done e.outcome e.ran.acts e.ran.state e.kernel e.ran.made
 
     ended_same : length events ≡ length answers
     ended_same =
@@ -133,14 +133,14 @@ module _ {D : Type 0} {g : Ghosts D} (seen : D → List ℕ) (may_leave : D → 
         ∙ ap (λ (ts : List ℕ). acknowledged e.outcome ++ ts) (acknowledged_behind e.later) ∙ append-nil (acknowledged e.outcome)
 
   pub same_length : (standing : Standing D g) → ∥ HasRunTo seen may_leave moment left_since faults relations counters first events answers standing ∥₁ → length answers ≡ length events
-  same_length (Stands n) ran = ∥∥₁_elim ran (hlevel props) (λ r. sym (makes_same seen may_leave faults first events answers r.acts r.state n r.made))
+  same_length (Stands n) ran = ∥∥₁_elim ran (hlevel props) (λ r. sym (makes_same seen may_leave moment faults first events answers r.acts r.state n r.made))
   same_length (Ended device) ran = ∥∥₁_elim ran (hlevel props) (λ e. sym (ended_same device e))
 
 module _ {D : Type 0} {g : Ghosts D} (seen : D → List ℕ) (may_leave : D → List ℕ → Type 0) (moment : D → ℕ) (left_since : D → ℕ → List ℕ → Type 0) (counts_now : (d : D) (t : ℕ) (c : List ℕ) → t ≤ moment d → may_leave d c → left_since d t c)
     (only_now : (d : D) (c : List ℕ) → left_since d (moment d) c → may_leave d c) (faults : D → ℕ) (s : Schema) (since : D) where
   -- ---- what a restart finds of a kernel
 
-  module _ (events : List Event) (answers : List Answer) (k : Kernel D g) (run : HasRun seen may_leave faults (schema_base s) events answers k) (relations_are : k.relations ≡ relations_in s) (counters_are : k.counters ≡ length (counters_in s)) where
+  module _ (events : List Event) (answers : List Answer) (k : Kernel D g) (run : HasRun seen may_leave moment faults (schema_base s) events answers k) (relations_are : k.relations ≡ relations_in s) (counters_are : k.counters ≡ length (counters_in s)) where
     abbrev Finds : List ℕ → Type 0
     Finds c = FindsFirst s (length (acknowledged answers)) (commit_order events answers) c
 

@@ -51,7 +51,7 @@ pub record FoundUntil {D : Type 0} {g : Ghosts D} (seen : D → List ℕ) (may_l
   pub last : behind (length events) ≡ k
   pub goes : (i : ℕ) (event : Event) (answer : Answer) → i < length events
       → HasMade seen may_leave moment left_since faults (behind i) (get_or events i event) (get_or answers i answer) (behind (i + 1))
-  pub ran : (i : ℕ) → i ≤ length events → ∥ HasRun seen may_leave faults first (take i events) (take i answers) (behind i) ∥₁
+  pub ran : (i : ℕ) → i ≤ length events → ∥ HasRun seen may_leave moment faults first (take i events) (take i answers) (behind i) ∥₁
   -- its book has each commit that was acknowledged by then
   pub answered : (i : ℕ) → i ≤ length events → length (behind i).core.book.items ≡ length (acknowledged (take i answers))
   pub later : (i : ℕ) → i ≤ length events → moment (device_under (behind i)) ≤ moment device

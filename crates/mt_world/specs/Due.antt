@@ -18,7 +18,7 @@ use Rattle.mt_pool.specs.declared.flushes.Flushed.TheVariants as flush
 use Rattle.mt_restart.specs.Rotated.{IsKeptCause, early_cause}
 use Rattle.mt_txn.specs.Causes.{IsFailure, IsFault, abort_cause, begin_cause, call_cause, commit_cause, open_cause, step_cause}
 use Rattle.mt_txn.specs.Events.{IsAnsweredBy, IsForcedBy}
-use Rattle.mt_txn.specs.Shown.{is_failed}
+use Rattle.mt_txn.specs.Shown.{CallsOnce, is_failed}
 use Rattle.mt_txn.specs.Work.{IsAbortForOther, IsForOther, LowersAbort, LowersSteps}
 use Rattle.mt_txn.specs.declared.answers.AbortStepped.{AbortStepped}
 use Rattle.mt_txn.specs.declared.answers.AbortStepped.TheVariants as abort
@@ -95,15 +95,15 @@ module _ {D : Type 0} {g : Ghosts D} (seen : D → List ℕ) (may_leave : D → 
 
 -- ---- what is in memory
 
-module _ {D : Type 0} {g : Ghosts D} where
-  -- A step, a force, a flush and a rotation may call the device. No other event does.
-  abbrev pub KeepsDevice : Kernel D g → Event → Kernel D g → Type 0
-  KeepsDevice k (Step t) n = ⊤
-  KeepsDevice k (AbortStep t) n = ⊤
-  KeepsDevice k Force n = ⊤
-  KeepsDevice k Flush n = ⊤
-  KeepsDevice k Rotate n = ⊤
-  KeepsDevice k event n = n.core.operations.store.device ≡ k.core.operations.store.device
+module _ {D : Type 0} {g : Ghosts D} (moment : D → ℕ) where
+  -- A step, a force and a flush call the device once at most, a rotation as often as it has to. No other event does.
+  abbrev pub CallsDevice : Kernel D g → Event → Kernel D g → Type 0
+  CallsDevice k (Step t) n = CallsOnce moment k n
+  CallsDevice k (AbortStep t) n = CallsOnce moment k n
+  CallsDevice k Force n = CallsOnce moment k n
+  CallsDevice k Flush n = CallsOnce moment k n
+  CallsDevice k Rotate n = ⊤
+  CallsDevice k event n = n.core.operations.store.device ≡ k.core.operations.store.device
 
 -- ---- which transactions are open, commit or are to be undone
 

@@ -12,7 +12,7 @@ use Rattle.mt_txn.specs.Restarted.{FindsMeanwhile, all_commits}
 use Rattle.mt_txn.specs.Shown.{LeavesFound, Restarts, SameSchema, Shows, StaysRestarting}
 use Rattle.mt_txn.specs.declared.kernel.Kernel.{Kernel}
 use Rattle.mt_world.specs.Acts.{Act, calls_in}
-use Rattle.mt_world.specs.Due.{FailsIn, IsDue, KeepsDevice, SetsPhases, StayBroken}
+use Rattle.mt_world.specs.Due.{CallsDevice, FailsIn, IsDue, SetsPhases, StayBroken}
 use Rattle.mt_world.specs.Moves.{Moves}
 use Rattle.mt_world.specs.Reported.{acknowledged, commit_of, commit_order, committing, reported_of}
 use Rattle.mt_world.specs.declared.events.Answer.{Answer}
@@ -28,19 +28,19 @@ pub record HasMade {D : Type 0} {g : Ghosts D} (seen : D → List ℕ) (may_leav
   pub leads : (first : Base) (s : State) → Restarts seen may_leave first k → Shows seen may_leave first s k
       → ∥ ((acts : List Act) × (z : State) × Moves s event answer acts z × Shows seen may_leave first z n) ∥₁
   pub due : IsDue seen may_leave faults k event answer n
-  pub device : KeepsDevice k event n
+  pub device : CallsDevice moment k event n
   pub phases : SetsPhases k event answer n
   pub fails : FailsIn k answer n
   pub restarts : StaysRestarting seen may_leave k n
   pub found : LeavesFound seen may_leave moment left_since k n
   pub schema : SameSchema k n
 
-module _ {D : Type 0} {g : Ghosts D} (seen : D → List ℕ) (may_leave : D → List ℕ → Type 0) (faults : D → ℕ) where
+module _ {D : Type 0} {g : Ghosts D} (seen : D → List ℕ) (may_leave : D → List ℕ → Type 0) (moment : D → ℕ) (faults : D → ℕ) where
   -- An event led a kernel in this state to another in that, with what ended in it.
   pub record IsMade (first : Base) (s : State) (k : Kernel D g) (event : Event) (answer : Answer) (acts : List Act) (z : State) (n : Kernel D g) : Type 0 where
     pub moves : Moves s event answer acts z
     pub due : IsDue seen may_leave faults k event answer n
-    pub device : KeepsDevice k event n
+    pub device : CallsDevice moment k event n
     pub phases : SetsPhases k event answer n
     pub fails : FailsIn k answer n
     pub schema : SameSchema k n
@@ -86,7 +86,7 @@ pub record HasEnded {D : Type 0} (g : Ghosts D) (seen : D → List ℕ) (may_lea
   pub kernel : Kernel D g
   pub events_are : events ≡ done ++ Rotate ∷ later
   pub answers_are : answers ≡ outcome ++ Refused refusal.DeviceFailed ∷ map (λ (event : Event). Refused refusal.DeviceFailed) later
-  pub ran : HasRun seen may_leave faults first done outcome kernel
+  pub ran : HasRun seen may_leave moment faults first done outcome kernel
   pub schema : (kernel.relations ≡ relations) × (kernel.counters ≡ counters)
   pub ended : IsEnded faults kernel device
   pub broken : StayBroken answers
@@ -116,7 +116,7 @@ module _ {D : Type 0} {g : Ghosts D} (seen : D → List ℕ) (may_leave : D → 
 
   -- what stands after all events
   abbrev pub HasRunTo : ℕ → ℕ → Base → List Event → List Answer → Standing D g → Type 0
-  HasRunTo relations counters first events answers (Stands n) = HasRun seen may_leave faults first events answers n
+  HasRunTo relations counters first events answers (Stands n) = HasRun seen may_leave moment faults first events answers n
   HasRunTo relations counters first events answers (Ended device) = HasEnded g seen may_leave moment left_since faults relations counters first events answers device
 
 -- a kernel of so many relations and counters, if one stands

@@ -1,6 +1,6 @@
 // A run over a device in memory that is stopped after so many calls, and what a crash leaves of the device then.
 // Tests open what is left, and compare the base.
-ghost use Rattle.std.specs.Prelude.{◌≡◌, ◌⊎◌, ◌≤◌, ◌+◌, ◌-◌, ◌^◌, min, length, IfErr, IfOk};
+ghost use Rattle.std.specs.Prelude.{◌≡◌, ◌≤◌, ◌+◌, ◌-◌, ◌^◌, min, length, IfErr, IfOk};
 ghost use Rattle.mt_base.specs.declared.refusal.Refusal.{Refusal};
 ghost use Rattle.mt_disk.specs.Memory.{content};
 ghost use Rattle.mt_restart.specs.Schemas.{device_bytes};
@@ -44,12 +44,13 @@ fn device_for(alloc: Global, schema: &Schema) -> Result<MemDevice, Refusal>
 fn calls_before(alloc: Global, schema: &Schema) -> Result<u64, Refusal>
     ensures begins { IfOk result (λ calls.
         ∥ BeginsWithin ⟦<StoppingDevice<MemDevice> as Device>⟧ schema.now calls ∥₁) }
-    ensures cause { IfErr result (λ why. (why ≡ Refusal.NoMemory) ⊎ (why ≡ Refusal.DeviceFailed)) }
+    ensures only_memory { IfErr result (λ why. why ≡ Refusal.NoMemory) }
 {
     let device = StoppingDevice::new(device_for(alloc, schema)?, u64::MAX);
     match begin_on(alloc, device, schema) {
         Ok(kernel) => Ok(kernel.into_device().taken()),
-        Err((refusal, _device)) => Err(refusal),
+        // A device in memory fails only if it has no room for one more write without a sync.
+        Err((_refusal, _device)) => Err(Refusal::NoMemory),
     }
 }
 
@@ -70,17 +71,17 @@ fn stopped_run(
 ) -> Result<CrashRun, Refusal>
     ensures run { IfOk result (λ run. ∥ IsStoppedRun ⟦<StoppingDevice<MemDevice> as Device>⟧ schema.now events.now
         limit fill run ∥₁) }
-    ensures cause { IfErr result (λ why. (why ≡ Refusal.NoMemory) ⊎ (why ≡ Refusal.DeviceFailed)) }
+    ensures only_memory { IfErr result (λ why. why ≡ Refusal.NoMemory) }
 {
     let device = StoppingDevice::new(device_for(alloc, schema)?, limit);
     let (standing, answers) = match run_schedule(alloc, device, schema, events) {
         Ok(made) => made,
-        Err((refusal, _device)) => return Err(refusal),
+        Err((_refusal, _device)) => return Err(Refusal::NoMemory),
     };
     let stopped = standing.into_device();
     // No contract of a kernel says that it leaves its device's limit as it was, so it is looked at.
     if stopped.limit() != limit {
-        return Err(Refusal::DeviceFailed);
+        return Err(Refusal::NoMemory);
     }
     let device = stopped.into_inner();
     let order = commits_reported(alloc, events, answers.as_slice())?;
@@ -104,8 +105,8 @@ fn stopped_run(
 /// A restart finds in that content what some of the first commits of `order` lead to, with all that were
 /// acknowledged.
 ///
-/// Refused with 1 for want of memory, and with 2 if the device failed before the first event. It has room for 8192
-/// writes without a sync. It has room for as many bytes in them as the device has, which is enough to format it.
+/// The only refusal is 1, for want of memory: of the allocator's, or of the device's room for writes without a sync. It
+/// has room for 8192 of them, and for as many bytes in them as the device has, which is enough to format it.
 pub fn crash_run(
     alloc: Global,
     schema: &Schema,
@@ -115,7 +116,7 @@ pub fn crash_run(
 ) -> Result<CrashRun, Refusal>
     ensures run { IfOk result (λ run. ∥ IsCrashRun ⟦<StoppingDevice<MemDevice> as Device>⟧ schema.now events.now calls
         fill run ∥₁) }
-    ensures cause { IfErr result (λ why. (why ≡ Refusal.NoMemory) ⊎ (why ≡ Refusal.DeviceFailed)) }
+    ensures only_memory { IfErr result (λ why. why ≡ Refusal.NoMemory) }
 {
     let before = calls_before(alloc, schema)?;
     stopped_run(alloc, schema, events, limit_behind(before, calls), fill)

@@ -24,18 +24,12 @@ fn begin<D: Device>(kernel: &mut Kernel<D>, session: u32) -> Answer
     }
 }
 
-// Calls a copy of an operation.
+// Calls an operation.
 fn call<D: Device>(kernel: &mut Kernel<D>, txn: TxnNo, op: &Op) -> Answer
     ensures { HasMade D.seen D.may_leave D.moment D.left_since D.faults kernel.old (event.Call txn op.now) result
         kernel.new }
 {
-    if kernel.has_failed() {
-        return Answer::Refused(Refusal::DeviceFailed);
-    }
-    let Ok(copy) = op.try_clone() else {
-        return Answer::Refused(Refusal::NoMemory);
-    };
-    match kernel.call(txn, copy) {
+    match kernel.call(txn, op) {
         Ok(called) => Answer::Called(called),
         Err(refusal) => Answer::Refused(refusal),
     }

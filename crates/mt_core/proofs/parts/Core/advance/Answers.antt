@@ -7,7 +7,7 @@ use Rattle.std.proofs.lemmas.List.{length-set, get_or_default, get_or-set_same}
 use Rattle.mt_op.specs.Moves.{SameOp}
 use Rattle.std.proofs.lemmas.List.Sums.{get_or-le-sum_by}
 use Rattle.mt_op.specs.Operations.{world}
-use Rattle.mt_core.specs.declared.parts.Running.{Running}
+use Rattle.mt_op.specs.declared.scope.OpScope.{OpScope}
 use Rattle.mt_core.specs.Runs.{IsRunning, left_of}
 use Rattle.mt_core.proofs.Advancing.{advanced, needs_claimed, steps_same}
 use Rattle.mt_op.specs.Work.{Works}
@@ -45,58 +45,59 @@ step-requires-clause-room g c = ∥∥₁_elim c.requires.safe (hlevel props) (�
 
 pub returns : goal.returns
 returns g c = record {
-  length = length-set c.args.self.now.running.items c.args.place (record { scope = c.step.new.scope; op = c.index_mut.result.now.op });
+  length = length-set c.args.self.now.running.items c.args.place (c.step.new.scope);
   same = λ origin base safe x y at now.
       let seen = g.D.Device.seen in let k = c.args.self.now in let r = c.index_mut.result.now in let e = c.step.ensures in
-      let q : Running = record { scope = c.step.new.scope; op = r.op } in
+      let q : OpScope = c.step.new.scope in
       let was : IsRunning origin.relations origin.counters (world seen origin.pages k.operations) k.last r = subst (IsRunning origin.relations origin.counters (world seen origin.pages k.operations) k.last) (sym c.index_mut.ensures.value) (safe.runs c.args.place r c.requires.within) in
       let went = e.steps origin.pages origin.relations origin.counters safe.fit.right was.under safe.fit.schema.few_relations safe.fit.schema.few_counters in
       let old : r ≡ x = c.index_mut.ensures.value ∙ sym (get_or_default k.running.items c.args.place x r c.requires.within) ∙ sym at in
       let new : q ≡ y = sym (now ∙ get_or-set_same k.running.items c.args.place q y c.requires.within) in
-      subst (λ (X : Type 0). X) (λ i. SameOp (old i).scope (new i).scope) (steps_same origin.relations origin.counters (world seen origin.pages k.operations) (world seen origin.pages c.step.new.self) r.scope q.scope c.step.result went.1);
+      subst (λ (X : Type 0). X) (λ i. SameOp (old i) (new i)) (steps_same origin.relations origin.counters (world seen origin.pages k.operations) (world seen origin.pages c.step.new.self) r q c.step.result went.1);
   live = search rules;
   commits = search rules;
   full = search rules;
   works = λ x y at now.
       let k = c.args.self.now in let r = c.index_mut.result.now in
-      let q : Running = record { scope = c.step.new.scope; op = r.op } in
+      let q : OpScope = c.step.new.scope in
       let old : r ≡ x = c.index_mut.ensures.value ∙ sym (get_or_default k.running.items c.args.place x r c.requires.within) ∙ sym at in
       let new : q ≡ y = sym (now ∙ get_or-set_same k.running.items c.args.place q y c.requires.within) in
-      subst (λ (X : Type 0). X) (λ i. Works (old i).scope (new i).scope c.step.result) c.step.ensures.work;
+      subst (λ (X : Type 0). X) (λ i. Works (old i) (new i) c.step.result) c.step.ensures.work;
   locks = λ x at.
       let k = c.args.self.now in let r = c.index_mut.result.now in
       let old : r ≡ x = c.index_mut.ensures.value ∙ sym (get_or_default k.running.items c.args.place x r c.requires.within) ∙ sym at in
-      subst (λ (y : Running). KeepsLocks y.scope.number (IsNext k.operations.rooms k.operations.locks y.scope) k.operations.locks c.step.new.self.locks c.step.result) old c.step.ensures.locks;
+      subst (λ (y : OpScope). KeepsLocks y.number (IsNext k.operations.rooms k.operations.locks y) k.operations.locks c.step.new.self.locks c.step.result) old c.step.ensures.locks;
   why = search rules;
   faults = search rules;
   advances = λ origin base safe.
       let seen = g.D.Device.seen in let k = c.args.self.now in let r = c.index_mut.result.now in let e = c.step.ensures in
-      let q : Running = record { scope = c.step.new.scope; op = r.op } in
+      let q : OpScope = c.step.new.scope in
       let was : IsRunning origin.relations origin.counters (world seen origin.pages k.operations) k.last r = subst (IsRunning origin.relations origin.counters (world seen origin.pages k.operations) k.last) (sym c.index_mut.ensures.value) (safe.runs c.args.place r c.requires.within) in
       let went = e.steps origin.pages origin.relations origin.counters safe.fit.right was.under safe.fit.schema.few_relations safe.fit.schema.few_counters in
       advanced seen g.D.Device.may_leave origin base k (record k { operations = c.step.new.self; running = with_item k.running c.args.place q }) c.args.place r q c.step.result
-      c.requires.within c.index_mut.ensures.value refl refl safe
+      c.requires.within c.index_mut.ensures.value refl safe
       (record { right = went.0; steps = went.1; log = e.log; area = e.area; budget = e.budget; claims = e.claims; stage = e.stage; records = e.records; locks = e.locks });
   other = λ origin base safe x at.
       let k = c.args.self.now in let r = c.index_mut.result.now in
-      let q : Running = record { scope = c.step.new.scope; op = r.op } in
+      let q : OpScope = c.step.new.scope in
       let old : r ≡ x = c.index_mut.ensures.value ∙ sym (get_or_default k.running.items c.args.place x r c.requires.within) ∙ sym at in
-      subst (λ (y : Running). TellsOther (set k.running.items c.args.place q) y.scope.txn c.step.result) old
-      (tells_other k.running.items c.args.place r q (IsNext k.operations.rooms k.operations.locks r.scope) k.operations.locks c.step.new.self.locks c.step.result c.requires.within c.index_mut.ensures.value safe.fit.apart safe.fit.locked c.step.ensures.locks);
+      subst (λ (y : OpScope). TellsOther (set k.running.items c.args.place q) y.txn c.step.result) old
+      (tells_other k.running.items c.args.place r q (IsNext k.operations.rooms k.operations.locks r) k.operations.locks c.step.new.self.locks c.step.result c.requires.within c.index_mut.ensures.value safe.fit.apart safe.fit.locked c.step.ensures.locks);
   book = search rules;
   durable = search rules;
   moments = search rules;
+  once = search rules;
   appends = λ origin base safe y now.
       let seen = g.D.Device.seen in let k = c.args.self.now in let r = c.index_mut.result.now in let e = c.step.ensures in
-      let q : Running = record { scope = c.step.new.scope; op = r.op } in
+      let q : OpScope = c.step.new.scope in
       let n : Core g.row.D.Denot = record k { operations = c.step.new.self; running = with_item k.running c.args.place q } in
       let w = world seen origin.pages k.operations in let z = world seen origin.pages c.step.new.self in
       let was : IsRunning origin.relations origin.counters w k.last r = subst (IsRunning origin.relations origin.counters w k.last) (sym c.index_mut.ensures.value) (safe.runs c.args.place r c.requires.within) in
       let went = e.steps origin.pages origin.relations origin.counters safe.fit.right was.under safe.fit.schema.few_relations safe.fit.schema.few_counters in
-      let total = step_total origin.relations origin.counters w z r.scope q.scope c.step.result was.under went.1 in
+      let total = step_total origin.relations origin.counters w z r q c.step.result was.under went.1 in
       let new : q ≡ y = sym (now ∙ get_or-set_same k.running.items c.args.place q y c.requires.within) in
-      subst (λ (x : Running). StepAppends origin k n x.scope c.step.result) new (record {
+      subst (λ (x : OpScope). StepAppends origin k n x c.step.result) new (record {
         area = record { total = total; bytes = e.area; lasts = lasts_same k n e.durable };
-        appends = step_appends origin w z r.scope q.scope c.step.result refl refl total went.0.sound went.1 e.records e.stage;
+        appends = step_appends origin w z r q c.step.result refl refl total went.0.sound went.1 e.records e.stage;
       });
 }

@@ -4,11 +4,11 @@ use Rattle.std.proofs.Common.{refl, sym, subst}
 use Rattle.std.proofs.lemmas.Result.{err_from_is_err_and}
 use Rattle.mt_live.specs.Lives.{Lives}
 use Rattle.mt_live.specs.Machine.{State}
-use Rattle.mt_core.specs.Consistent.{state_of, IsIn, IsCalled}
+use Rattle.mt_core.specs.Consistent.{state_of, IsIn, IsCalled, MayRun}
 use Rattle.mt_core.specs.declared.parts.Core.{Core}
 use Rattle.mt_core.proofs.Entering.{prepared_in, prepared_may}
 use Rattle.std.proofs.Common.{◌≡◌, ◌+◌, List, ap}
-use Rattle.mt_core.specs.declared.parts.Running.{Running}
+use Rattle.mt_op.specs.declared.scope.OpScope.{OpScope}
 use Rattle.std.specs.List.{sum_by}
 use Rattle.mt_live.specs.Lives.{member_of}
 use Rattle.mt_log.specs.Words.{used}
@@ -28,25 +28,25 @@ use Rattle.mt_core.proofs.parts.Core.call.Goals as goal
 pub lock-requires-clause-safe : goal.lock-requires-clause-safe
 lock-requires-clause-safe g c = ∥∥₁_elim c.requires.safe (hlevel props) (λ (origin, base, safe, may). let k = c.args.self.now in let e = c.in_ok-room.ensures in let a = c.reserve.ensures in
     let n : Core g.row.D.Denot = record k { live = c.room.new.self; running = c.reserve.new.self } in
-    ∣ (origin, base, (prepared_in g.D.Device.seen g.D.Device.may_leave origin base k n c.args.txn safe e.member e.begun e.standing e.count a.items).consistent, prepared_may g.D.Device.seen g.D.Device.may_leave origin base k n c.args.txn c.args.op may e.member a.items) ∣₁)
+    ∣ (origin, base, (prepared_in g.D.Device.seen g.D.Device.may_leave origin base k n c.args.txn safe e.member e.begun e.standing e.count a.items).consistent, subst (MayRun origin n c.args.txn) (sym c.in_ok-own.ensures) (prepared_may g.D.Device.seen g.D.Device.may_leave origin base k n c.args.txn c.args.op.now may e.member a.items)) ∣₁)
 
 pub returns-in_err-room-clause-called : goal.returns-in_err-room-clause-called
 returns-in_err-room-clause-called g c = λ origin base safe may. let k = c.args.self.now in let p = err_from_is_err_and c.from_residual-in_err-room.result c.from_residual-in_err-room.ensures.1 in
-    subst (λ r. IsCalled g.D.Device.seen g.D.Device.may_leave origin base (state_of k base) (record k { live = c.room.new.self }) c.args.txn c.args.op r) (sym p.1)
+    subst (λ r. IsCalled g.D.Device.seen g.D.Device.may_leave origin base (state_of k base) (record k { live = c.room.new.self }) c.args.txn c.args.op.now r) (sym p.1)
     (subst (λ (l : Lives). IsIn g.D.Device.seen g.D.Device.may_leave origin base (state_of k base) (record k { live = l })) (sym c.in_err-room.ensures.err) (record { consistent = safe; state = refl }))
 
 pub returns-in_err-reserve-clause-called : goal.returns-in_err-reserve-clause-called
 returns-in_err-reserve-clause-called g c = λ origin base safe may. let k = c.args.self.now in let p = err_from_is_err_and c.from_residual-in_err-reserve.result c.from_residual-in_err-reserve.ensures.1 in let e = c.in_ok-room.ensures in let a = c.reserve.ensures in
     let n : Core g.row.D.Denot = record k { live = c.room.new.self; running = c.reserve.new.self } in
-    subst (λ r. IsCalled g.D.Device.seen g.D.Device.may_leave origin base (state_of k base) n c.args.txn c.args.op r) (sym p.1)
+    subst (λ r. IsCalled g.D.Device.seen g.D.Device.may_leave origin base (state_of k base) n c.args.txn c.args.op.now r) (sym p.1)
     (prepared_in g.D.Device.seen g.D.Device.may_leave origin base k n c.args.txn safe e.member e.begun e.standing e.count a.items)
 
 pub returns-clause-called : goal.returns-clause-called
 returns-clause-called g c = λ origin base safe may. let k = c.args.self.now in let e = c.in_ok-room.ensures in let a = c.reserve.ensures in
     let n : Core g.row.D.Denot = record k { live = c.room.new.self; running = c.reserve.new.self } in
     let ready = prepared_in g.D.Device.seen g.D.Device.may_leave origin base k n c.args.txn safe e.member e.begun e.standing e.count a.items in
-    subst (λ (s : State). IsCalled g.D.Device.seen g.D.Device.may_leave origin base s c.lock.new.self c.args.txn c.args.op c.lock.result) (sym ready.state)
-    (c.lock.ensures.called origin base ready.consistent (prepared_may g.D.Device.seen g.D.Device.may_leave origin base k n c.args.txn c.args.op may e.member a.items))
+    subst (λ (s : State). IsCalled g.D.Device.seen g.D.Device.may_leave origin base s c.lock.new.self c.args.txn c.args.op.now c.lock.result) (sym ready.state)
+    (subst (λ o. IsCalled g.D.Device.seen g.D.Device.may_leave origin base (state_of n base) c.lock.new.self c.args.txn o c.lock.result) c.in_ok-own.ensures (c.lock.ensures.called origin base ready.consistent (subst (MayRun origin n c.args.txn) (sym c.in_ok-own.ensures) (prepared_may g.D.Device.seen g.D.Device.may_leave origin base k n c.args.txn c.args.op.now may e.member a.items))))
 
 pub room-requires : goal.room-requires
 room-requires g c = ∥∥₁_elim c.requires.safe (hlevel props) (λ (origin, base, safe, may). open_some (member_of c.args.self.now.live.members c.args.txn) may.at_work)
@@ -55,9 +55,9 @@ pub returns-clause-answer : goal.returns-clause-answer
 returns-clause-answer g c = λ origin base safe may. let k = c.args.self.now in let e = c.in_ok-room.ensures in let a = c.reserve.ensures in
     let n : Core g.row.D.Denot = record k { live = c.room.new.self; running = c.reserve.new.self } in
     let ready = prepared_in g.D.Device.seen g.D.Device.may_leave origin base k n c.args.txn safe e.member e.begun e.standing e.count a.items in
-    let kept : log_kept n ≡ log_kept k = ap (λ (rs : List Running). used k.operations.store.log + sum_by left_of rs + k.reserved) a.items in
-    subst (λ m. IsAnswered g.D.Device.seen origin k m c.args.txn c.args.op c.args.split c.lock.result) kept
-    (c.lock.ensures.answer origin base ready.consistent (prepared_may g.D.Device.seen g.D.Device.may_leave origin base k n c.args.txn c.args.op may e.member a.items))
+    let kept : log_kept n ≡ log_kept k = ap (λ (rs : List OpScope). used k.operations.store.log + sum_by left_of rs + k.reserved) a.items in
+    subst (λ m. IsAnswered g.D.Device.seen origin k m c.args.txn c.args.op.now c.args.split c.lock.result) kept
+    (subst (λ o. IsAnswered g.D.Device.seen origin n (log_kept n) c.args.txn o c.args.split c.lock.result) c.in_ok-own.ensures (c.lock.ensures.answer origin base ready.consistent (subst (MayRun origin n c.args.txn) (sym c.in_ok-own.ensures) (prepared_may g.D.Device.seen g.D.Device.may_leave origin base k n c.args.txn c.args.op.now may e.member a.items))))
 
 pub returns-clause-states : goal.returns-clause-states
 returns-clause-states g c = λ u. ap (λ (l : Lives). state_in l.members u) c.lock.ensures.live ∙ states_kept with_room c.args.self.now.live.members c.room.new.self.members c.args.txn (λ m. refl) c.in_ok-room.ensures.member u

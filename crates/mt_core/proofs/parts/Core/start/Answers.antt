@@ -7,7 +7,7 @@ use Rattle.mt_steps.specs.Plans.{own_needs, undo_pages}
 use Rattle.mt_core.specs.Consistent.{without_call}
 use Rattle.mt_core.specs.Runs.{undo_bytes}
 use Rattle.mt_core.specs.declared.parts.Core.{Core}
-use Rattle.mt_core.specs.declared.parts.Running.{Running}
+use Rattle.mt_op.specs.declared.scope.OpScope.{OpScope}
 use Rattle.mt_core.proofs.Calling.{called_in, next_fresh, needs_few}
 use mathlib.Core.Logic.{∥∥₁_elim}
 use Rattle.std.proofs.Common.{◌<◌, ◌≤◌}
@@ -21,15 +21,15 @@ use Rattle.mt_core.proofs.Calling.{txn_named}
 use Rattle.mt_core.proofs.parts.Core.start.Goals as goal
 
 pub overflow_add-pages : goal.overflow_add-pages
-overflow_add-pages g c = let few = needs_few c.args.own c.args.split in let a = c.pages_for.ensures in let b = c.pages_to_undo.ensures.pages in omega arith
+overflow_add-pages g c = let few = needs_few c.args.op c.args.split in let a = c.pages_for.ensures in let b = c.pages_to_undo.ensures.pages in omega arith
 
 pub returns-then-not-takes : goal.returns-then-not-takes
 returns-then-not-takes g c = record {
   ok = search rules;
   may = search rules;
   cause = λ origin base locks escrow granted. let k = c.args.self.now in let seen = g.D.Device.seen in
-      let pages : c.pages_for.result + c.pages_to_undo.result ≡ pages_asked c.args.end c.args.split = (λ i. c.pages_for.ensures i + c.pages_to_undo.ensures.pages i) ∙ (λ i. own_needs (c.requires.same i) c.args.split + undo_pages (c.requires.same i)) in
-      let bytes : c.bytes_to_undo-bytes.result ≡ undo_bytes c.args.end = c.bytes_to_undo-bytes.ensures ∙ ap undo_bytes c.requires.same in
+      let pages : c.pages_for.result + c.pages_to_undo.result ≡ pages_asked c.args.op c.args.split = (λ i. c.pages_for.ensures i + c.pages_to_undo.ensures.pages i) in
+      let bytes : c.bytes_to_undo-bytes.result ≡ undo_bytes c.args.op = c.bytes_to_undo-bytes.ensures in
       let full = c.if-not-takes.ensures.full in (
         subst (λ n. claimed k.operations + n ≤ pages_free seen origin k) pages (c.in-Ok.ensures.fits origin.pages origin.relations origin.counters granted.was.fit.right),
         omega (arith, bytes, full),
@@ -78,33 +78,31 @@ returns-in-Ok-begin_op g c = record {
       let seen = g.D.Device.seen in let k = c.args.self.now in let e = c.in-Ok-begin_op.ensures in let f = c.in-Ok.ensures in let m = c.claim.ensures in let s = c.in-Ok-begin_op.scope in
       let fit = granted.was.fit in
       let right = m.right origin.pages origin.relations origin.counters fit.right in
-      let same : c.args.own ≡ c.args.end = c.requires.same in
       let fresh_old : IsFresh (world seen origin.pages k.operations) c.args.txn (k.last + 1) 0 = next_fresh seen g.D.Device.may_leave origin base (without_call locks escrow k) c.args.txn (k.last + 1) fit granted.may.at_work (omega arith) in
       let fresh : IsFresh (world seen origin.pages c.claim.new.self) c.args.txn c.new.result 0 = subst (λ (n : ℕ). IsFresh (world seen origin.pages c.claim.new.self) c.args.txn n 0) (sym c.new.ensures) (fresh_same seen k.operations c.claim.new.self origin.pages c.args.txn (k.last + 1) 0 m.store m.locks fresh_old) in
-      let within : IsWithin origin.relations origin.counters c.args.own = subst (IsWithin origin.relations origin.counters) (sym same) granted.may.within in
-      let pages : c.pages_for.result + c.pages_to_undo.result ≡ own_needs c.args.end c.args.split + undo_pages c.args.end = (λ i. c.pages_for.ensures i + c.pages_to_undo.ensures.pages i) ∙ (λ i. own_needs (same i) c.args.split + undo_pages (same i)) in
-      let bytes : c.bytes_to_undo-bytes.result ≡ undo_bytes c.args.end = c.bytes_to_undo-bytes.ensures ∙ ap undo_bytes same in
-      let left : s.left ≡ undo_bytes c.args.end = e.left ∙ ap undo_bytes same in
+      let pages : c.pages_for.result + c.pages_to_undo.result ≡ own_needs c.args.op c.args.split + undo_pages c.args.op = (λ i. c.pages_for.ensures i + c.pages_to_undo.ensures.pages i) in
+      let bytes : c.bytes_to_undo-bytes.result ≡ undo_bytes c.args.op = c.bytes_to_undo-bytes.ensures in
+      let left : s.left ≡ undo_bytes c.args.op = e.left in
       let n : Core g.row.D.Denot = record k { operations = c.claim.new.self; running = c.push_reserved.new.self; reserved = k.reserved + c.bytes_to_undo-bytes.result } in
-      called_in seen g.D.Device.may_leave origin base locks escrow k n c.args.txn c.args.end c.args.split (record { scope = s; op = c.args.end })
-      granted c.push_reserved.ensures.items refl
+      called_in seen g.D.Device.may_leave origin base locks escrow k n c.args.txn c.args.op c.args.split s
+      granted c.push_reserved.ensures.items
       (record {
         right = right;
         store = m.store;
         locks = m.locks;
         claims = f.claimed ∙ ap (λ (x : ℕ). claimed k.operations + x) pages;
-        under = e.under origin.pages origin.relations origin.counters right within fresh;
+        under = e.under origin.pages origin.relations origin.counters right granted.may.within fresh;
         budget = e.budget;
         is_txn = e.named.0;
         is_number = e.named.1 ∙ c.new.ensures;
-        is_op = e.named.2 ∙ same;
+        is_op = e.named.2;
         is_undoes = e.named.3;
         is_split = e.named.4;
         planning = e.planning.0;
       }) c.requires.few (ap (λ (x : ℕ). k.reserved + x) bytes) (let takes = c.if-not-takes.ensures.takes in omega arith);
   may = λ origin base locks escrow granted. let k = c.args.self.now in let seen = g.D.Device.seen in
-      let pages : c.pages_for.result + c.pages_to_undo.result ≡ pages_asked c.args.end c.args.split = (λ i. c.pages_for.ensures i + c.pages_to_undo.ensures.pages i) ∙ (λ i. own_needs (c.requires.same i) c.args.split + undo_pages (c.requires.same i)) in
-      let bytes : c.bytes_to_undo-bytes.result ≡ undo_bytes c.args.end = c.bytes_to_undo-bytes.ensures ∙ ap undo_bytes c.requires.same in
+      let pages : c.pages_for.result + c.pages_to_undo.result ≡ pages_asked c.args.op c.args.split = (λ i. c.pages_for.ensures i + c.pages_to_undo.ensures.pages i) in
+      let bytes : c.bytes_to_undo-bytes.result ≡ undo_bytes c.args.op = c.bytes_to_undo-bytes.ensures in
       let takes = c.if-not-takes.ensures.takes in (
         subst (λ n. claimed k.operations + n ≤ pages_free seen origin k) pages (c.in-Ok.ensures.fits origin.pages origin.relations origin.counters granted.was.fit.right),
         omega (arith, bytes, takes),
@@ -113,8 +111,8 @@ returns-in-Ok-begin_op g c = record {
   back = search rules;
   err = search rules;
   live = search rules;
-  runs = let e = c.in-Ok-begin_op.ensures in let r : Running = record { scope = c.in-Ok-begin_op.scope; op = c.args.end } in (
-    r,
+  runs = let e = c.in-Ok-begin_op.ensures in (
+    c.in-Ok-begin_op.scope,
     e.named.0,
     e.work ∙ ap (λ n. 2 * n + 9) (ap (λ o. pages o.pool) c.claim.ensures.store),
     c.push_reserved.ensures.items,
@@ -132,8 +130,8 @@ returns-in-Err g c = record {
   ok = search rules;
   may = search rules;
   cause = λ origin base locks escrow granted. let k = c.args.self.now in let seen = g.D.Device.seen in let f = c.in-Err.ensures in
-      let pages : c.pages_for.result + c.pages_to_undo.result ≡ pages_asked c.args.end c.args.split = (λ i. c.pages_for.ensures i + c.pages_to_undo.ensures.pages i) ∙ (λ i. own_needs (c.requires.same i) c.args.split + undo_pages (c.requires.same i)) in
-      subst (IsUnreserved seen origin k (log_kept k) c.args.end c.args.split) (sym f.why)
+      let pages : c.pages_for.result + c.pages_to_undo.result ≡ pages_asked c.args.op c.args.split = (λ i. c.pages_for.ensures i + c.pages_to_undo.ensures.pages i) in
+      subst (IsUnreserved seen origin k (log_kept k) c.args.op c.args.split) (sym f.why)
       (subst (λ n. pages_free seen origin k < claimed k.operations + n) pages (f.cause origin.pages origin.relations origin.counters granted.was.fit.right));
   back = search rules;
   err = search rules;

@@ -6,7 +6,7 @@ use Rattle.mt_live.specs.Machine.{ended}
 use Rattle.mt_model.specs.Model.{reply_of, base_after}
 use Rattle.mt_op.specs.Moves.{SameOp}
 use Rattle.mt_core.specs.Consistent.{state_of, IsReady, IsIn, Advances}
-use Rattle.mt_core.specs.declared.parts.Running.{Running}
+use Rattle.mt_op.specs.declared.scope.OpScope.{OpScope}
 use Rattle.std.proofs.Common.{◌≤◌, List}
 use Rattle.std.specs.List.{remove}
 use Rattle.mt_op.specs.Operations.{world}
@@ -32,7 +32,7 @@ use Rattle.mt_core.proofs.parts.Core.step.Goals as goal
 
 pub note_end-requires-clause-forward : goal.note_end-requires-clause-forward
 note_end-requires-clause-forward g c = λ q now. let items = c.args.self.now.running.items in let place = c.args.place in
-    let r : Running = get_or items place q in
+    let r : OpScope = get_or items place q in
     let at : r ≡ get_or items place r = get_or_default items place q r c.requires.within in
     ∥∥₁_elim c.requires.safe (hlevel props) (λ (origin, base, safe). (c.advance.ensures.same origin base safe r q at now).undoes ∙ c.requires.forward r at)
 
@@ -47,9 +47,9 @@ returns-in-Ready-clause-steps g c = λ origin base safe x at. let k = c.args.sel
     let made = subst (Advances seen may_leave origin base (state_of k base) c.advance.new.self place) was (c.advance.ensures.advances origin base safe) in
     let items = c.advance.new.self.running.items in
     let inside : place < length items = let same = c.advance.ensures.length in let within = c.requires.within in omega arith in
-    let q : Running = get_or items place x in
+    let q : OpScope = get_or items place x in
     let now : q ≡ get_or items place q = get_or_default items place x q inside in
-    let same : SameOp x.scope q.scope = c.advance.ensures.same origin base safe x q at now in
+    let same : SameOp x q = c.advance.ensures.same origin base safe x q at now in
     let ready : IsReady seen may_leave origin base c.advance.new.self place q c.in-Ready.reply = made.0 q now in
     let noted = c.note_end.ensures.ends origin base made.0 q now in (
       ap (reply_of base) (sym same.op) ∙ ready.replies ∙ sym made.1,
@@ -63,13 +63,13 @@ returns-in-Ready-clause-work g c = λ x at. ∥∥₁_elim c.requires.safe (hlev
     let made = subst (Advances seen may_leave origin base (state_of k base) c.advance.new.self place) was (c.advance.ensures.advances origin base safe) in
     let items = c.advance.new.self.running.items in
     let inside : place < length items = let same = c.advance.ensures.length in let within = c.requires.within in omega arith in
-    let q : Running = get_or items place x in
+    let q : OpScope = get_or items place x in
     let now : q ≡ get_or items place q = get_or_default items place x q inside in
-    let same : SameOp x.scope q.scope = c.advance.ensures.same origin base safe x q at now in
-    let less = subst (Works x.scope q.scope) was (c.advance.ensures.works x q at now) in
+    let same : SameOp x q = c.advance.ensures.same origin base safe x q at now in
+    let less = subst (Works x q) was (c.advance.ensures.works x q at now) in
     let apart = (made.0 q now).fit.apart in
-    let gone : steps_in c.note_end.new.self.running.items x.scope.txn ≡ 0 = ap (λ (rs : List Running). steps_in rs x.scope.txn) c.note_end.ensures.items ∙ ap (steps_in (remove items place)) (sym same.txn) ∙ steps_removed items place q inside now apart in
-    let before = steps_at k.running.items place x c.requires.within at safe.fit.apart in let some = some_left x.scope (c.requires.stage x at) in (omega (arith, before, some), gone))
+    let gone : steps_in c.note_end.new.self.running.items x.txn ≡ 0 = ap (λ (rs : List OpScope). steps_in rs x.txn) c.note_end.ensures.items ∙ ap (steps_in (remove items place)) (sym same.txn) ∙ steps_removed items place q inside now apart in
+    let before = steps_at k.running.items place x c.requires.within at safe.fit.apart in let some = some_left x (c.requires.stage x at) in (omega (arith, before, some), gone))
 
 pub returns-in-Went-clause-work : goal.returns-in-Went-clause-work
 returns-in-Went-clause-work g c = λ x at. ∥∥₁_elim c.requires.safe (hlevel props) (λ (origin, base, safe).
@@ -78,10 +78,10 @@ returns-in-Went-clause-work g c = λ x at. ∥∥₁_elim c.requires.safe (hleve
     let made = subst (Advances seen may_leave origin base (state_of k base) c.advance.new.self place) was (c.advance.ensures.advances origin base safe) in
     let items = c.advance.new.self.running.items in
     let inside : place < length items = let same = c.advance.ensures.length in let within = c.requires.within in omega arith in
-    let q : Running = get_or items place x in
+    let q : OpScope = get_or items place x in
     let now : q ≡ get_or items place q = get_or_default items place x q inside in
-    let same : SameOp x.scope q.scope = c.advance.ensures.same origin base safe x q at now in
-    let less = subst (Works x.scope q.scope) was (c.advance.ensures.works x q at now) in
+    let same : SameOp x q = c.advance.ensures.same origin base safe x q at now in
+    let less = subst (Works x q) was (c.advance.ensures.works x q at now) in
     let both = both_at k.running.items items place x q c.requires.within at safe.fit.apart inside now made.consistent.fit.apart same.txn in let b = both.0 in let a = both.1 in omega (arith, less, a, b))
 
 pub returns-in-Wait-clause-work : goal.returns-in-Wait-clause-work
@@ -91,10 +91,10 @@ returns-in-Wait-clause-work g c = λ x at. ∥∥₁_elim c.requires.safe (hleve
     let made = subst (Advances seen may_leave origin base (state_of k base) c.advance.new.self place) was (c.advance.ensures.advances origin base safe) in
     let items = c.advance.new.self.running.items in
     let inside : place < length items = let same = c.advance.ensures.length in let within = c.requires.within in omega arith in
-    let q : Running = get_or items place x in
+    let q : OpScope = get_or items place x in
     let now : q ≡ get_or items place q = get_or_default items place x q inside in
-    let same : SameOp x.scope q.scope = c.advance.ensures.same origin base safe x q at now in
-    let less = subst (Works x.scope q.scope) was (c.advance.ensures.works x q at now) in
+    let same : SameOp x q = c.advance.ensures.same origin base safe x q at now in
+    let less = subst (Works x q) was (c.advance.ensures.works x q at now) in
     let both = both_at k.running.items items place x q c.requires.within at safe.fit.apart inside now made.consistent.fit.apart same.txn in let b = both.0 in let a = both.1 in omega (arith, less, a, b))
 
 pub returns-in-Again-clause-work : goal.returns-in-Again-clause-work
@@ -104,10 +104,10 @@ returns-in-Again-clause-work g c = λ x at. ∥∥₁_elim c.requires.safe (hlev
     let made = subst (Advances seen may_leave origin base (state_of k base) c.advance.new.self place) was (c.advance.ensures.advances origin base safe) in
     let items = c.advance.new.self.running.items in
     let inside : place < length items = let same = c.advance.ensures.length in let within = c.requires.within in omega arith in
-    let q : Running = get_or items place x in
+    let q : OpScope = get_or items place x in
     let now : q ≡ get_or items place q = get_or_default items place x q inside in
-    let same : SameOp x.scope q.scope = c.advance.ensures.same origin base safe x q at now in
-    let less = subst (Works x.scope q.scope) was (c.advance.ensures.works x q at now) in
+    let same : SameOp x q = c.advance.ensures.same origin base safe x q at now in
+    let less = subst (Works x q) was (c.advance.ensures.works x q at now) in
     let both = both_at k.running.items items place x q c.requires.within at safe.fit.apart inside now made.consistent.fit.apart same.txn in let b = both.0 in let a = both.1 in let total = (subst (IsRunning origin.relations origin.counters (world seen origin.pages k.operations) k.last) (sym at) (safe.runs place x c.requires.within)).under.total in omega (arith, less, a, b, total))
 
 pub returns-in-Flush-clause-work : goal.returns-in-Flush-clause-work
@@ -117,10 +117,10 @@ returns-in-Flush-clause-work g c = λ x at. ∥∥₁_elim c.requires.safe (hlev
     let made = subst (Advances seen may_leave origin base (state_of k base) c.advance.new.self place) was (c.advance.ensures.advances origin base safe) in
     let items = c.advance.new.self.running.items in
     let inside : place < length items = let same = c.advance.ensures.length in let within = c.requires.within in omega arith in
-    let q : Running = get_or items place x in
+    let q : OpScope = get_or items place x in
     let now : q ≡ get_or items place q = get_or_default items place x q inside in
-    let same : SameOp x.scope q.scope = c.advance.ensures.same origin base safe x q at now in
-    let less = subst (Works x.scope q.scope) was (c.advance.ensures.works x q at now) in
+    let same : SameOp x q = c.advance.ensures.same origin base safe x q at now in
+    let less = subst (Works x q) was (c.advance.ensures.works x q at now) in
     let both = both_at k.running.items items place x q c.requires.within at safe.fit.apart inside now made.consistent.fit.apart same.txn in let b = both.0 in let a = both.1 in omega (arith, less, a, b))
 
 pub returns-in_err-reply-clause-work : goal.returns-in_err-reply-clause-work
@@ -128,27 +128,27 @@ returns-in_err-reply-clause-work g c = λ x at.
     let k = c.args.self.now in let place = c.args.place in let seen = g.D.Device.seen in let may_leave = g.D.Device.may_leave in
     let items = c.advance.new.self.running.items in
     let p = err_from_is_err_and c.from_residual.result c.from_residual.ensures.1 in
-    let few : steps_in items x.scope.txn ≤ steps_in k.running.items x.scope.txn = ∥∥₁_elim c.requires.safe (hlevel props) (λ (origin, base, safe).
+    let few : steps_in items x.txn ≤ steps_in k.running.items x.txn = ∥∥₁_elim c.requires.safe (hlevel props) (λ (origin, base, safe).
     let was = c.in_err-reply.was in
     let made = subst (Advances seen may_leave origin base (state_of k base) c.advance.new.self place) was (c.advance.ensures.advances origin base safe) in
     let inside : place < length items = let same = c.advance.ensures.length in let within = c.requires.within in omega arith in
-    let q : Running = get_or items place x in
+    let q : OpScope = get_or items place x in
     let now : q ≡ get_or items place q = get_or_default items place x q inside in
-    let same : SameOp x.scope q.scope = c.advance.ensures.same origin base safe x q at now in
-    let less = subst (Works x.scope q.scope) was (c.advance.ensures.works x q at now) in
+    let same : SameOp x q = c.advance.ensures.same origin base safe x q at now in
+    let less = subst (Works x q) was (c.advance.ensures.works x q at now) in
     let both = both_at k.running.items items place x q c.requires.within at safe.fit.apart inside now made.consistent.fit.apart same.txn in let b = both.0 in let a = both.1 in omega (arith, less, a, b)) in
-    subst (λ (res : Result Stepping Refusal). Lowers (pages k.operations.store.pool) res (steps_in k.running.items x.scope.txn) (steps_in items x.scope.txn)) (sym p.1) few
+    subst (λ (res : Result Stepping Refusal). Lowers (pages k.operations.store.pool) res (steps_in k.running.items x.txn) (steps_in items x.txn)) (sym p.1) few
 
 pub returns-in_err-reply-clause-other : goal.returns-in_err-reply-clause-other
 returns-in_err-reply-clause-other g c = λ origin base safe x at.
     let p = err_from_is_err_and c.from_residual.result c.from_residual.ensures.1 in
-    subst (λ (res : Result Stepping Refusal). NamesOther c.advance.new.self.running.items x.scope.txn res) (sym p.1) tt
+    subst (λ (res : Result Stepping Refusal). NamesOther c.advance.new.self.running.items x.txn res) (sym p.1) tt
 
 pub returns-in-Wait-clause-other : goal.returns-in-Wait-clause-other
-returns-in-Wait-clause-other g c = λ origin base safe x at. subst (TellsOther c.advance.new.self.running.items x.scope.txn) (c.in_ok-reply.was ∙ ap Ok c.in-Wait.is) (c.advance.ensures.other origin base safe x at)
+returns-in-Wait-clause-other g c = λ origin base safe x at. subst (TellsOther c.advance.new.self.running.items x.txn) (c.in_ok-reply.was ∙ ap Ok c.in-Wait.is) (c.advance.ensures.other origin base safe x at)
 
 pub returns-in-Again-clause-other : goal.returns-in-Again-clause-other
-returns-in-Again-clause-other g c = λ origin base safe x at. subst (TellsOther c.advance.new.self.running.items x.scope.txn) (c.in_ok-reply.was ∙ ap Ok c.in-Again.is) (c.advance.ensures.other origin base safe x at)
+returns-in-Again-clause-other g c = λ origin base safe x at. subst (TellsOther c.advance.new.self.running.items x.txn) (c.in_ok-reply.was ∙ ap Ok c.in-Again.is) (c.advance.ensures.other origin base safe x at)
 
 pub returns-in-Ready-clause-restartable : goal.returns-in-Ready-clause-restartable
 returns-in-Ready-clause-restartable g c = λ origin base later safe_k safe_n r.
@@ -157,24 +157,24 @@ returns-in-Ready-clause-restartable g c = λ origin base later safe_k safe_n r.
     let made = subst (Advances seen may_leave origin base (state_of k base) m place) was (c.advance.ensures.advances origin base safe_k) in
     let inside : place < length m.running.items = let same = c.advance.ensures.length in let within = c.requires.within in omega arith in
     let (x, at) = at_place k.running.items place c.requires.within in
-    let q : Running = get_or m.running.items place x in
+    let q : OpScope = get_or m.running.items place x in
     let now : q ≡ get_or m.running.items place q = get_or_default m.running.items place x q inside in
-    let same : SameOp x.scope q.scope = c.advance.ensures.same origin base safe_k x q at now in
+    let same : SameOp x q = c.advance.ensures.same origin base safe_k x q at now in
     let ready : IsReady seen may_leave origin base m place q c.in-Ready.reply = made.0 q now in
     let owned : IsOwned m.live.members m.live.standing q = subst (IsOwned m.live.members m.live.standing) (sym now) (ready.fit.owned place q inside) in
-    let ends = subst (StepAppends origin k m q.scope) was (c.advance.ensures.appends origin base safe_k q now) in
+    let ends = subst (StepAppends origin k m q) was (c.advance.ensures.appends origin base safe_k q now) in
     let live = c.advance.ensures.live in
-    let working : is_open (member_of k.live.members q.scope.txn) ≡ true = ap (λ l. is_open (member_of l.members q.scope.txn)) (sym live) ∙ owned.at_work in
+    let working : is_open (member_of k.live.members q.txn) ≡ true = ap (λ l. is_open (member_of l.members q.txn)) (sym live) ∙ owned.at_work in
     let fore = same.undoes ∙ c.requires.forward x at in
     ends_restartable seen may_leave origin k n base later q c.in-Ready.reply safe_k safe_n (area_then seen may_leave origin k m n ends.area c.note_end.ensures.store) (end_then seen may_leave origin k m n q c.in-Ready.reply ends.appends c.note_end.ensures.store)
-    (notes_then seen may_leave origin k m n q c.in-Ready.reply c.advance.ensures.book c.advance.ensures.commits live (c.note_end.ensures.notes q now)) (owned.copy fore) fore working ready.replies r
+    (notes_then seen may_leave origin k m n q c.in-Ready.reply c.advance.ensures.book c.advance.ensures.commits live (c.note_end.ensures.notes q now)) fore working ready.replies r
 
 pub returns-in-Went-clause-restartable : goal.returns-in-Went-clause-restartable
 returns-in-Went-clause-restartable g c = λ origin base later safe_k safe_n r. let k = c.args.self.now in let n = c.advance.new.self in let place = c.args.place in
     let was = c.in_ok-reply.was ∙ ap Ok c.in-Went.is in
     let inside : place < length n.running.items = let same = c.advance.ensures.length in let within = c.requires.within in omega arith in
     let (q, now) = at_place n.running.items place inside in
-    let quiet = subst (StepAppends origin k n q.scope) was (c.advance.ensures.appends origin base safe_k q now) in
+    let quiet = subst (StepAppends origin k n q) was (c.advance.ensures.appends origin base safe_k q now) in
     goes_on g.D.Device.seen g.D.Device.may_leave origin k n base later safe_k safe_n (record { area = quiet.area; appends = quiet.appends }) c.advance.ensures.book c.advance.ensures.commits c.advance.ensures.live r
 
 pub returns-in-Wait-clause-restartable : goal.returns-in-Wait-clause-restartable
@@ -182,7 +182,7 @@ returns-in-Wait-clause-restartable g c = λ origin base later safe_k safe_n r. l
     let was = c.in_ok-reply.was ∙ ap Ok c.in-Wait.is in
     let inside : place < length n.running.items = let same = c.advance.ensures.length in let within = c.requires.within in omega arith in
     let (q, now) = at_place n.running.items place inside in
-    let quiet = subst (StepAppends origin k n q.scope) was (c.advance.ensures.appends origin base safe_k q now) in
+    let quiet = subst (StepAppends origin k n q) was (c.advance.ensures.appends origin base safe_k q now) in
     goes_on g.D.Device.seen g.D.Device.may_leave origin k n base later safe_k safe_n (record { area = quiet.area; appends = quiet.appends }) c.advance.ensures.book c.advance.ensures.commits c.advance.ensures.live r
 
 pub returns-in-Again-clause-restartable : goal.returns-in-Again-clause-restartable
@@ -190,7 +190,7 @@ returns-in-Again-clause-restartable g c = λ origin base later safe_k safe_n r. 
     let was = c.in_ok-reply.was ∙ ap Ok c.in-Again.is in
     let inside : place < length n.running.items = let same = c.advance.ensures.length in let within = c.requires.within in omega arith in
     let (q, now) = at_place n.running.items place inside in
-    let quiet = subst (StepAppends origin k n q.scope) was (c.advance.ensures.appends origin base safe_k q now) in
+    let quiet = subst (StepAppends origin k n q) was (c.advance.ensures.appends origin base safe_k q now) in
     goes_on g.D.Device.seen g.D.Device.may_leave origin k n base later safe_k safe_n (record { area = quiet.area; appends = quiet.appends }) c.advance.ensures.book c.advance.ensures.commits c.advance.ensures.live r
 
 pub returns-in-Flush-clause-restartable : goal.returns-in-Flush-clause-restartable
@@ -198,46 +198,46 @@ returns-in-Flush-clause-restartable g c = λ origin base later safe_k safe_n r. 
     let was = c.in_ok-reply.was ∙ ap Ok c.in-Flush.is in
     let inside : place < length n.running.items = let same = c.advance.ensures.length in let within = c.requires.within in omega arith in
     let (q, now) = at_place n.running.items place inside in
-    let quiet = subst (StepAppends origin k n q.scope) was (c.advance.ensures.appends origin base safe_k q now) in
+    let quiet = subst (StepAppends origin k n q) was (c.advance.ensures.appends origin base safe_k q now) in
     goes_on g.D.Device.seen g.D.Device.may_leave origin k n base later safe_k safe_n (record { area = quiet.area; appends = quiet.appends }) c.advance.ensures.book c.advance.ensures.commits c.advance.ensures.live r
 
 pub returns-in_err-reply-clause-restartable : goal.returns-in_err-reply-clause-restartable
 returns-in_err-reply-clause-restartable g c = λ origin base later safe_k safe_n r. let k = c.args.self.now in let n = c.advance.new.self in let place = c.args.place in
     let inside : place < length n.running.items = let same = c.advance.ensures.length in let within = c.requires.within in omega arith in
     let (q, now) = at_place n.running.items place inside in
-    let quiet = subst (StepAppends origin k n q.scope) c.in_err-reply.was (c.advance.ensures.appends origin base safe_k q now) in
+    let quiet = subst (StepAppends origin k n q) c.in_err-reply.was (c.advance.ensures.appends origin base safe_k q now) in
     goes_on g.D.Device.seen g.D.Device.may_leave origin k n base later safe_k safe_n (record { area = quiet.area; appends = quiet.appends }) c.advance.ensures.book c.advance.ensures.commits c.advance.ensures.live r
 
 pub returns-in-Ready-clause-locks : goal.returns-in-Ready-clause-locks
 returns-in-Ready-clause-locks g c = λ x at.
     let k = c.args.self.now in let place = c.args.place in
-    let kept : c.advance.new.self.operations.locks ≡ k.operations.locks = subst (KeepsLocks x.scope.number (IsNext k.operations.rooms k.operations.locks x.scope) k.operations.locks c.advance.new.self.operations.locks) (c.in_ok-reply.was ∙ ap Ok c.in-Ready.is) (c.advance.ensures.locks x at) in
+    let kept : c.advance.new.self.operations.locks ≡ k.operations.locks = subst (KeepsLocks x.number (IsNext k.operations.rooms k.operations.locks x) k.operations.locks c.advance.new.self.operations.locks) (c.in_ok-reply.was ∙ ap Ok c.in-Ready.is) (c.advance.ensures.locks x at) in
     ∥∥₁_elim c.requires.safe (hlevel props) (λ (origin, base, safe).
     let items = c.advance.new.self.running.items in
     let inside : place < length items = let same = c.advance.ensures.length in let within = c.requires.within in omega arith in
-    let q : Running = get_or items place x in
+    let q : OpScope = get_or items place x in
     let now : q ≡ get_or items place q = get_or_default items place x q inside in
-    let same : SameOp x.scope q.scope = c.advance.ensures.same origin base safe x q at now in
-    c.note_end.ensures.locks q now ∙ ap (λ n. locks_without n c.advance.new.self.operations.locks) same.number ∙ ap (locks_without x.scope.number) kept)
+    let same : SameOp x q = c.advance.ensures.same origin base safe x q at now in
+    c.note_end.ensures.locks q now ∙ ap (λ n. locks_without n c.advance.new.self.operations.locks) same.number ∙ ap (locks_without x.number) kept)
 
 pub returns-in-Went-clause-locks : goal.returns-in-Went-clause-locks
 returns-in-Went-clause-locks g c = λ x at. let k = c.args.self.now in
-    subst (KeepsLocks x.scope.number (IsNext k.operations.rooms k.operations.locks x.scope) k.operations.locks c.advance.new.self.operations.locks) (c.in_ok-reply.was ∙ ap Ok c.in-Went.is) (c.advance.ensures.locks x at)
+    subst (KeepsLocks x.number (IsNext k.operations.rooms k.operations.locks x) k.operations.locks c.advance.new.self.operations.locks) (c.in_ok-reply.was ∙ ap Ok c.in-Went.is) (c.advance.ensures.locks x at)
 
 pub returns-in-Wait-clause-locks : goal.returns-in-Wait-clause-locks
 returns-in-Wait-clause-locks g c = λ x at. let k = c.args.self.now in
-    subst (KeepsLocks x.scope.number (IsNext k.operations.rooms k.operations.locks x.scope) k.operations.locks c.advance.new.self.operations.locks) (c.in_ok-reply.was ∙ ap Ok c.in-Wait.is) (c.advance.ensures.locks x at)
+    subst (KeepsLocks x.number (IsNext k.operations.rooms k.operations.locks x) k.operations.locks c.advance.new.self.operations.locks) (c.in_ok-reply.was ∙ ap Ok c.in-Wait.is) (c.advance.ensures.locks x at)
 
 pub returns-in-Again-clause-locks : goal.returns-in-Again-clause-locks
 returns-in-Again-clause-locks g c = λ x at. let k = c.args.self.now in
-    subst (KeepsLocks x.scope.number (IsNext k.operations.rooms k.operations.locks x.scope) k.operations.locks c.advance.new.self.operations.locks) (c.in_ok-reply.was ∙ ap Ok c.in-Again.is) (c.advance.ensures.locks x at)
+    subst (KeepsLocks x.number (IsNext k.operations.rooms k.operations.locks x) k.operations.locks c.advance.new.self.operations.locks) (c.in_ok-reply.was ∙ ap Ok c.in-Again.is) (c.advance.ensures.locks x at)
 
 pub returns-in-Flush-clause-locks : goal.returns-in-Flush-clause-locks
 returns-in-Flush-clause-locks g c = λ x at. let k = c.args.self.now in
-    subst (KeepsLocks x.scope.number (IsNext k.operations.rooms k.operations.locks x.scope) k.operations.locks c.advance.new.self.operations.locks) (c.in_ok-reply.was ∙ ap Ok c.in-Flush.is) (c.advance.ensures.locks x at)
+    subst (KeepsLocks x.number (IsNext k.operations.rooms k.operations.locks x) k.operations.locks c.advance.new.self.operations.locks) (c.in_ok-reply.was ∙ ap Ok c.in-Flush.is) (c.advance.ensures.locks x at)
 
 pub returns-in_err-reply-clause-locks : goal.returns-in_err-reply-clause-locks
 returns-in_err-reply-clause-locks g c = λ x at. let k = c.args.self.now in
     let p = err_from_is_err_and c.from_residual.result c.from_residual.ensures.1 in
     subst (λ (res : Result Stepping Refusal). KeepsPageLocks k c.advance.new.self x res) (sym p.1)
-    (subst (KeepsLocks x.scope.number (IsNext k.operations.rooms k.operations.locks x.scope) k.operations.locks c.advance.new.self.operations.locks) c.in_err-reply.was (c.advance.ensures.locks x at))
+    (subst (KeepsLocks x.number (IsNext k.operations.rooms k.operations.locks x) k.operations.locks c.advance.new.self.operations.locks) c.in_err-reply.was (c.advance.ensures.locks x at))

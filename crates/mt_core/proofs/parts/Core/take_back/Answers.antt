@@ -3,7 +3,7 @@ use Rattle.std.proofs.Props.{props}
 use Rattle.std.proofs.Common.{rules, refl, sym, subst}
 use Rattle.std.specs.Vec.{with_item}
 use Rattle.mt_op.specs.Operations.{world}
-use Rattle.mt_core.specs.declared.parts.Running.{Running}
+use Rattle.mt_op.specs.declared.scope.OpScope.{OpScope}
 use Rattle.mt_core.specs.Runs.{IsRunning}
 use Rattle.mt_core.proofs.Dropping.{gone_back}
 use mathlib.Core.Logic.{∥∥₁_map}
@@ -27,7 +27,7 @@ take_back-requires-clause-right g c = ∥∥₁_elim c.requires.safe (hlevel pro
     ∣ (origin.pages, origin.relations, origin.counters, safe.fit.right, was.under) ∣₁)
 
 pub take_back-requires-clause-stage : goal.take_back-requires-clause-stage
-take_back-requires-clause-stage g c = moving_of c.index_mut.result.now.scope.stage (∥∥₁_map c.requires.safe (λ (origin, base, safe). let k = c.args.self.now in let r = c.index_mut.result.now in
+take_back-requires-clause-stage g c = moving_of c.index_mut.result.now.stage (∥∥₁_map c.requires.safe (λ (origin, base, safe). let k = c.args.self.now in let r = c.index_mut.result.now in
     let was : IsRunning origin.relations origin.counters (world g.D.Device.seen origin.pages k.operations) k.last r = subst (IsRunning origin.relations origin.counters (world g.D.Device.seen origin.pages k.operations) k.last) (sym c.index_mut.ensures.value) (safe.runs c.args.place r c.requires.within) in
     was.moving))
 
@@ -48,43 +48,44 @@ returns g c = record {
   commits = search rules;
   locks = search rules;
   full = search rules;
-  length = length-set c.args.self.now.running.items c.args.place (record { scope = c.take_back.new.scope; op = c.index_mut.result.now.op });
+  length = length-set c.args.self.now.running.items c.args.place (c.take_back.new.scope);
   same = λ origin base safe x y at now.
       let seen = g.D.Device.seen in let k = c.args.self.now in let r = c.index_mut.result.now in let e = c.take_back.ensures in
-      let q : Running = record { scope = c.take_back.new.scope; op = r.op } in
+      let q : OpScope = c.take_back.new.scope in
       let was : IsRunning origin.relations origin.counters (world seen origin.pages k.operations) k.last r = subst (IsRunning origin.relations origin.counters (world seen origin.pages k.operations) k.last) (sym c.index_mut.ensures.value) (safe.runs c.args.place r c.requires.within) in
       let gone = e.goes origin.pages origin.relations origin.counters safe.fit.right was.under in
       let old : r ≡ x = c.index_mut.ensures.value ∙ sym (get_or_default k.running.items c.args.place x r c.requires.within) ∙ sym at in
       let new : q ≡ y = sym (now ∙ get_or-set_same k.running.items c.args.place q y c.requires.within) in
-      subst (λ (X : Type 0). X) (λ i. SameOp (old i).scope (new i).scope) gone.1.same;
+      subst (λ (X : Type 0). X) (λ i. SameOp (old i) (new i)) gone.1.same;
   puts = λ x y at now.
       let k = c.args.self.now in let r = c.index_mut.result.now in let e = c.take_back.ensures in
-      let q : Running = record { scope = c.take_back.new.scope; op = r.op } in
+      let q : OpScope = c.take_back.new.scope in
       let old : r ≡ x = c.index_mut.ensures.value ∙ sym (get_or_default k.running.items c.args.place x r c.requires.within) ∙ sym at in
       let new : q ≡ y = sym (now ∙ get_or-set_same k.running.items c.args.place q y c.requires.within) in
-      subst (λ (X : Type 0). X) (λ i. LeavesStanding (old i).scope (new i).scope c.take_back.result) (puts_back r.scope q.scope c.take_back.result (λ is. (e.more is).1) e.flush e.err);
+      subst (λ (X : Type 0). X) (λ i. LeavesStanding (old i) (new i) c.take_back.result) (puts_back r q c.take_back.result (λ is. (e.more is).1) e.flush e.err);
   why = search rules;
   faults = search rules;
   back = λ origin base safe.
       let seen = g.D.Device.seen in let k = c.args.self.now in let r = c.index_mut.result.now in let e = c.take_back.ensures in
-      let q : Running = record { scope = c.take_back.new.scope; op = r.op } in
+      let q : OpScope = c.take_back.new.scope in
       let was : IsRunning origin.relations origin.counters (world seen origin.pages k.operations) k.last r = subst (IsRunning origin.relations origin.counters (world seen origin.pages k.operations) k.last) (sym c.index_mut.ensures.value) (safe.runs c.args.place r c.requires.within) in
       let gone = e.goes origin.pages origin.relations origin.counters safe.fit.right was.under in
       gone_back seen g.D.Device.may_leave origin base k (record k { operations = c.take_back.new.self; running = with_item k.running c.args.place q }) c.args.place r q c.take_back.result
-      c.requires.within c.index_mut.ensures.value refl refl safe was.moving (c.requires.aborting r c.index_mut.ensures.value)
+      c.requires.within c.index_mut.ensures.value refl safe was.moving (c.requires.aborting r c.index_mut.ensures.value)
       (record { right = gone.0; goes = gone.1; log = e.log; area = e.area; budget = e.budget; claims = e.claimed; records = e.records; locks = e.locks })
       (λ is. (e.more is).0) (λ is. (e.clear is).0) e.flush e.err;
   book = search rules;
   durable = search rules;
   moments = search rules;
+  once = search rules;
   appends = λ origin base safe.
       let seen = g.D.Device.seen in let k = c.args.self.now in let r = c.index_mut.result.now in let e = c.take_back.ensures in
       let w = world seen origin.pages k.operations in let z = world seen origin.pages c.take_back.new.self in
       let was : IsRunning origin.relations origin.counters w k.last r = subst (IsRunning origin.relations origin.counters w k.last) (sym c.index_mut.ensures.value) (safe.runs c.args.place r c.requires.within) in
       let gone = e.goes origin.pages origin.relations origin.counters safe.fit.right was.under in
-      let n : Core g.row.D.Denot = record k { operations = c.take_back.new.self; running = with_item k.running c.args.place (record { scope = c.take_back.new.scope; op = r.op }) } in
+      let n : Core g.row.D.Denot = record k { operations = c.take_back.new.self; running = with_item k.running c.args.place (c.take_back.new.scope) } in
       record {
-        area = record { total = goes_total origin.relations origin.counters w z r.scope c.take_back.new.scope was.under gone.1; bytes = e.area; lasts = lasts_same k n e.durable };
-        appends = back_appends origin.relations origin.counters w z r.scope c.take_back.new.scope c.take_back.result refl gone.1 e.records;
+        area = record { total = goes_total origin.relations origin.counters w z r c.take_back.new.scope was.under gone.1; bytes = e.area; lasts = lasts_same k n e.durable };
+        appends = back_appends origin.relations origin.counters w z r c.take_back.new.scope c.take_back.result refl gone.1 e.records;
       };
 }

@@ -12,7 +12,7 @@ use Rattle.mt_core.proofs.Undoing.{moved_of, total_at, forward_moved, undo_remov
 use Rattle.std.proofs.lemmas.List.{get_or_default}
 use Rattle.mt_op.specs.Moves.{SameOp}
 use Rattle.mt_core.specs.Consistent.{state_of, DropsIn, GoesBack}
-use Rattle.mt_core.specs.declared.parts.Running.{Running}
+use Rattle.mt_op.specs.declared.scope.OpScope.{OpScope}
 use Rattle.mt_core.proofs.Restarts.{goes_on, quiet_then}
 use Rattle.mt_plock.specs.Releasing.{locks_without}
 use Rattle.mt_core.specs.PageLocks.{GivesLocksBack}
@@ -28,7 +28,7 @@ drop_out-requires-clause-within g c = let same = c.take_back.ensures.length in l
 
 pub drop_out-requires-clause-forward : goal.drop_out-requires-clause-forward
 drop_out-requires-clause-forward g c = λ q now. let items = c.args.self.now.running.items in let place = c.args.place in
-    let r : Running = get_or items place q in
+    let r : OpScope = get_or items place q in
     let at : r ≡ get_or items place r = get_or_default items place q r c.requires.within in
     ∥∥₁_elim c.requires.safe (hlevel props) (λ (origin, base, safe). (c.take_back.ensures.same origin base safe r q at now).undoes ∙ (c.requires.aborting r at).0)
 
@@ -38,9 +38,9 @@ returns-in-Clear-clause-back g c = λ origin base safe x at. let k = c.args.self
     let made = subst (GoesBack seen may_leave origin base (state_of k base) c.take_back.new.self place) was (c.take_back.ensures.back origin base safe) in
     let items = c.take_back.new.self.running.items in
     let inside : place < length items = let same = c.take_back.ensures.length in let within = c.requires.within in omega arith in
-    let q : Running = get_or items place x in
+    let q : OpScope = get_or items place x in
     let now : q ≡ get_or items place q = get_or_default items place x q inside in
-    let same : SameOp x.scope q.scope = c.take_back.ensures.same origin base safe x q at now in
+    let same : SameOp x q = c.take_back.ensures.same origin base safe x q at now in
     let gone = c.drop_out.ensures.drops origin base made.0 q now in
     subst (λ (X : Type 0). X) (λ i. DropsIn seen may_leave origin base (sym made.1 i) c.drop_out.new.self (same.txn i)) gone
 
@@ -50,8 +50,8 @@ returns-in-More-clause-lowers g c = λ x at. ∥∥₁_elim c.requires.safe (hle
     let was = c.in_ok-take_back.was ∙ ap Ok c.in-More.is in
     let made = subst (GoesBack seen may_leave origin base (state_of k base) n place) was (c.take_back.ensures.back origin base safe) in
     let m = moved_of seen may_leave origin base k n place x safe made.consistent c.requires.within at c.take_back.ensures.length (λ q now. c.take_back.ensures.same origin base safe x q at now) c.take_back.ensures.live in
-    let q : Running = get_or n.running.items place x in
-    let less = subst (LeavesStanding x.scope q.scope) was (c.take_back.ensures.puts x q at m.now) in
+    let q : OpScope = get_or n.running.items place x in
+    let less = subst (LeavesStanding x q) was (c.take_back.ensures.puts x q at m.now) in
     let both = forward_moved k n place x q m (c.requires.aborting x at).0 in let b = both.0 in let a = both.1 in omega arith)
 
 pub returns-in-Flush-clause-lowers : goal.returns-in-Flush-clause-lowers
@@ -60,20 +60,20 @@ returns-in-Flush-clause-lowers g c = λ x at. ∥∥₁_elim c.requires.safe (hl
     let was = c.in_ok-take_back.was ∙ ap Ok c.in-Flush.is in
     let made = subst (GoesBack seen may_leave origin base (state_of k base) n place) was (c.take_back.ensures.back origin base safe) in
     let m = moved_of seen may_leave origin base k n place x safe made.consistent c.requires.within at c.take_back.ensures.length (λ q now. c.take_back.ensures.same origin base safe x q at now) c.take_back.ensures.live in
-    let q : Running = get_or n.running.items place x in
-    let less = subst (LeavesStanding x.scope q.scope) was (c.take_back.ensures.puts x q at m.now) in
+    let q : OpScope = get_or n.running.items place x in
+    let less = subst (LeavesStanding x q) was (c.take_back.ensures.puts x q at m.now) in
     let both = forward_moved k n place x q m (c.requires.aborting x at).0 in let b = both.0 in let a = both.1 in omega arith)
 
 pub returns-in_err-take_back-clause-lowers : goal.returns-in_err-take_back-clause-lowers
 returns-in_err-take_back-clause-lowers g c = λ x at. let k = c.args.self.now in let n = c.take_back.new.self in let place = c.args.place in let seen = g.D.Device.seen in let may_leave = g.D.Device.may_leave in
-    let few : undo_steps n x.scope.txn ≤ undo_steps k x.scope.txn = ∥∥₁_elim c.requires.safe (hlevel props) (λ (origin, base, safe).
+    let few : undo_steps n x.txn ≤ undo_steps k x.txn = ∥∥₁_elim c.requires.safe (hlevel props) (λ (origin, base, safe).
     let made = subst (GoesBack seen may_leave origin base (state_of k base) n place) c.in_err-take_back.was (c.take_back.ensures.back origin base safe) in
     let m = moved_of seen may_leave origin base k n place x safe made.consistent c.requires.within at c.take_back.ensures.length (λ q now. c.take_back.ensures.same origin base safe x q at now) c.take_back.ensures.live in
-    let q : Running = get_or n.running.items place x in
-    let less = subst (LeavesStanding x.scope q.scope) c.in_err-take_back.was (c.take_back.ensures.puts x q at m.now) in
+    let q : OpScope = get_or n.running.items place x in
+    let less = subst (LeavesStanding x q) c.in_err-take_back.was (c.take_back.ensures.puts x q at m.now) in
     let both = forward_moved k n place x q m (c.requires.aborting x at).0 in let b = both.0 in let a = both.1 in omega arith) in
     let p = err_from_is_err_and c.from_residual.result c.from_residual.ensures.1 in
-    subst (λ (r : Result TakenBack Refusal). LowersBack r (undo_steps k x.scope.txn) (undo_steps n x.scope.txn)) (sym p.1) few
+    subst (λ (r : Result TakenBack Refusal). LowersBack r (undo_steps k x.txn) (undo_steps n x.txn)) (sym p.1) few
 
 pub returns-in-Clear-clause-lowers : goal.returns-in-Clear-clause-lowers
 returns-in-Clear-clause-lowers g c = λ x at. ∥∥₁_elim c.requires.safe (hlevel props) (λ (origin, base, safe).
@@ -82,11 +82,11 @@ returns-in-Clear-clause-lowers g c = λ x at. ∥∥₁_elim c.requires.safe (hl
     let made = subst (GoesBack seen may_leave origin base (state_of k base) z place) was (c.take_back.ensures.back origin base safe) in
     let items = z.running.items in
     let inside : place < length items = let same = c.take_back.ensures.length in let within = c.requires.within in omega arith in
-    let q : Running = get_or items place x in
+    let q : OpScope = get_or items place x in
     let now : q ≡ get_or items place q = get_or_default items place x q inside in
-    let same : SameOp x.scope q.scope = c.take_back.ensures.same origin base safe x q at now in
+    let same : SameOp x q = c.take_back.ensures.same origin base safe x q at now in
     let cleared = made.0 q now in
-    let all = pages k.operations.store.pool in let t = x.scope.txn in
+    let all = pages k.operations.store.pool in let t = x.txn in
     let size : pages n.operations.store.pool ≡ all = ap (λ o. pages o.pool) c.drop_out.ensures.store ∙ sym cleared.alone.own.total ∙ same.total ∙ total_at seen may_leave origin base k place x safe c.requires.within at in
     let standing : n.live.standing ≡ k.live.standing = ap (λ (l : Lives). l.standing) (c.drop_out.ensures.live ∙ c.take_back.ensures.live) in
     let gone = undo_removed n items place t all q k.live.standing inside now cleared.fit.apart same.txn c.drop_out.ensures.items size standing in
@@ -113,10 +113,10 @@ pub returns-in-Clear-clause-locks : goal.returns-in-Clear-clause-locks
 returns-in-Clear-clause-locks g c = λ x at. ∥∥₁_elim c.requires.safe (hlevel props) (λ (origin, base, safe).
     let place = c.args.place in let items = c.take_back.new.self.running.items in
     let inside : place < length items = let same = c.take_back.ensures.length in let within = c.requires.within in omega arith in
-    let q : Running = get_or items place x in
+    let q : OpScope = get_or items place x in
     let now : q ≡ get_or items place q = get_or_default items place x q inside in
-    let same : SameOp x.scope q.scope = c.take_back.ensures.same origin base safe x q at now in
-    c.drop_out.ensures.locks q now ∙ ap (λ n. locks_without n c.take_back.new.self.operations.locks) same.number ∙ ap (locks_without x.scope.number) c.take_back.ensures.locks)
+    let same : SameOp x q = c.take_back.ensures.same origin base safe x q at now in
+    c.drop_out.ensures.locks q now ∙ ap (λ n. locks_without n c.take_back.new.self.operations.locks) same.number ∙ ap (locks_without x.number) c.take_back.ensures.locks)
 
 pub returns-in_err-take_back-clause-locks : goal.returns-in_err-take_back-clause-locks
 returns-in_err-take_back-clause-locks g c = λ x at.

@@ -11,7 +11,7 @@ use Rattle.mt_op.specs.Operations.{world}
 use Rattle.mt_op.specs.World.{IsFresh}
 use Rattle.mt_core.specs.Consistent.{IsWithinSchema}
 use Rattle.mt_core.specs.declared.parts.Core.{Core}
-use Rattle.mt_core.specs.declared.parts.Running.{Running}
+use Rattle.mt_op.specs.declared.scope.OpScope.{OpScope}
 use Rattle.mt_core.proofs.Calling.{txn_named}
 use Rattle.mt_core.proofs.Effects.{inverse_bytes, inverse_writes, last_did}
 use Rattle.mt_core.specs.Runs.{undo_bytes, entry_bytes}
@@ -43,8 +43,8 @@ begin_op-requires-clause-numbers g c = ∥∥₁_elim c.requires.safe (hlevel pr
     let named = txn_named g.D.Device.seen g.D.Device.may_leave origin base c.args.self.now c.args.txn safe.fit (aborting_open (member_of c.args.self.now.live.members c.args.txn) c.requires.aborting) in
     let few = safe.fit.numbered.few_operations in let is = c.new.ensures in (named, (omega arith, omega arith)))
 
-pub returns-in_err-scope-clause-state : goal.returns-in_err-scope-clause-state
-returns-in_err-scope-clause-state g c = λ origin base safe. let k = c.args.self.now in let a = c.reserve.ensures in
+pub returns-in-Err-clause-state : goal.returns-in-Err-clause-state
+returns-in-Err-clause-state g c = λ origin base safe. let k = c.args.self.now in let a = c.reserve.ensures in
     rooms_in g.D.Device.seen g.D.Device.may_leave origin base k (record k { running = c.reserve.new.self }) safe a.items refl refl refl (omega arith)
 
 pub overflow_sub-self : goal.overflow_sub-self
@@ -55,9 +55,9 @@ overflow_sub-self g c = ∥∥₁_elim c.requires.safe (hlevel props) (λ (origi
     let weighs : entry_bytes x.0 ≡ undo_bytes x.0.op = rw some refl in
     undo_enough g.D.Device.seen g.D.Device.may_leave origin base k c.args.txn x.0 safe.fit c.requires.idle x.1 some (weighs ∙ inverse_bytes x.0.op x.0.reply c.in-Some-2.inverse inverse))
 
-pub returns-clause-state : goal.returns-clause-state
-returns-clause-state g c = λ origin base safe.
-    let seen = g.D.Device.seen in let may_leave = g.D.Device.may_leave in let k = c.args.self.now in let e = c.in_ok-scope.ensures in let s = c.in_ok-scope.scope in
+pub returns-in-Ok-clause-state : goal.returns-in-Ok-clause-state
+returns-in-Ok-clause-state g c = λ origin base safe.
+    let seen = g.D.Device.seen in let may_leave = g.D.Device.may_leave in let k = c.args.self.now in let e = c.in-Ok.ensures in let s = c.in-Ok.scope in
     let x = last_entry (last_effect c.args.txn k.live.standing) c.in-Some.last.op.now c.in-Some.last.reply.now c.in-Some.ensures.last in
     let inverse : inverse_of x.0.op x.0.reply ≡ Some c.in-Some-2.inverse = (λ i. inverse_of (x.2 i) (x.3 i)) ∙ sym c.in_ok-inverse.ensures.inverse ∙ c.in-Some-2.is in
     let small = last_has (IsWithinSchema origin) c.args.txn k.live.standing x.0 safe.fit.small x.1 in
@@ -72,8 +72,8 @@ returns-clause-state g c = λ origin base safe.
     let enough = undo_enough seen may_leave origin base k c.args.txn x.0 safe.fit c.requires.idle x.1 some (weighs ∙ inverse_bytes x.0.op x.0.reply c.in-Some-2.inverse inverse) in
     let n : Core g.row.D.Denot = record k { running = c.push_reserved.new.self; reserved = k.reserved - 106496 } in
     let writes : undo_bytes c.in-Some-2.inverse ≡ 106496 = inverse_writes x.0.op x.0.reply c.in-Some-2.inverse inverse in
-    undoing_in seen may_leave origin base k n c.args.txn x.0 (record { scope = s; op = c.in_ok-op.op })
-    safe c.requires.aborting c.requires.idle x.1 (inverse ∙ ap Some (sym e.named.2)) (c.in_ok-op.ensures ∙ sym x.2) (c.push_reserved.ensures.items ∙ ap (λ (rs : List Running). rs ++ record { scope = s; op = c.in_ok-op.op } ∷ []) c.reserve.ensures.items)
+    undoing_in seen may_leave origin base k n c.args.txn x.0 s
+    safe c.requires.aborting c.requires.idle x.1 (inverse ∙ ap Some (sym e.named.2)) (c.push_reserved.ensures.items ∙ ap (λ (rs : List OpScope). rs ++ s ∷ []) c.reserve.ensures.items)
     (number ∙ ap Some (numbered ∙ sym e.named.3)) (e.under origin.pages origin.relations origin.counters safe.fit.right within fresh) e.budget e.named.0 (e.named.1 ∙ c.new.ensures) back e.named.4 e.planning.0
     (e.left ∙ writes) (omega arith)
 
@@ -90,17 +90,17 @@ returns-in_default-2-clause-nothing g c = λ is. let k = c.args.self.now in
     let none : inverse_of x.0.op x.0.reply ≡ None = (λ i. inverse_of (x.2 i) (x.3 i)) ∙ sym c.in_ok-inverse.ensures.inverse ∙ c.in_default-2.is in
     let here : is_some (inverse_of x.0.op x.0.reply) ≡ false = ap is_some none in absurd cc
 
-pub returns-clause-fewer : goal.returns-clause-fewer
-returns-clause-fewer g c = λ is. let k = c.args.self.now in let e = c.in_ok-scope.ensures in let s = c.in_ok-scope.scope in let t = c.args.txn in
+pub returns-in-Ok-clause-fewer : goal.returns-in-Ok-clause-fewer
+returns-in-Ok-clause-fewer g c = λ is. let k = c.args.self.now in let e = c.in-Ok.ensures in let s = c.in-Ok.scope in let t = c.args.txn in
     let x = last_entry (last_effect t k.live.standing) c.in-Some.last.op.now c.in-Some.last.reply.now c.in-Some.ensures.last in
-    let r : Running = record { scope = s; op = c.in_ok-op.op } in let all = pages k.operations.store.pool in
+    let r : OpScope = s in let all = pages k.operations.store.pool in
     let back : s.undoes ≢ 0 = ∥∥₁_elim c.requires.safe (hlevel props) (λ (origin, base, safe).
     let number : last_operation (member_of k.live.members t) ≡ Some c.in-Some.last.number = sym c.in-Some.ensures.number in
     let due = undo_fresh g.D.Device.seen g.D.Device.may_leave origin base k t (k.last + 1) c.in-Some.last.number safe (aborting_open (member_of k.live.members t) c.requires.aborting) (omega arith) number in
     λ zero. due.1 (sym c.get-undoes.ensures ∙ sym e.named.3 ∙ zero)) in
     let n : Core g.row.D.Denot = record k { running = c.push_reserved.new.self; reserved = k.reserved - 106496 } in
-    let items = c.push_reserved.ensures.items ∙ ap (λ (rs : List Running). rs ++ r ∷ []) c.reserve.ensures.items in
-    let now = undo_begun k n r (subst (λ u. All (λ (q : Running). q.scope.txn ≢ u) k.running.items) (sym e.named.0) c.requires.idle) back items refl refl in
+    let items = c.push_reserved.ensures.items ∙ ap (λ (rs : List OpScope). rs ++ r ∷ []) c.reserve.ensures.items in
+    let now = undo_begun k n r (subst (λ u. All (λ (q : OpScope). q.txn ≢ u) k.running.items) (sym e.named.0) c.requires.idle) back items refl refl in
     let own : undo_steps n t ≡ work_of s + (effects_left all k.live.standing t - (2 * all + 10)) = subst (λ u. undo_steps n u ≡ work_of s + (effects_left all k.live.standing u - (2 * all + 10))) e.named.0 now in
     let before = undo_idle k t c.requires.idle in let work = e.work in
     let cut = cut_left all t k.live.standing x.0 x.1 in omega (arith, own, before, work, cut)
@@ -109,10 +109,10 @@ pub returns-in_err-reserve-clause-restartable : goal.returns-in_err-reserve-clau
 returns-in_err-reserve-clause-restartable g c = λ origin base later safe_k safe_n r. let k = c.args.self.now in
     store_same g.D.Device.seen g.D.Device.may_leave origin k (record k { running = c.reserve.new.self }) base later safe_k safe_n refl (record { book = refl; commits = refl }) refl r
 
-pub returns-in_err-scope-clause-restartable : goal.returns-in_err-scope-clause-restartable
-returns-in_err-scope-clause-restartable g c = λ origin base later safe_k safe_n r. let k = c.args.self.now in
+pub returns-in-Err-clause-restartable : goal.returns-in-Err-clause-restartable
+returns-in-Err-clause-restartable g c = λ origin base later safe_k safe_n r. let k = c.args.self.now in
     store_same g.D.Device.seen g.D.Device.may_leave origin k (record k { running = c.reserve.new.self }) base later safe_k safe_n refl (record { book = refl; commits = refl }) refl r
 
-pub returns-clause-restartable : goal.returns-clause-restartable
-returns-clause-restartable g c = λ origin base later safe_k safe_n r. let k = c.args.self.now in
+pub returns-in-Ok-clause-restartable : goal.returns-in-Ok-clause-restartable
+returns-in-Ok-clause-restartable g c = λ origin base later safe_k safe_n r. let k = c.args.self.now in
     store_same g.D.Device.seen g.D.Device.may_leave origin k (record k { running = c.push_reserved.new.self; last = k.last + 1; reserved = k.reserved - 106496 }) base later safe_k safe_n refl (record { book = refl; commits = refl }) refl r

@@ -10,6 +10,7 @@ returns g c = let f = c.flush_step.ensures in let seen = g.D.Device.seen in
           (store_rests seen opening c.args.self.now c.flush_step.new.self f.log (ap (λ v. length v.items) f.there) (λ q lt. f.views q)) refl refl;
       rests = λ opening. store_rests seen opening c.args.self.now c.flush_step.new.self f.log (ap (λ v. length v.items) f.there) (λ q lt. f.views q);
       moments = f.moments;
+      once = f.time.at_once;
       claimed = refl;
       log = f.log;
       there = f.there;

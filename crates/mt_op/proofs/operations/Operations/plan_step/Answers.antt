@@ -21,7 +21,7 @@ use Rattle.mt_op.proofs.Searching.{searched_prop}
 use Rattle.mt_op.proofs.Choosing.{cause_memory, locked_some, locked_err, refused_plan, unled_goes, reading_of}
 use Rattle.mt_op.proofs.Work.{led_work, led_misled, plans_over, claim_free}
 use Rattle.mt_op.proofs.Known.{one_of, known_within}
-use Rattle.mt_op.proofs.Faulting.{no_fault, no_fault_ok}
+use Rattle.mt_op.proofs.Faulting.{no_fault, no_fault_ok, once_same}
 use Rattle.mt_op.proofs.operations.Operations.plan_step.Goals as goal
 
 pub returns-in_err-page : goal.returns-in_err-page
@@ -78,6 +78,7 @@ returns-in-Made g c = let d = g.D.Device in let o = c.args.self.now in let s = c
       scope = f.scope;
       why = cause_memory c.keep_plan.result f.only_memory;
       faults = no_fault _ _ c.keep_plan.result f.only_memory (ap (λ (x : Store g.row.D.Denot). d.faults x.device) f.store);
+      once = once_same _ _ (ap (λ (x : Store g.row.D.Denot). d.moment x.device) f.store);
     }
 
 pub returns-in-Full : goal.returns-in-Full
@@ -104,6 +105,7 @@ returns-in-Full g c = let d = g.D.Device in let o = c.args.self.now in let s = c
       ));
       why = tt;
       faults = no_fault_ok _ _ _ refl;
+      once = once_same _ _ refl;
     }
 
 pub lock_next-requires-clause-right : goal.lock_next-requires-clause-right

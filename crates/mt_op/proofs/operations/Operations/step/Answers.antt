@@ -33,6 +33,7 @@ returns-then-eq g c = let d = g.D.Device in
       went = e.went;
       why = e.why;
       faults = e.faults;
+      once = e.once;
     }
 
 pub returns-in_err-stepped : goal.returns-in_err-stepped
@@ -58,6 +59,7 @@ returns-in_err-stepped g c = let d = g.D.Device in let o = c.args.self.now in le
       went = e.went;
       why = e.why;
       faults = e.faults;
+      once = e.once;
     }
 
 pub returns-in-Some : goal.returns-in-Some
@@ -85,6 +87,7 @@ returns-in-Some g c = let d = g.D.Device in let o = c.args.self.now in let s = c
       went = e.went;
       why = e.why;
       faults = e.faults;
+      once = e.once;
     }
 
 pub go_on-requires-in-None : goal.go_on-requires-in-None
@@ -126,4 +129,5 @@ returns-in-None g c = let d = g.D.Device in let o = c.args.self.now in let s = c
       went = e.went;
       why = e.why;
       faults = e.faults;
+      once = e.once;
     }

@@ -41,6 +41,7 @@ returns-then-scope-eq0 g c = let d = g.D.Device in
       full = b.full;
       why = b.why;
       faults = b.faults;
+      once = b.once;
     }
 
 pub returns-in_err-bring : goal.returns-in_err-bring
@@ -48,7 +49,7 @@ returns-in_err-bring g c = let d = g.D.Device in let f = c.bring.ensures in let 
     let few : c.args.scope.now.standing ≤ 8 = ∥∥₁_elim c.requires.right (hlevel props) (λ (opening, relations, counters, right, k). few_stand relations counters (world d.seen opening c.args.self.now) c.args.scope.now k c.requires.stage) in
     let p = err_from_is_err_and c.from_residual.result c.from_residual.ensures.1 in
     let b = subst (TakesBack d.seen d.may_leave d.moment d.left_since d.faults o c.bring.new.self s s) (sym (p.1 ∙ ap Err (p.2 ∙ subst (λ (r : Result Bool Refusal). IfErr r (λ why. why ≡ refusal.DeviceFailed)) c.in_err-bring.was c.bring.ensures.only_device)))
-    (takes_none d.seen d.may_leave d.moment d.left_since d.faults o c.bring.new.self s f.right f.rests f.moments f.log f.map f.locks
+    (takes_none d.seen d.may_leave d.moment d.left_since d.faults o c.bring.new.self s f.right f.rests f.moments f.once f.log f.map f.locks
     few (Err refusal.DeviceFailed) tt c.requires.budget
     (λ is. absurd cc) (inr refl) (fault_reported _ _ c.bring.result _ (Err refusal.DeviceFailed) f.cause c.in_err-bring.was refl)) in
     record {
@@ -69,12 +70,13 @@ returns-in_err-bring g c = let d = g.D.Device in let f = c.bring.ensures in let 
       full = b.full;
       why = b.why;
       faults = b.faults;
+      once = b.once;
     }
 
 pub returns-then-not-branch : goal.returns-then-not-branch
 returns-then-not-branch g c = let d = g.D.Device in let f = c.bring.ensures in let o = c.args.self.now in let s = c.args.scope.now in
     let few : c.args.scope.now.standing ≤ 8 = ∥∥₁_elim c.requires.right (hlevel props) (λ (opening, relations, counters, right, k). few_stand relations counters (world d.seen opening c.args.self.now) c.args.scope.now k c.requires.stage) in
-    let b = takes_none d.seen d.may_leave d.moment d.left_since d.faults o c.bring.new.self s f.right f.rests f.moments f.log f.map f.locks
+    let b = takes_none d.seen d.may_leave d.moment d.left_since d.faults o c.bring.new.self s f.right f.rests f.moments f.once f.log f.map f.locks
     few (Ok taken.Flush) tt c.requires.budget
     (λ is. f.full (c.in_ok-bring.was ∙ ap Ok c.if-not-branch.true)) tt (no_fault_ok _ _ _ (unfailed _ _ c.bring.result _ f.cause c.in_ok-bring.was)) in
     record {
@@ -95,6 +97,7 @@ returns-then-not-branch g c = let d = g.D.Device in let f = c.bring.ensures in l
       full = b.full;
       why = b.why;
       faults = b.faults;
+      once = b.once;
     }
 
 pub put_last_back-requires : goal.put_last_back-requires
@@ -113,7 +116,7 @@ put_last_back-requires g c = let f = c.bring.ensures in let s = c.args.scope.now
 pub returns : goal.returns
 returns g c = let d = g.D.Device in let f = c.bring.ensures in let o = c.args.self.now in let s = c.args.scope.now in
     let few : c.args.scope.now.standing ≤ 8 = ∥∥₁_elim c.requires.right (hlevel props) (λ (opening, relations, counters, right, k). few_stand relations counters (world d.seen opening c.args.self.now) c.args.scope.now k c.requires.stage) in
-    let b = takes_behind d.seen d.may_leave d.moment d.left_since d.faults o c.bring.new.self s f.right f.rests f.moments f.log f.map f.locks
+    let b = takes_behind d.seen d.may_leave d.moment d.left_since d.faults o c.bring.new.self s f.right f.rests f.moments f.once f.log f.map f.locks
     few c.put_last_back.new.self c.put_last_back.new.scope c.put_last_back.result c.put_last_back.ensures (unfailed _ _ c.bring.result _ f.cause c.in_ok-bring.was) in
     record {
       goes = b.goes;
@@ -133,6 +136,7 @@ returns g c = let d = g.D.Device in let f = c.bring.ensures in let o = c.args.se
       full = b.full;
       why = b.why;
       faults = b.faults;
+      once = b.once;
     }
 
 pub bring-requires-clause-kept : goal.bring-requires-clause-kept

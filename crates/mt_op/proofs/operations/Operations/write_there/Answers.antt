@@ -10,7 +10,7 @@ use Rattle.mt_op.specs.World.{changes_in}
 use Rattle.mt_op.specs.Stepping.{GoesAhead}
 use Rattle.mt_op.proofs.Ahead.{idle_ahead}
 use Rattle.mt_op.proofs.Budget.{area_small, write_fits, write_within, write_left}
-use Rattle.mt_op.proofs.Faulting.{no_fault, no_fault_ok}
+use Rattle.mt_op.proofs.Faulting.{no_fault, no_fault_ok, once_same}
 use Rattle.mt_op.proofs.Right.{right_rests, with_store}
 use Rattle.mt_op.proofs.Work.{writing_work}
 use Rattle.mt_op.proofs.Written.{writes_goes, next_short, store_writes, store_stays, writes_right}
@@ -36,7 +36,7 @@ returns-in_err-write g c = let d = g.D.Device in let f = c.in_err-write.ensures 
       ahead = subst (GoesAhead d.seen d.may_leave d.moment d.left_since d.faults o n s s) (sym is)
           (idle_ahead d.seen d.may_leave d.moment d.left_since d.faults o n s
           (λ opening relations counters right. right_rests d.seen d.may_leave opening relations counters o n right (f.kept opening right.kept) (store_stays d.seen d.may_leave opening o c.write.new.self f.device f.err_pool f.err_appended) refl refl)
-          (λ opening. store_stays d.seen d.may_leave opening o c.write.new.self f.device f.err_pool f.err_appended) f.moments f.err_used f.area f.durable refl refl (Err refusal.NoMemory) tt c.requires.writing c.requires.budget
+          (λ opening. store_stays d.seen d.may_leave opening o c.write.new.self f.device f.err_pool f.err_appended) f.moments (once_same _ _ (ap d.moment f.device)) f.err_used f.area f.durable refl refl (Err refusal.NoMemory) tt c.requires.writing c.requires.budget
           (λ is. absurd cc) (inl refl) (no_fault _ _ (Err refusal.NoMemory) refl (ap d.faults f.device)));
       device = f.device;
       map = refl;
@@ -86,6 +86,7 @@ returns g c = let f = c.in_ok-write.ensures in let seen = g.D.Device.seen in let
         flush = λ is. absurd cc;
         why = tt;
         faults = no_fault_ok _ _ _ (ap g.D.Device.faults f.device);
+        once = once_same _ _ (ap g.D.Device.moment f.device);
       };
       device = f.device;
       map = refl;

@@ -71,7 +71,7 @@ returns-in-Going-clause-other g c = let k = c.args.self.now.core in let n = c.st
       within = c.in-Some-place_of.ensures.place.0;
       states = c.step-outcome.ensures.states;
       consistent = λ origin base safe. (subst (Steps seen may_leave origin base k n place) was (c.step-outcome.ensures.steps origin base safe)).consistent;
-      names = λ origin base safe. subst (λ (r : Result Stepping Refusal). AtPlace k.running.items place (λ q. NamesOther n.running.items q.scope.txn r)) was (c.step-outcome.ensures.other origin base safe);
+      names = λ origin base safe. subst (λ (r : Result Stepping Refusal). AtPlace k.running.items place (λ q. NamesOther n.running.items q.txn r)) was (c.step-outcome.ensures.other origin base safe);
     }) c.args.self.now.well c.stepped.ensures
 
 pub returns-in_err-reply-clause-restarts : goal.returns-in_err-reply-clause-restarts
@@ -119,7 +119,7 @@ returns-in-Going-clause-locks g c = λ may. let k = c.args.self.now.core in let 
               within = c.in-Some-place_of.ensures.place.0;
               states = c.step-outcome.ensures.states;
               consistent = λ origin base safe. (subst (Steps seen may_leave origin base k n place) was (c.step-outcome.ensures.steps origin base safe)).consistent;
-              names = λ origin base safe. subst (λ (x : Result Stepping Refusal). AtPlace k.running.items place (λ q. NamesOther n.running.items q.scope.txn x)) was (c.step-outcome.ensures.other origin base safe);
+              names = λ origin base safe. subst (λ (x : Result Stepping Refusal). AtPlace k.running.items place (λ q. NamesOther n.running.items q.txn x)) was (c.step-outcome.ensures.other origin base safe);
             }) c.args.self.now.well c.stepped.ensures (subst (KeepsPageLocks k n r) was (c.step-outcome.ensures.locks r at)),
       ),
     )

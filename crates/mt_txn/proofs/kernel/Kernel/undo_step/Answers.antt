@@ -37,7 +37,7 @@ returns-in-Going-clause-locks g c = λ r at. let k = c.args.self.now.core in let
       within = c.requires.within;
       states = c.undo_step-outcome.ensures.states;
       consistent = λ origin base safe. (subst (UndoSteps seen may_leave origin base k n place) was (c.undo_step-outcome.ensures.steps origin base safe)).consistent;
-      names = λ origin base safe. subst (λ (x : Result Stepping Refusal). AtPlace k.running.items place (λ q. NamesOther n.running.items q.scope.txn x)) was (c.undo_step-outcome.ensures.other origin base safe);
+      names = λ origin base safe. subst (λ (x : Result Stepping Refusal). AtPlace k.running.items place (λ q. NamesOther n.running.items q.txn x)) was (c.undo_step-outcome.ensures.other origin base safe);
     }) c.args.self.now.well c.going.ensures (subst (KeepsPageLocks k n r) was (c.undo_step-outcome.ensures.locks r at))
 
 pub returns-in_err-reply-clause-steps : goal.returns-in_err-reply-clause-steps
@@ -109,7 +109,7 @@ returns-in-Going-clause-steps g c = record {
         within = c.requires.within;
         states = c.undo_step-outcome.ensures.states;
         consistent = λ origin base safe. (subst (UndoSteps seen may_leave origin base k n place) was (c.undo_step-outcome.ensures.steps origin base safe)).consistent;
-        names = λ origin base safe. subst (λ (r : Result Stepping Refusal). AtPlace k.running.items place (λ q. NamesOther n.running.items q.scope.txn r)) was (c.undo_step-outcome.ensures.other origin base safe);
+        names = λ origin base safe. subst (λ (r : Result Stepping Refusal). AtPlace k.running.items place (λ q. NamesOther n.running.items q.txn r)) was (c.undo_step-outcome.ensures.other origin base safe);
       }) c.args.self.now.well c.going.ensures;
   full = search rules;
   durable = search rules;

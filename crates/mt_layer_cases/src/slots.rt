@@ -1,9 +1,11 @@
 // A page of records that is filled, and filled again after a removal.
+ghost use Rattle.std.specs.Prelude.{◌<◌, ◌≤◌, length, IfSome};
+ghost use Rattle.mt_base.specs.Touched.{TouchesOnly};
 ghost use Rattle.mt_slots.specs.Page.{IsShaped};
 
 use mt_base::ranges::u16_at;
-use mt_base::{Edit, RelNo, edits_of};
-use mt_slots::{check, empty, insert, live, remove, room};
+use mt_base::{Edit, RelNo, TouchedBytes, edits_of};
+use mt_slots::{Insertion, check, empty, insert, live, remove, room};
 use std::alloc::{AllocError, Global};
 use std::test::Fail;
 
@@ -16,6 +18,19 @@ fn page_of_ones() -> [u8; 4096]
     page
 }
 
+// Puts a record of relation 1 into a page, and answers its slot.
+fn insert_one(page: &mut [u8; 4096], key: &[u8], value: &[u8]) -> Option<u16>
+    requires shaped { IsShaped page.old }
+    requires key_fits { length key.now < 256 }
+    requires value_fits { length value.now ≤ 4096 }
+    ensures { IsShaped page.new }
+{
+    let Some(insertion) = insert(page, RelNo::new(1), key, value) else {
+        return None;
+    };
+    Some(insertion.slot)
+}
+
 // Puts three records of 1,024 bytes into a page, and answers their slots.
 fn fill(page: &mut [u8; 4096]) -> [Option<u16>; 3]
     requires { IsShaped page.old }
@@ -23,9 +38,9 @@ fn fill(page: &mut [u8; 4096]) -> [Option<u16>; 3]
 {
     let value = [7u8; 1024];
     [
-        insert(page, RelNo::new(1), b"ab", &value),
-        insert(page, RelNo::new(1), b"ac", &value),
-        insert(page, RelNo::new(1), b"ad", &value),
+        insert_one(page, b"ab", &value),
+        insert_one(page, b"ac", &value),
+        insert_one(page, b"ad", &value),
     ]
 }
 
@@ -48,7 +63,7 @@ fn has_no_room(page: &[u8; 4096]) -> bool
     requires { IsShaped page.now }
 {
     let mut same = *page;
-    let slot = insert(&mut same, RelNo::new(1), b"ae", &[7u8; 1024]);
+    let slot = insert_one(&mut same, b"ae", &[7u8; 1024]);
     slot.is_none() && same == *page
 }
 
@@ -71,7 +86,7 @@ fn fill_again(page: &mut [u8; 4096]) -> (Option<u16>, [u16; 4])
     ensures { IsShaped page.new }
 {
     let (before, two) = (room(page), live(page));
-    let slot = insert(page, RelNo::new(1), b"af", &[7u8; 1024]);
+    let slot = insert_one(page, b"af", &[7u8; 1024]);
     (slot, [before, two, room(page), live(page)])
 }
 
@@ -87,17 +102,25 @@ fn three_long_records_fill_a_page(rt: HostRuntime) -> Result<(), Fail> {
     Ok(())
 }
 
-// Puts four short records into a page. Answers their slots, and the page before the last.
-fn insert_four(page: &mut [u8; 4096]) -> ([Option<u16>; 4], [u8; 4096])
+// Puts four short records into a page. Answers the slots of three, the page then, and where the fourth went.
+fn insert_four(page: &mut [u8; 4096]) -> ([Option<u16>; 3], [u8; 4096], Option<Insertion>)
     requires { IsShaped page.old }
+    ensures { IfSome result.2 (λ fourth. TouchesOnly fourth.touched result.1 page.new) }
 {
-    let first = insert(page, RelNo::new(2), b"a", b"xyz");
-    let second = insert(page, RelNo::new(2), b"b", b"xyz");
-    let third = insert(page, RelNo::new(2), b"c", b"xyz");
+    let first = insert_one(page, b"a", b"xyz");
+    let second = insert_one(page, b"b", b"xyz");
+    let third = insert_one(page, b"c", b"xyz");
     let before = *page;
     let fourth = insert(page, RelNo::new(2), b"d", b"xyz");
-    ([first, second, third, fourth], before)
+    ([first, second, third], before, fourth)
 }
+
+// What the fourth touches: the page's head of 8 bytes, four slots of 4 bytes each, and its own 8 bytes.
+const BY_FOURTH: TouchedBytes = TouchedBytes {
+    head: 24,
+    start: 0x0fe0,
+    count: 8,
+};
 
 // Whether these are the count's low byte, the four of the slot, and the eight of the record.
 fn are_of_fourth(edits: &[Edit]) -> bool {
@@ -112,22 +135,30 @@ fn are_of_fourth(edits: &[Edit]) -> bool {
     }
 }
 
-// Whether the edits from the one page to the other are those, and there are none from a page to itself.
+// Whether the fourth touched that, and the edits from the one page to the other are those. From a page to itself
+// there are none.
 fn differ_by_fourth(
     alloc: Global,
     before: &[u8; 4096],
     page: &[u8; 4096],
-) -> Result<bool, AllocError> {
-    let edits = edits_of(alloc, before, page)?;
-    let none = edits_of(alloc, page, page)?;
-    Ok(none.is_empty() && are_of_fourth(&edits))
+    fourth: Option<Insertion>,
+) -> Result<bool, AllocError>
+    requires { IfSome fourth (λ to. TouchesOnly to.touched before.now page.now) }
+{
+    let Some(insertion) = fourth else {
+        return Ok(false);
+    };
+    let touched = insertion.touched;
+    let edits = edits_of(alloc, before, page, touched)?;
+    let none = edits_of(alloc, page, page, TouchedBytes::whole())?;
+    Ok(insertion.slot == 3 && touched == BY_FOURTH && none.is_empty() && are_of_fourth(&edits))
 }
 
 #[test]
 fn an_insert_changes_three_short_ranges(rt: HostRuntime) -> Result<(), Fail> {
     let mut page = page_of_ones();
-    let (slots, before) = insert_four(&mut page);
-    assert!(rt; slots == [Some(0), Some(1), Some(2), Some(3)]);
-    assert!(rt; differ_by_fourth(rt.alloc(), &before, &page)?);
+    let (slots, before, fourth) = insert_four(&mut page);
+    assert!(rt; slots == [Some(0), Some(1), Some(2)]);
+    assert!(rt; differ_by_fourth(rt.alloc(), &before, &page, fourth)?);
     Ok(())
 }

@@ -7,7 +7,7 @@ ghost use Rattle.mt_steps.specs.Acts.{HasCounters};
 ghost use Rattle.mt_steps.specs.Planners.{PlansAdd, PlansRead};
 
 use crate::act::Act;
-use crate::counters::{add, counter};
+use crate::counters::{add, counter, number_bytes};
 use mt_base::{CtrNo, Mode, PageNo};
 use mt_model::Reply;
 use mt_space::pages::COUNTERS;
@@ -38,7 +38,7 @@ pub(crate) fn add_to<V: Pages>(
     if !add(&mut new, number, step) {
         return Ok(Act::Made(changes, Reply::OutOfBounds));
     }
-    changes.note(page, old, &new)?;
+    changes.note(page, old, &new, number_bytes(number))?;
     Ok(Act::Made(changes, Reply::Done))
 }
 

@@ -1,18 +1,19 @@
 // The counters page, in place on its bytes. It has how many relations and counters the schema has, and of each
 // counter its two bounds and its number.
-ghost use Rattle.std.specs.Prelude.{◌≡◌, ◌+◌, ◌+ℤ◌, ◌*◌, ◌<◌, ◌≤◌, ℕ, length, get_or, MatchBool};
+ghost use Rattle.std.specs.Prelude.{◌≡◌, ◌+◌, ◌+ℤ◌, ◌*◌, ◌<◌, ◌≤◌, ℕ, List, length, get_or, MatchBool};
 ghost use Rattle.std.specs.Bool.{OnTrue, OnFalse};
 ghost use Rattle.mt_base.specs.declared.limits.TheConstants.{MAX_COUNTERS, PAGE_BYTES};
 ghost use Rattle.mt_base.specs.Limits.{IsCounter, IsStep};
 ghost use Rattle.mt_base.specs.Ranges.{Torn};
+ghost use Rattle.mt_base.specs.Touched.{TouchesOnly};
 ghost use Rattle.mt_model.specs.Model.{moved, stays};
 ghost use Rattle.mt_model.specs.Tables.{IsLimited};
 ghost use Rattle.mt_steps.specs.Counters.{i64_at, place_of, count_in, AreCounters};
 
 use byteorder::{BigEndian, ByteOrder};
-use mt_base::CtrNo;
 use mt_base::limits::{MAX_COUNTERS, counter_fits};
 use mt_base::ranges::{part_of, put};
+use mt_base::{CtrNo, TouchedBytes};
 use mt_model::Count;
 
 /// Bytes of the page before its counters.
@@ -83,6 +84,19 @@ fn sum_of(count: &Count, step: i64) -> i64
     ensures { result ≡ count.now.number +ℤ step }
 {
     count.number + step
+}
+
+// The bytes of a counter's number: what an add touches.
+pub(crate) fn number_bytes(number: CtrNo) -> TouchedBytes
+    requires { number < MAX_COUNTERS }
+    ensures { (old new : List ℕ) → length old ≡ PAGE_BYTES → Torn (place_of number + 16) 8 old new →
+        TouchesOnly result old new }
+{
+    TouchedBytes {
+        head: 0,
+        start: COUNTERS_HEAD_BYTES + COUNTER_BYTES * usize::from(number.get()) + 16,
+        count: 8,
+    }
 }
 
 /// Adds a step to a counter if the sum lies in the counter's bounds, and answers whether it does; else

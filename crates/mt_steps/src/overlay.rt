@@ -6,7 +6,7 @@ ghost use Rattle.mt_base.specs.Edits.{patched};
 ghost use Rattle.mt_space.specs.Changes.{PageBytes, Agrees, AreShort, after};
 ghost use Rattle.mt_steps.specs.Overlays.{copied, shown, AreApart, AreCopies, AreAtHand, ComeTo, IsCopyAt, Keeps, MakesChanges};
 
-use mt_base::PageNo;
+use mt_base::{PageNo, TouchedBytes};
 use mt_space::{Changes, PageChange, Pages, patch};
 use std::alloc::{AllocError, Global};
 
@@ -91,7 +91,7 @@ impl<'a, V: Pages> Overlay<'a, V> {
         let mut changes = Changes::new(*self.copies.allocator());
         for copy in &self.copies {
             if let Some(old) = self.views.page(copy.page) {
-                changes.note(copy.page, old, &copy.bytes)?;
+                changes.note(copy.page, old, &copy.bytes, TouchedBytes::whole())?;
             }
         }
         Ok(changes)

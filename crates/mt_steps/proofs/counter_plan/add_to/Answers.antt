@@ -33,6 +33,12 @@ pub add-requires-clause-limited : goal.add-requires-clause-limited
 add-requires-clause-limited g c = ∥∥₁_elim c.requires.good (hlevel (props, T_prop)) (λ (relations, counters, there, has).
     subst (λ (page : List ℕ). IsLimited (count_in page c.args.number)) (has.1 2 c.in-Some.old.now (ap (λ (p : ℕ). g.V.Pages.at_hand c.args.views.now p) (sym c.new-page.ensures) ∙ c.in-Some.ensures.some)) (has.2.each c.args.number there))
 
+pub number_bytes-requires : goal.number_bytes-requires
+number_bytes-requires g c = ∥∥₁_elim c.requires.good (hlevel props) (λ (relations, counters, there, has). let few = has.2.few in omega (arith, there, few))
+
+pub note-requires-clause-touched : goal.note-requires-clause-touched
+note-requires-clause-touched g c = c.number_bytes.ensures c.in-Some.old.now c.add.new.page (search rules) c.add.ensures.rest
+
 pub returns-then-not-add : goal.returns-then-not-add
 returns-then-not-add g c = record {
   lock = search rules;

@@ -48,6 +48,7 @@ returns-in_err-outcome-clause-steps g c = record {
       restarts_on D.seen D.may_leave k.relations k.counters first k.core c.take_back_step-outcome.new.self (back_goes D.seen D.may_leave k.core c.take_back_step-outcome.new.self c.args.place c.take_back_step-outcome.result c.requires.within c.take_back_step-outcome.ensures.back) (c.take_back_step-outcome.ensures.restartable) r;
   moments = λ first r schema. let D = g.D.Device in let k = c.args.self.now in
       meanwhile D.seen D.may_leave k.relations k.counters first D.moment D.left_since g.met.D.Device.only_now k.core _ c.take_back_step-outcome.ensures.moments r schema;
+  once = c.take_back_step-outcome.ensures.once;
   aborted = λ first s shows. let p = err_from_is_err_and c.from_residual.result c.from_residual.ensures.1 in
       err_aborted g.D.Device.seen g.D.Device.may_leave first s c.args.txn _ c.from_residual.result p.0 p.1 (subst (BackShown g.D.Device.seen g.D.Device.may_leave c.args.self.now.relations c.args.self.now.counters c.take_back_step-outcome.new.self first s c.args.txn) c.in_err-outcome.was (back_shown g.D.Device.seen g.D.Device.may_leave c.args.self.now.relations c.args.self.now.counters c.args.self.now.core c.take_back_step-outcome.new.self first s c.args.txn c.args.place c.take_back_step-outcome.result c.requires.within (λ r there. (c.requires.own r there).0) c.take_back_step-outcome.ensures.back shows));
 }
@@ -73,6 +74,7 @@ returns-in-More-clause-steps g c = record {
       restarts_on D.seen D.may_leave k.relations k.counters first k.core c.take_back_step-outcome.new.self (back_goes D.seen D.may_leave k.core c.take_back_step-outcome.new.self c.args.place c.take_back_step-outcome.result c.requires.within c.take_back_step-outcome.ensures.back) (c.take_back_step-outcome.ensures.restartable) r;
   moments = λ first r schema. let D = g.D.Device in let k = c.args.self.now in
       meanwhile D.seen D.may_leave k.relations k.counters first D.moment D.left_since g.met.D.Device.only_now k.core _ c.take_back_step-outcome.ensures.moments r schema;
+  once = c.take_back_step-outcome.ensures.once;
   aborted = λ first s shows. back_stands g.D.Device.seen g.D.Device.may_leave c.args.self.now.relations c.args.self.now.counters c.take_back_step-outcome.new.self first s c.args.txn (subst (BackShown g.D.Device.seen g.D.Device.may_leave c.args.self.now.relations c.args.self.now.counters c.take_back_step-outcome.new.self first s c.args.txn) (c.in_ok-outcome.was ∙ ap Ok c.in-More.is)
       (back_shown g.D.Device.seen g.D.Device.may_leave c.args.self.now.relations c.args.self.now.counters c.args.self.now.core c.take_back_step-outcome.new.self first s c.args.txn c.args.place c.take_back_step-outcome.result c.requires.within (λ r there. (c.requires.own r there).0) c.take_back_step-outcome.ensures.back shows));
 }
@@ -98,6 +100,7 @@ returns-in-Flush-clause-steps g c = record {
       restarts_on D.seen D.may_leave k.relations k.counters first k.core c.take_back_step-outcome.new.self (back_goes D.seen D.may_leave k.core c.take_back_step-outcome.new.self c.args.place c.take_back_step-outcome.result c.requires.within c.take_back_step-outcome.ensures.back) (c.take_back_step-outcome.ensures.restartable) r;
   moments = λ first r schema. let D = g.D.Device in let k = c.args.self.now in
       meanwhile D.seen D.may_leave k.relations k.counters first D.moment D.left_since g.met.D.Device.only_now k.core _ c.take_back_step-outcome.ensures.moments r schema;
+  once = c.take_back_step-outcome.ensures.once;
   aborted = λ first s shows. subst (BackShown g.D.Device.seen g.D.Device.may_leave c.args.self.now.relations c.args.self.now.counters c.take_back_step-outcome.new.self first s c.args.txn) (c.in_ok-outcome.was ∙ ap Ok c.in-Flush.is)
       (back_shown g.D.Device.seen g.D.Device.may_leave c.args.self.now.relations c.args.self.now.counters c.args.self.now.core c.take_back_step-outcome.new.self first s c.args.txn c.args.place c.take_back_step-outcome.result c.requires.within (λ r there. (c.requires.own r there).0) c.take_back_step-outcome.ensures.back shows);
 }
@@ -123,6 +126,7 @@ returns-in-Clear-clause-steps g c = record {
       restarts_on D.seen D.may_leave k.relations k.counters first k.core c.take_back_step-outcome.new.self (back_goes D.seen D.may_leave k.core c.take_back_step-outcome.new.self c.args.place c.take_back_step-outcome.result c.requires.within c.take_back_step-outcome.ensures.back) (c.take_back_step-outcome.ensures.restartable) r;
   moments = λ first r schema. let D = g.D.Device in let k = c.args.self.now in
       meanwhile D.seen D.may_leave k.relations k.counters first D.moment D.left_since g.met.D.Device.only_now k.core _ c.take_back_step-outcome.ensures.moments r schema;
+  once = c.take_back_step-outcome.ensures.once;
   aborted = λ first s shows. subst (BackShown g.D.Device.seen g.D.Device.may_leave c.args.self.now.relations c.args.self.now.counters c.take_back_step-outcome.new.self first s c.args.txn) (c.in_ok-outcome.was ∙ ap Ok c.in-Clear.is)
       (back_shown g.D.Device.seen g.D.Device.may_leave c.args.self.now.relations c.args.self.now.counters c.args.self.now.core c.take_back_step-outcome.new.self first s c.args.txn c.args.place c.take_back_step-outcome.result c.requires.within (λ r there. (c.requires.own r there).0) c.take_back_step-outcome.ensures.back shows);
 }

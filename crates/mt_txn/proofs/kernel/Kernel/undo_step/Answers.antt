@@ -63,6 +63,7 @@ returns-in_err-reply-clause-steps g c = record {
       restarts_on D.seen D.may_leave k.relations k.counters first k.core c.undo_step-outcome.new.self (undo_goes D.seen D.may_leave k.core c.undo_step-outcome.new.self c.args.place c.undo_step-outcome.result c.requires.within c.undo_step-outcome.ensures.steps) (c.undo_step-outcome.ensures.restartable) r;
   moments = λ first r schema. let D = g.D.Device in let k = c.args.self.now in
       meanwhile D.seen D.may_leave k.relations k.counters first D.moment D.left_since g.met.D.Device.only_now k.core _ c.undo_step-outcome.ensures.moments r schema;
+  once = c.undo_step-outcome.ensures.once;
   aborted = λ first s shows. let p = err_from_is_err_and c.from_residual.result c.from_residual.ensures.1 in
       err_aborted g.D.Device.seen g.D.Device.may_leave first s c.args.txn _ c.from_residual.result p.0 p.1 (subst (UndoShown g.D.Device.seen g.D.Device.may_leave c.args.self.now.relations c.args.self.now.counters c.undo_step-outcome.new.self first s c.args.txn) (c.in_err-reply.was) (undo_shown g.D.Device.seen g.D.Device.may_leave c.args.self.now.relations c.args.self.now.counters c.args.self.now.core c.undo_step-outcome.new.self first s c.args.txn c.args.place c.undo_step-outcome.result c.requires.within (λ r there. (c.requires.own r there).0) c.undo_step-outcome.ensures.steps shows));
 }
@@ -88,6 +89,7 @@ returns-in-Ended-clause-steps g c = record {
       restarts_on D.seen D.may_leave k.relations k.counters first k.core c.undo_step-outcome.new.self (undo_goes D.seen D.may_leave k.core c.undo_step-outcome.new.self c.args.place c.undo_step-outcome.result c.requires.within c.undo_step-outcome.ensures.steps) (c.undo_step-outcome.ensures.restartable) r;
   moments = λ first r schema. let D = g.D.Device in let k = c.args.self.now in
       meanwhile D.seen D.may_leave k.relations k.counters first D.moment D.left_since g.met.D.Device.only_now k.core _ c.undo_step-outcome.ensures.moments r schema;
+  once = c.undo_step-outcome.ensures.once;
   aborted = λ first s shows. subst (UndoShown g.D.Device.seen g.D.Device.may_leave c.args.self.now.relations c.args.self.now.counters c.undo_step-outcome.new.self first s c.args.txn) (c.in_ok-reply.was ∙ ap Ok c.in-Ended.is) (undo_shown g.D.Device.seen g.D.Device.may_leave c.args.self.now.relations c.args.self.now.counters c.args.self.now.core c.undo_step-outcome.new.self first s c.args.txn c.args.place c.undo_step-outcome.result c.requires.within (λ r there. (c.requires.own r there).0) c.undo_step-outcome.ensures.steps shows);
 }
 
@@ -121,5 +123,6 @@ returns-in-Going-clause-steps g c = record {
       restarts_on D.seen D.may_leave k.relations k.counters first k.core c.undo_step-outcome.new.self (undo_goes D.seen D.may_leave k.core c.undo_step-outcome.new.self c.args.place c.undo_step-outcome.result c.requires.within c.undo_step-outcome.ensures.steps) (c.undo_step-outcome.ensures.restartable) r;
   moments = λ first r schema. let D = g.D.Device in let k = c.args.self.now in
       meanwhile D.seen D.may_leave k.relations k.counters first D.moment D.left_since g.met.D.Device.only_now k.core _ c.undo_step-outcome.ensures.moments r schema;
+  once = c.undo_step-outcome.ensures.once;
   aborted = λ first s shows. going_aborted g.D.Device.seen g.D.Device.may_leave first s c.args.txn _ c.going.result (abort_goes _ _ _ c.going.ensures) (subst (UndoShown g.D.Device.seen g.D.Device.may_leave c.args.self.now.relations c.args.self.now.counters c.undo_step-outcome.new.self first s c.args.txn) (c.in_ok-reply.was ∙ ap Ok c.in-Going.is) (undo_shown g.D.Device.seen g.D.Device.may_leave c.args.self.now.relations c.args.self.now.counters c.args.self.now.core c.undo_step-outcome.new.self first s c.args.txn c.args.place c.undo_step-outcome.result c.requires.within (λ r there. (c.requires.own r there).0) c.undo_step-outcome.ensures.steps shows));
 }

@@ -1,6 +1,6 @@
 -- The steps that are left of the operation at a place.
-use Rattle.std.proofs.Common.{◌≡◌, ◌≢◌, ℕ, zero, suc, ◌<◌, ◌==◌, true, false, List, [], ◌∷◌, length, get_or, ⊎_elim, ◌⊎◌, refl, sym, ap, ◌∙◌, subst, arith}
-use Rattle.std.specs.Prelude.{All, AllPairs}
+use Rattle.std.proofs.Common.{◌≡◌, ◌≢◌, ℕ, zero, suc, ◌<◌, ◌==◌, true, false, List, [], ◌∷◌, ◌++◌, length, get_or, set, ⊎_elim, ◌⊎◌, refl, sym, ap, ◌∙◌, subst, arith}
+use Rattle.std.specs.Prelude.{All, AllPairs, cond}
 use Rattle.std.specs.List.{remove}
 use Rattle.std.proofs.lemmas.Bool.{eq-eqb, ne_eqb}
 use Rattle.std.proofs.lemmas.List.{get_or_default}
@@ -42,3 +42,24 @@ some_left s g = ⊎_elim (λ (p : s.stage ≡ Planning). subst (λ (x : Stage). 
 pub both_at : (olds news : List OpScope) (place : ℕ) (x q : OpScope) → place < length olds → x ≡ get_or olds place x → AllPairs AreApart olds → place < length news → q ≡ get_or news place q → AllPairs AreApart news → q.txn ≡ x.txn
     → (steps_in olds x.txn ≡ work_of x) × (steps_in news x.txn ≡ work_of q)
 both_at olds news place x q within at apart inside now apart_now same = (steps_at olds place x within at apart, ap (steps_in news) (sym same) ∙ steps_at news place q inside now apart_now)
+
+-- ---- of another transaction
+
+pub steps_set_other : (rs : List OpScope) (i : ℕ) (r q : OpScope) → i < length rs → r ≡ get_or rs i r → q.txn ≡ r.txn → (u : ℕ) → u ≢ r.txn → steps_in (set rs i q) u ≡ steps_in rs u
+steps_set_other [] i r q within there same u other = absurd (omega (arith, within))
+steps_set_other (x ∷ xs) zero r q within there same u other =
+    let now : (q.txn == u) ≡ false = ne_eqb q.txn u (λ is. other (sym is ∙ same)) in
+    let was : (x.txn == u) ≡ false = ne_eqb x.txn u (λ is. other (sym is ∙ ap (λ (y : OpScope). y.txn) (sym there))) in
+    rw (now, was) refl
+steps_set_other (x ∷ xs) (suc i) r q within there same u other = ap (λ (n : ℕ). cond (x.txn == u) (work_of x) n) (steps_set_other xs i r q (omega (arith, within)) there same u other)
+
+pub steps_remove_other : (rs : List OpScope) (i : ℕ) (r : OpScope) → i < length rs → r ≡ get_or rs i r → (u : ℕ) → u ≢ r.txn → steps_in (remove rs i) u ≡ steps_in rs u
+steps_remove_other [] i r within there u other = absurd (omega (arith, within))
+steps_remove_other (x ∷ xs) zero r within there u other =
+    let was : (x.txn == u) ≡ false = ne_eqb x.txn u (λ is. other (sym is ∙ ap (λ (y : OpScope). y.txn) (sym there))) in
+    rw was refl
+steps_remove_other (x ∷ xs) (suc i) r within there u other = ap (λ (n : ℕ). cond (x.txn == u) (work_of x) n) (steps_remove_other xs i r (omega (arith, within)) there u other)
+
+pub steps_push_other : (rs : List OpScope) (r : OpScope) (u : ℕ) → u ≢ r.txn → steps_in (rs ++ r ∷ []) u ≡ steps_in rs u
+steps_push_other [] r u other = let not : (r.txn == u) ≡ false = ne_eqb r.txn u (λ is. other (sym is)) in rw not refl
+steps_push_other (x ∷ xs) r u other = ap (λ (n : ℕ). cond (x.txn == u) (work_of x) n) (steps_push_other xs r u other)

@@ -10,6 +10,7 @@ pub mod Sounds
 pub mod Surveyed
 pub mod Durables
 pub mod Laboring
+pub mod Writing
 pub mod Undoing
 pub mod Refusing
 pub mod Entering

@@ -8,8 +8,9 @@ use Rattle.mt_core.specs.declared.calls.Called.{Called}
 use Rattle.mt_core.specs.declared.parts.Core.{Core}
 use Rattle.mt_model.specs.declared.operations.Op.{Op}
 use Rattle.mt_op.specs.declared.scope.OpScope.{OpScope}
-use Rattle.mt_log.specs.Words.{durable}
-use Rattle.mt_core.specs.Work.{LeavesStanding, LeavesUndo, CallRuns, RunsBehind}
+use Rattle.mt_log.specs.Words.{appended, durable}
+use Rattle.mt_core.specs.Work.{KeepsOthers, LeavesStanding, LeavesUndo, CallRuns, RunsBehind}
+use Rattle.mt_core.specs.Writes.{WritesOnce}
 use Rattle.mt_model.specs.Model.{Base}
 use Rattle.mt_op.specs.Faults.{TellsFaults}
 use Rattle.mt_op.specs.Holds.{IsNext, KeepsLocks}
@@ -57,6 +58,8 @@ module _ {D : Type 0} (seen : D → List ℕ) (may_leave : D → List ℕ → Ty
     pub durable : durable n.operations.store.log ≡ durable k.operations.store.log
     pub moments : LeavesExplained seen may_leave moment left_since k n
     pub once : moment n.operations.store.device ≤ moment k.operations.store.device + 1
+    pub others : AtPlace k.running.items place (λ r. KeepsOthers r.txn k.running.items n.running.items)
+    pub writes : WritesOnce (appended k.operations.store.log) (appended n.operations.store.log) result
     pub appends : (origin : Origin) (base : Base) → IsConsistent seen may_leave origin base k → AtPlace n.running.items place (λ r. StepAppends origin k n r result)
 
 module _ {D : Type 0} (seen : D → List ℕ) (may_leave : D → List ℕ → Type 0) (failures : D → ℕ) (moment : D → ℕ) (left_since : D → ℕ → List ℕ → Type 0) where
@@ -76,6 +79,7 @@ module _ {D : Type 0} (seen : D → List ℕ) (may_leave : D → List ℕ → Ty
     pub durable : durable n.operations.store.log ≡ durable k.operations.store.log
     pub moments : LeavesExplained seen may_leave moment left_since k n
     pub once : moment n.operations.store.device ≤ moment k.operations.store.device + 1
+    pub others : AtPlace k.running.items place (λ r. KeepsOthers r.txn k.running.items n.running.items)
     pub appends : (origin : Origin) (base : Base) → IsConsistent seen may_leave origin base k → QuietlyAppends origin.pages k n
 
 -- The operation at a place, which was ready and no inverse, ended with this reply.

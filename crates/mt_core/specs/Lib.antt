@@ -8,4 +8,5 @@ pub mod Restartable
 pub mod Turned
 pub mod Detached
 pub mod PageLocks
+pub mod Writes
 pub mod Advancing

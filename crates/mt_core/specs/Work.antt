@@ -1,5 +1,5 @@
 -- The steps that a transaction's operation under way has left, and those that its abort has.
-use Rattle.std.specs.Prelude.{ℕ, ◌≡◌, ◌<◌, ◌≤◌, ◌+◌, ◌-◌, ◌*◌, ◌==◌, ◌++◌, cond, if◌then◌else◌, List, [], ◌∷◌, length, Result, Ok, Err, ⊤}
+use Rattle.std.specs.Prelude.{ℕ, ◌≡◌, ◌≢◌, ◌<◌, ◌≤◌, ◌+◌, ◌-◌, ◌*◌, ◌==◌, ◌++◌, cond, if◌then◌else◌, List, [], ◌∷◌, length, Result, Ok, Err, ⊤}
 use Rattle.std.specs.List.{sum_by}
 use Rattle.mt_base.specs.declared.refusal.Refusal.{Refusal}
 use Rattle.mt_live.specs.Entries.{Entry, kept}
@@ -21,6 +21,10 @@ use Rattle.mt_core.specs.declared.steps.Stepping.TheVariants.{Going as GoingOn, 
 abbrev pub steps_in : List OpScope → ℕ → ℕ
 steps_in [] t = 0
 steps_in (r ∷ rs) t = cond (r.txn == t) (work_of r) (steps_in rs t)
+
+-- each other transaction has as many left
+abbrev pub KeepsOthers : ℕ → List OpScope → List OpScope → Type 0
+KeepsOthers t old new = (u : ℕ) → u ≢ t → steps_in new u ≡ steps_in old u
 
 -- A step that went on leaves fewer. One that begins anew may leave more, by two a page at most; every other leaves no
 -- more.

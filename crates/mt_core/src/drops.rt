@@ -10,7 +10,7 @@ ghost use Rattle.mt_core.specs.Advancing.{DropsOut, IsTakenBack};
 ghost use Rattle.mt_core.specs.Consistent.{BacksIn, state_in, IsSound, IsClearedAt, AtPlace, Origin, IsConsistent};
 ghost use Rattle.mt_core.specs.Restartable.{StaysRestartable};
 ghost use Rattle.mt_core.specs.Steps.{LeavesExplained, WantsFrame};
-ghost use Rattle.mt_core.specs.Work.{LowersBack, undo_steps};
+ghost use Rattle.mt_core.specs.Work.{KeepsOthers, LowersBack, undo_steps};
 ghost use Rattle.mt_op.specs.declared.scope.OpScope.{OpScope};
 ghost use Rattle.mt_core.specs.PageLocks.{GivesLocksBack};
 
@@ -76,6 +76,8 @@ impl<D: Device> Core<D> {
         ensures why { IfErr result IsCause }
         ensures faults { TellsFaults (D.faults self.old.operations.store.device)
             (D.faults self.new.operations.store.device) result }
+        ensures others { AtPlace self.old.running.items place (λ r. KeepsOthers r.txn self.old.running.items
+            self.new.running.items) }
         ensures durable { durable self.new.operations.store.log ≡ durable self.old.operations.store.log }
         ensures moments { LeavesExplained D.seen D.may_leave D.moment D.left_since self.old self.new }
         ensures once { D.moment self.new.operations.store.device ≤ D.moment self.old.operations.store.device + 1 }

@@ -1,7 +1,7 @@
 // Steps of operations that go forward, and of inverses. mt_op makes the step; this notes in the core what has ended.
 // A step writes no page into its slot: if it lacks a frame it answers `Flush`, and who calls flushes and asks again.
 ghost use Rattle.std.specs.Prelude.{◌≡◌, ◌≤◌, ◌+◌, ◌≢◌, ◌⊎◌, ◌<◌, ℕ, Ok, IfErr, length, slice_index_or};
-ghost use Rattle.mt_log.specs.Words.{durable};
+ghost use Rattle.mt_log.specs.Words.{appended, durable};
 ghost use Rattle.mt_model.specs.Model.{Base};
 ghost use Rattle.mt_op.specs.declared.scope.Stage.TheVariants.{Planning, Writing};
 ghost use Rattle.mt_core.specs.Advancing.{IsAdvanced};
@@ -9,7 +9,8 @@ ghost use Rattle.mt_core.specs.Consistent.{SameStates, IsSound, AtPlace, Origin,
 ghost use Rattle.mt_op.specs.Moves.{SameOp};
 ghost use Rattle.mt_op.specs.Work.{Works};
 ghost use Rattle.mt_pool.specs.Views.{pages};
-ghost use Rattle.mt_core.specs.Work.{Lowers, LowersUndo, steps_in, undo_steps};
+ghost use Rattle.mt_core.specs.Work.{KeepsOthers, Lowers, LowersUndo, steps_in, undo_steps};
+ghost use Rattle.mt_core.specs.Writes.{StepWrites};
 ghost use Rattle.mt_op.specs.Faults.{TellsFaults};
 ghost use Rattle.mt_op.specs.Operations.{IsCause};
 ghost use Rattle.mt_core.specs.Restartable.{StaysRestartable, StepAppends};
@@ -83,6 +84,10 @@ impl<D: Device> Core<D> {
         ensures other { (origin : Origin) (base : Base) → IsConsistent D.seen D.may_leave origin base self.old
             → AtPlace self.old.running.items place (λ r. NamesOther self.new.running.items r.txn result) }
         ensures locks { AtPlace self.old.running.items place (λ r. KeepsPageLocks self.old self.new r result) }
+        ensures others { AtPlace self.old.running.items place (λ r. KeepsOthers r.txn self.old.running.items
+            self.new.running.items) }
+        ensures writes { StepWrites (appended self.old.operations.store.log)
+            (appended self.new.operations.store.log) result }
         ensures durable { durable self.new.operations.store.log ≡ durable self.old.operations.store.log }
         ensures moments { LeavesExplained D.seen D.may_leave D.moment D.left_since self.old self.new }
         ensures once { D.moment self.new.operations.store.device ≤ D.moment self.old.operations.store.device + 1 }
@@ -126,6 +131,10 @@ impl<D: Device> Core<D> {
         ensures other { (origin : Origin) (base : Base) → IsConsistent D.seen D.may_leave origin base self.old
             → AtPlace self.old.running.items place (λ r. NamesOther self.new.running.items r.txn result) }
         ensures locks { AtPlace self.old.running.items place (λ r. KeepsPageLocks self.old self.new r result) }
+        ensures others { AtPlace self.old.running.items place (λ r. KeepsOthers r.txn self.old.running.items
+            self.new.running.items) }
+        ensures writes { StepWrites (appended self.old.operations.store.log)
+            (appended self.new.operations.store.log) result }
         ensures durable { durable self.new.operations.store.log ≡ durable self.old.operations.store.log }
         ensures moments { LeavesExplained D.seen D.may_leave D.moment D.left_since self.old self.new }
         ensures once { D.moment self.new.operations.store.device ≤ D.moment self.old.operations.store.device + 1 }

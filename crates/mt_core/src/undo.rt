@@ -11,7 +11,7 @@ ghost use Rattle.mt_live.specs.declared.transactions.TxnState.TheVariants.{Abort
 ghost use Rattle.mt_core.specs.Consistent.{IsSound, SameStates, SameStatesBut, StaysIn, state_in, Origin, state_of, IsConsistent, IsIn};
 ghost use Rattle.mt_core.specs.Restartable.{StaysRestartable};
 ghost use Rattle.mt_core.specs.Runs.{is_open};
-ghost use Rattle.mt_core.specs.Work.{undo_steps};
+ghost use Rattle.mt_core.specs.Work.{KeepsOthers, undo_steps};
 ghost use Rattle.mt_op.specs.declared.scope.OpScope.{OpScope};
 
 use crate::parts::Core;
@@ -40,6 +40,7 @@ impl<D: Device> Core<D> {
         ensures store { self.new.operations.store ≡ self.old.operations.store }
         ensures locks { self.new.operations.locks ≡ self.old.operations.locks }
         ensures live { self.new.live ≡ self.old.live }
+        ensures others { KeepsOthers txn self.old.running.items self.new.running.items }
         ensures commits { self.new.commits ≡ self.old.commits }
         ensures only_memory { IfErr result (λ why. why ≡ Refusal.NoMemory) }
         ensures restartable { StaysRestartable D.seen D.may_leave self.old self.new }
@@ -86,6 +87,7 @@ impl<D: Device> Core<D> {
         ensures err_states { OnErr result (SameStates self.old self.new) }
         ensures locks { self.new.operations.locks ≡ self.old.operations.locks }
         ensures commits { self.new.commits ≡ self.old.commits }
+        ensures running { self.new.running ≡ self.old.running }
         ensures none_left { OnOk result (undo_steps self.old txn ≡ 0) }
         ensures err_left { OnErr result (undo_steps self.new txn ≤ undo_steps self.old txn) }
         ensures err { (origin : Origin) (base : Base) → IsConsistent D.seen D.may_leave origin base self.old

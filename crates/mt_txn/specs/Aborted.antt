@@ -6,7 +6,7 @@ use Rattle.mt_disk.specs.declared.device.Device.{Ghosts}
 use Rattle.mt_core.specs.Consistent.{SameCommits, SameStates, SameStatesBut}
 use Rattle.mt_core.specs.Runs.{state_in}
 use Rattle.mt_core.specs.Steps.{WantsFrame}
-use Rattle.mt_core.specs.Work.{undo_steps}
+use Rattle.mt_core.specs.Work.{KeepsOthers, undo_steps}
 use Rattle.mt_live.specs.Machine.{State}
 use Rattle.mt_log.specs.Words.{durable}
 use Rattle.mt_model.specs.Model.{Base}
@@ -37,4 +37,5 @@ module _ {D : Type 0} {g : Ghosts D} (seen : D → List ℕ) (may_leave : D → 
     pub restarts : StaysRestarting seen may_leave k n
     pub moments : LeavesFound seen may_leave moment left_since k n
     pub once : CallsOnce moment k n
+    pub others : KeepsOthers t k.core.running.items n.core.running.items
     pub aborted : (first : Base) (s : State) → Shows seen may_leave first s k → HasAborted seen may_leave first s t result n

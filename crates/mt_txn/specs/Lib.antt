@@ -9,4 +9,5 @@ pub mod Turned
 pub mod Detached
 pub mod Due
 pub mod PageLocks
+pub mod Writes
 pub mod Aborted

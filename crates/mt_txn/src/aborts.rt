@@ -9,7 +9,7 @@ ghost use Rattle.mt_live.specs.declared.transactions.TxnState.TheVariants.{Abort
 ghost use Rattle.mt_core.specs.Consistent.{AtPlace, SameCommits, SameRunning, SameStates, SameStatesBut, SetsState};
 ghost use Rattle.mt_core.specs.Runs.{state_in};
 ghost use Rattle.mt_core.specs.Steps.{WantsFrame};
-ghost use Rattle.mt_core.specs.Work.{most_steps, undo_steps};
+ghost use Rattle.mt_core.specs.Work.{KeepsOthers, most_steps, undo_steps};
 ghost use Rattle.mt_pool.specs.Views.{pages};
 ghost use Rattle.mt_op.specs.declared.scope.OpScope.{OpScope};
 ghost use Rattle.mt_txn.specs.Aborted.{StepsAbort};
@@ -150,6 +150,7 @@ impl<D: Device> Kernel<D> {
             (undo_steps self.old.core txn) (undo_steps self.new.core txn) }
         ensures other { IfOk result (λ stepped. IsAbortForOther self.old.core.live.members txn stepped) }
         ensures full { result ≡ Ok AbortStepped.Flush → WantsFrame self.old.core self.new.core }
+        ensures others { KeepsOthers txn self.old.core.running.items self.new.core.running.items }
         ensures locks { abort_cause (is_failed self.old) self.old.core txn ≡ None
             → is_busy self.old.core txn ≡ true → OfRunning self.old.core.running.items txn
             (λ r. AbortsLocks self.old.core self.new.core r result) }

@@ -3,16 +3,17 @@
 ghost use Rattle.std.specs.Prelude.{◌≡◌, ◌≢◌, ◌⊎◌, Ok, IfOk, IfErr, OnOk, None, Some};
 ghost use Rattle.mt_base.specs.declared.refusal.Refusal.{Refusal};
 ghost use Rattle.mt_live.specs.Machine.{State};
-ghost use Rattle.mt_log.specs.Words.{durable};
+ghost use Rattle.mt_log.specs.Words.{appended, durable};
 ghost use Rattle.mt_model.specs.Model.{Base};
 ghost use Rattle.mt_pool.specs.Views.{pages};
 ghost use Rattle.mt_core.specs.Steps.{WantsFrame};
-ghost use Rattle.mt_core.specs.Work.{steps_in};
+ghost use Rattle.mt_core.specs.Work.{KeepsOthers, steps_in};
 ghost use Rattle.mt_txn.specs.Work.{IsReportedAs, IsForOther, LowersSteps};
 ghost use Rattle.mt_core.specs.Consistent.{SameCommits, SameStates};
 ghost use Rattle.mt_txn.specs.Causes.{IsFault, step_cause};
 ghost use Rattle.mt_txn.specs.Events.{HasStepped};
 ghost use Rattle.mt_txn.specs.PageLocks.{OfRunning, StepsLocks};
+ghost use Rattle.mt_txn.specs.Writes.{WritesOnePage};
 ghost use Rattle.mt_txn.specs.Shown.{FailsForGood, SameSchema, Shows, StaysRestarting, TellsEachFault, is_failed};
 ghost use Rattle.mt_txn.specs.Shown.{CallsOnce, LeavesFound};
 
@@ -31,7 +32,8 @@ impl<D: Device> Kernel<D> {
     /// It locks no page but one that its operation's plan asks for next. It waits only for the transaction whose
     /// operation is the smallest with a lock in the way, and larger than its own. If that is smaller, it gives its
     /// own page locks back to begin anew. They are given back at its end, too; other operations' locks stay. It makes
-    /// no record of the log durable.
+    /// no record of the log durable. It appends the records of one page, or its end, at most. Each other transaction's
+    /// operation has as many steps left as before.
     ///
     /// Refused, in this order, with 2 if the device has failed. Then 15 if the transaction is not open or has
     /// no operation under way, and 1 for want of memory. It is refused with 2, too, if the device fails in this
@@ -44,6 +46,9 @@ impl<D: Device> Kernel<D> {
         ensures work { LowersSteps (pages self.old.core.operations.store.pool) result
             (steps_in self.old.core.running.items txn) (steps_in self.new.core.running.items txn) }
         ensures full { result ≡ Ok Stepped.Flush → WantsFrame self.old.core self.new.core }
+        ensures others { KeepsOthers txn self.old.core.running.items self.new.core.running.items }
+        ensures writes { WritesOnePage (appended self.old.core.operations.store.log)
+            (appended self.new.core.operations.store.log) result }
         ensures commits { SameCommits self.old.core self.new.core }
         ensures other { IfOk result (λ stepped. IsForOther self.old.core.live.members txn stepped) }
         ensures locks { step_cause (is_failed self.old) self.old.core txn ≡ None

@@ -6,7 +6,11 @@ use Rattle.std.proofs.Common.{◌∙◌}
 use Rattle.std.proofs.lemmas.List.{length-set, get_or_default, get_or-set_same}
 use Rattle.mt_op.specs.Moves.{SameOp}
 use Rattle.std.proofs.lemmas.List.Sums.{get_or-le-sum_by}
-use Rattle.mt_op.specs.Operations.{world}
+use Rattle.mt_log.specs.Words.{appended}
+use Rattle.mt_op.specs.Operations.{world, Steps as OpSteps}
+use Rattle.mt_core.specs.Work.{KeepsOthers}
+use Rattle.mt_core.proofs.Laboring.{steps_set_other}
+use Rattle.mt_core.proofs.Writing.{end_short, writes_once}
 use Rattle.mt_op.specs.declared.scope.OpScope.{OpScope}
 use Rattle.mt_core.specs.Runs.{IsRunning, left_of}
 use Rattle.mt_core.proofs.Advancing.{advanced, needs_claimed, steps_same}
@@ -87,6 +91,26 @@ returns g c = record {
   durable = search rules;
   moments = search rules;
   once = search rules;
+  others = λ x at.
+      let k = c.args.self.now in let r = c.index_mut.result.now in let e = c.step.ensures in
+      let q : OpScope = c.step.new.scope in
+      let old : r ≡ x = c.index_mut.ensures.value ∙ sym (get_or_default k.running.items c.args.place x r c.requires.within) ∙ sym at in
+      subst (λ (y : OpScope). KeepsOthers y.txn k.running.items (set k.running.items c.args.place q)) old
+      (λ u other. ∥∥₁_elim c.requires.safe (hlevel props) (λ (origin, base, safe).
+      let w = world g.D.Device.seen origin.pages k.operations in let z = world g.D.Device.seen origin.pages c.step.new.self in
+      let was : IsRunning origin.relations origin.counters w k.last r = subst (IsRunning origin.relations origin.counters w k.last) (sym c.index_mut.ensures.value) (safe.runs c.args.place r c.requires.within) in
+      let went = e.steps origin.pages origin.relations origin.counters safe.fit.right was.under safe.fit.schema.few_relations safe.fit.schema.few_counters in
+      let same : SameOp r q = steps_same origin.relations origin.counters w z r q c.step.result went.1 in
+      steps_set_other k.running.items c.args.place r q c.requires.within c.index_mut.ensures.value same.txn u other));
+  writes =
+      let k = c.args.self.now in let r = c.index_mut.result.now in let e = c.step.ensures in
+      let q : OpScope = c.step.new.scope in
+      writes_once q (appended k.operations.store.log) (appended c.step.new.self.store.log) c.step.result e.records (λ first second is. ∥∥₁_elim c.requires.safe (hlevel props) (λ (origin, base, safe).
+      let w = world g.D.Device.seen origin.pages k.operations in let z = world g.D.Device.seen origin.pages c.step.new.self in
+      let was : IsRunning origin.relations origin.counters w k.last r = subst (IsRunning origin.relations origin.counters w k.last) (sym c.index_mut.ensures.value) (safe.runs c.args.place r c.requires.within) in
+      let went = e.steps origin.pages origin.relations origin.counters safe.fit.right was.under safe.fit.schema.few_relations safe.fit.schema.few_counters in
+      let acted = subst (OpSteps origin.relations origin.counters w z r q) is went.1 in
+      end_short r first (appended k.operations.store.log) (appended c.step.new.self.store.log) acted.0.ended));
   appends = λ origin base safe y now.
       let seen = g.D.Device.seen in let k = c.args.self.now in let r = c.index_mut.result.now in let e = c.step.ensures in
       let q : OpScope = c.step.new.scope in

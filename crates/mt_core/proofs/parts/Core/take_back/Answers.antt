@@ -7,7 +7,7 @@ use Rattle.mt_op.specs.declared.scope.OpScope.{OpScope}
 use Rattle.mt_core.specs.Runs.{IsRunning}
 use Rattle.mt_core.proofs.Dropping.{gone_back}
 use mathlib.Core.Logic.{∥∥₁_map}
-use Rattle.std.proofs.Common.{◌≡◌, get_or, ap, arith}
+use Rattle.std.proofs.Common.{◌≡◌, get_or, set, ap, arith}
 use Rattle.std.proofs.lemmas.List.Sums.{get_or-le-sum_by}
 use Rattle.mt_core.specs.Runs.{left_of}
 use Rattle.mt_core.proofs.Sounds.{moving_of}
@@ -18,6 +18,8 @@ use Rattle.mt_core.specs.Work.{LeavesStanding}
 use Rattle.mt_core.proofs.Undoing.{puts_back}
 use Rattle.mt_core.proofs.Between.{back_appends, goes_total}
 use Rattle.mt_core.proofs.Lasting.{lasts_same}
+use Rattle.mt_core.proofs.Laboring.{steps_set_other}
+use Rattle.mt_core.specs.Work.{KeepsOthers}
 use Rattle.mt_core.specs.declared.parts.Core.{Core}
 use Rattle.mt_core.proofs.parts.Core.take_back.Goals as goal
 
@@ -78,6 +80,17 @@ returns g c = record {
   durable = search rules;
   moments = search rules;
   once = search rules;
+  others = λ x at.
+      let k = c.args.self.now in let r = c.index_mut.result.now in let e = c.take_back.ensures in
+      let q : OpScope = c.take_back.new.scope in
+      let old : r ≡ x = c.index_mut.ensures.value ∙ sym (get_or_default k.running.items c.args.place x r c.requires.within) ∙ sym at in
+      subst (λ (y : OpScope). KeepsOthers y.txn k.running.items (set k.running.items c.args.place q)) old
+      (λ u other. ∥∥₁_elim c.requires.safe (hlevel props) (λ (origin, base, safe).
+      let w = world g.D.Device.seen origin.pages k.operations in
+      let was : IsRunning origin.relations origin.counters w k.last r = subst (IsRunning origin.relations origin.counters w k.last) (sym c.index_mut.ensures.value) (safe.runs c.args.place r c.requires.within) in
+      let gone = e.goes origin.pages origin.relations origin.counters safe.fit.right was.under in
+      let same : SameOp r q = gone.1.same in
+      steps_set_other k.running.items c.args.place r q c.requires.within c.index_mut.ensures.value same.txn u other));
   appends = λ origin base safe.
       let seen = g.D.Device.seen in let k = c.args.self.now in let r = c.index_mut.result.now in let e = c.take_back.ensures in
       let w = world seen origin.pages k.operations in let z = world seen origin.pages c.take_back.new.self in

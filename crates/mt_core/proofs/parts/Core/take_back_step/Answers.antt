@@ -7,7 +7,9 @@ use Rattle.mt_base.specs.declared.refusal.Refusal.{Refusal}
 use Rattle.mt_live.specs.Lives.{Lives}
 use Rattle.mt_op.specs.declared.answers.TakenBack.{TakenBack}
 use Rattle.mt_pool.specs.Views.{pages}
-use Rattle.mt_core.specs.Work.{LeavesStanding, LowersBack, effects_left, undo_steps}
+use Rattle.std.proofs.Common.{List}
+use Rattle.mt_core.specs.Work.{LeavesStanding, LowersBack, effects_left, steps_in, undo_steps}
+use Rattle.mt_core.proofs.Laboring.{steps_remove_other}
 use Rattle.mt_core.proofs.Undoing.{moved_of, total_at, forward_moved, undo_removed, abort_at, fore_with}
 use Rattle.std.proofs.lemmas.List.{get_or_default}
 use Rattle.mt_op.specs.Moves.{SameOp}
@@ -122,3 +124,13 @@ pub returns-in_err-take_back-clause-locks : goal.returns-in_err-take_back-clause
 returns-in_err-take_back-clause-locks g c = λ x at.
     let p = err_from_is_err_and c.from_residual.result c.from_residual.ensures.1 in
     subst (GivesLocksBack c.args.self.now c.take_back.new.self x) (sym p.1) c.take_back.ensures.locks
+
+pub returns-in-Clear-clause-others : goal.returns-in-Clear-clause-others
+returns-in-Clear-clause-others g c = λ x at u other. ∥∥₁_elim c.requires.safe (hlevel props) (λ (origin, base, safe).
+    let place = c.args.place in
+    let items = c.take_back.new.self.running.items in
+    let inside : place < length items = let same = c.take_back.ensures.length in let within = c.requires.within in omega arith in
+    let q : OpScope = get_or items place x in
+    let now : q ≡ get_or items place q = get_or_default items place x q inside in
+    let same : SameOp x q = c.take_back.ensures.same origin base safe x q at now in
+    ap (λ (rs : List OpScope). steps_in rs u) c.drop_out.ensures.items ∙ steps_remove_other items place q inside now u (λ is. other (is ∙ same.txn)) ∙ c.take_back.ensures.others x at u other)

@@ -23,7 +23,8 @@ use Rattle.mt_core.proofs.Sounds.{steady_of, few_of}
 use Rattle.mt_core.proofs.Refusing.{Steps-prop}
 use Rattle.mt_op.specs.Work.{work_of}
 use Rattle.mt_pool.specs.Views.{pages}
-use Rattle.mt_core.specs.Work.{effects_left, undo_steps}
+use Rattle.mt_core.specs.Work.{effects_left, steps_in, undo_steps}
+use Rattle.mt_core.proofs.Laboring.{steps_push_other}
 use Rattle.mt_core.proofs.Undoing.{undo_idle, undo_begun, cut_left}
 use Rattle.mt_core.proofs.Restarts.{store_same}
 use Rattle.std.proofs.Common.{refl}
@@ -116,3 +117,8 @@ returns-in-Err-clause-restartable g c = λ origin base later safe_k safe_n r. le
 pub returns-in-Ok-clause-restartable : goal.returns-in-Ok-clause-restartable
 returns-in-Ok-clause-restartable g c = λ origin base later safe_k safe_n r. let k = c.args.self.now in
     store_same g.D.Device.seen g.D.Device.may_leave origin k (record k { running = c.push_reserved.new.self; last = k.last + 1; reserved = k.reserved - 106496 }) base later safe_k safe_n refl (record { book = refl; commits = refl }) refl r
+
+pub returns-in-Ok-clause-others : goal.returns-in-Ok-clause-others
+returns-in-Ok-clause-others g c = λ u other. let s = c.in-Ok.scope in
+    let items = c.push_reserved.ensures.items ∙ ap (λ (rs : List OpScope). rs ++ s ∷ []) c.reserve.ensures.items in
+    ap (λ (rs : List OpScope). steps_in rs u) items ∙ steps_push_other c.args.self.now.running.items s u (λ is. other (is ∙ c.in-Ok.ensures.named.0))

@@ -32,6 +32,11 @@ use Rattle.mt_core.proofs.Restarts.{area_then, at_place, end_then, goes_on, undo
 use Rattle.mt_op.specs.Holds.{IsNext, KeepsLocks}
 use Rattle.mt_plock.specs.Releasing.{locks_without}
 use Rattle.mt_core.specs.PageLocks.{KeepsPageLocks}
+use Rattle.std.proofs.Common.{◌+◌}
+use Rattle.mt_log.specs.Words.{appended}
+use Rattle.mt_pool.specs.declared.store.Store.{Store}
+use Rattle.mt_core.proofs.Laboring.{steps_remove_other}
+use Rattle.mt_core.specs.Writes.{StepWrites, WritesOnce}
 use Rattle.mt_core.proofs.parts.Core.undo_step.Goals as goal
 
 pub note_undone-requires-clause-back : goal.note_undone-requires-clause-back
@@ -321,3 +326,40 @@ returns-in_err-reply-clause-locks g c = λ x at. let k = c.args.self.now in
     let p = err_from_is_err_and c.from_residual.result c.from_residual.ensures.1 in
     subst (λ (res : Result Stepping Refusal). KeepsPageLocks k c.advance.new.self x res) (sym p.1)
     (subst (KeepsLocks x.number (IsNext k.operations.rooms k.operations.locks x) k.operations.locks c.advance.new.self.operations.locks) c.in_err-reply.was (c.advance.ensures.locks x at))
+
+pub returns-in-Ready-clause-others : goal.returns-in-Ready-clause-others
+returns-in-Ready-clause-others g c = λ x at u other. ∥∥₁_elim c.requires.safe (hlevel props) (λ (origin, base, safe).
+    let place = c.args.place in
+    let items = c.advance.new.self.running.items in
+    let inside : place < length items = let same = c.advance.ensures.length in let within = c.requires.within in omega arith in
+    let q : OpScope = get_or items place x in
+    let now : q ≡ get_or items place q = get_or_default items place x q inside in
+    let same : SameOp x q = c.advance.ensures.same origin base safe x q at now in
+    ap (λ (rs : List OpScope). steps_in rs u) c.note_undone.ensures.items ∙ steps_remove_other items place q inside now u (λ is. other (is ∙ same.txn)) ∙ c.advance.ensures.others x at u other)
+
+pub returns-in-Ready-clause-writes : goal.returns-in-Ready-clause-writes
+returns-in-Ready-clause-writes g c = let k = c.args.self.now in
+    subst (λ (s : Store g.row.D.Denot). length (appended s.log) ≤ length (appended k.operations.store.log) + 1) (sym c.note_undone.ensures.store)
+    (subst (WritesOnce (appended k.operations.store.log) (appended c.advance.new.self.operations.store.log)) (c.in_ok-reply.was ∙ ap Ok c.in-Ready.is) c.advance.ensures.writes)
+
+pub returns-in_err-reply-clause-writes : goal.returns-in_err-reply-clause-writes
+returns-in_err-reply-clause-writes g c = let k = c.args.self.now in
+    let p = err_from_is_err_and c.from_residual.result c.from_residual.ensures.1 in
+    subst (λ (res : Result Stepping Refusal). StepWrites (appended k.operations.store.log) (appended c.advance.new.self.operations.store.log) res) (sym p.1)
+    (subst (WritesOnce (appended k.operations.store.log) (appended c.advance.new.self.operations.store.log)) c.in_err-reply.was c.advance.ensures.writes)
+
+pub returns-in-Went-clause-writes : goal.returns-in-Went-clause-writes
+returns-in-Went-clause-writes g c = let k = c.args.self.now in
+    subst (WritesOnce (appended k.operations.store.log) (appended c.advance.new.self.operations.store.log)) (c.in_ok-reply.was ∙ ap Ok c.in-Went.is) c.advance.ensures.writes
+
+pub returns-in-Wait-clause-writes : goal.returns-in-Wait-clause-writes
+returns-in-Wait-clause-writes g c = let k = c.args.self.now in
+    subst (WritesOnce (appended k.operations.store.log) (appended c.advance.new.self.operations.store.log)) (c.in_ok-reply.was ∙ ap Ok c.in-Wait.is) c.advance.ensures.writes
+
+pub returns-in-Again-clause-writes : goal.returns-in-Again-clause-writes
+returns-in-Again-clause-writes g c = let k = c.args.self.now in
+    subst (WritesOnce (appended k.operations.store.log) (appended c.advance.new.self.operations.store.log)) (c.in_ok-reply.was ∙ ap Ok c.in-Again.is) c.advance.ensures.writes
+
+pub returns-in-Flush-clause-writes : goal.returns-in-Flush-clause-writes
+returns-in-Flush-clause-writes g c = let k = c.args.self.now in
+    subst (WritesOnce (appended k.operations.store.log) (appended c.advance.new.self.operations.store.log)) (c.in_ok-reply.was ∙ ap Ok c.in-Flush.is) c.advance.ensures.writes

@@ -14,6 +14,7 @@ use Rattle.mt_txn.proofs.Showing.{at_place}
 use Rattle.mt_txn.specs.Work.{LowersAbort}
 use Rattle.mt_txn.specs.declared.answers.AbortStepped.{AbortStepped}
 use Rattle.mt_txn.proofs.Restarting.{back_goes, meanwhile, restarts_on}
+use Rattle.mt_txn.proofs.Stepping.{others_of}
 use Rattle.mt_txn.proofs.kernel.Kernel.go_back.Goals as goal
 
 pub take_back_step-outcome-requires-clause-safe : goal.take_back_step-outcome-requires-clause-safe
@@ -49,6 +50,7 @@ returns-in_err-outcome-clause-steps g c = record {
   moments = λ first r schema. let D = g.D.Device in let k = c.args.self.now in
       meanwhile D.seen D.may_leave k.relations k.counters first D.moment D.left_since g.met.D.Device.only_now k.core _ c.take_back_step-outcome.ensures.moments r schema;
   once = c.take_back_step-outcome.ensures.once;
+  others = others_of c.args.self.now.core.running.items c.take_back_step-outcome.new.self.running.items c.args.place c.args.txn c.requires.within (λ r at. (c.requires.own r at).0) c.take_back_step-outcome.ensures.others;
   aborted = λ first s shows. let p = err_from_is_err_and c.from_residual.result c.from_residual.ensures.1 in
       err_aborted g.D.Device.seen g.D.Device.may_leave first s c.args.txn _ c.from_residual.result p.0 p.1 (subst (BackShown g.D.Device.seen g.D.Device.may_leave c.args.self.now.relations c.args.self.now.counters c.take_back_step-outcome.new.self first s c.args.txn) c.in_err-outcome.was (back_shown g.D.Device.seen g.D.Device.may_leave c.args.self.now.relations c.args.self.now.counters c.args.self.now.core c.take_back_step-outcome.new.self first s c.args.txn c.args.place c.take_back_step-outcome.result c.requires.within (λ r there. (c.requires.own r there).0) c.take_back_step-outcome.ensures.back shows));
 }
@@ -75,6 +77,7 @@ returns-in-More-clause-steps g c = record {
   moments = λ first r schema. let D = g.D.Device in let k = c.args.self.now in
       meanwhile D.seen D.may_leave k.relations k.counters first D.moment D.left_since g.met.D.Device.only_now k.core _ c.take_back_step-outcome.ensures.moments r schema;
   once = c.take_back_step-outcome.ensures.once;
+  others = others_of c.args.self.now.core.running.items c.take_back_step-outcome.new.self.running.items c.args.place c.args.txn c.requires.within (λ r at. (c.requires.own r at).0) c.take_back_step-outcome.ensures.others;
   aborted = λ first s shows. back_stands g.D.Device.seen g.D.Device.may_leave c.args.self.now.relations c.args.self.now.counters c.take_back_step-outcome.new.self first s c.args.txn (subst (BackShown g.D.Device.seen g.D.Device.may_leave c.args.self.now.relations c.args.self.now.counters c.take_back_step-outcome.new.self first s c.args.txn) (c.in_ok-outcome.was ∙ ap Ok c.in-More.is)
       (back_shown g.D.Device.seen g.D.Device.may_leave c.args.self.now.relations c.args.self.now.counters c.args.self.now.core c.take_back_step-outcome.new.self first s c.args.txn c.args.place c.take_back_step-outcome.result c.requires.within (λ r there. (c.requires.own r there).0) c.take_back_step-outcome.ensures.back shows));
 }
@@ -101,6 +104,7 @@ returns-in-Flush-clause-steps g c = record {
   moments = λ first r schema. let D = g.D.Device in let k = c.args.self.now in
       meanwhile D.seen D.may_leave k.relations k.counters first D.moment D.left_since g.met.D.Device.only_now k.core _ c.take_back_step-outcome.ensures.moments r schema;
   once = c.take_back_step-outcome.ensures.once;
+  others = others_of c.args.self.now.core.running.items c.take_back_step-outcome.new.self.running.items c.args.place c.args.txn c.requires.within (λ r at. (c.requires.own r at).0) c.take_back_step-outcome.ensures.others;
   aborted = λ first s shows. subst (BackShown g.D.Device.seen g.D.Device.may_leave c.args.self.now.relations c.args.self.now.counters c.take_back_step-outcome.new.self first s c.args.txn) (c.in_ok-outcome.was ∙ ap Ok c.in-Flush.is)
       (back_shown g.D.Device.seen g.D.Device.may_leave c.args.self.now.relations c.args.self.now.counters c.args.self.now.core c.take_back_step-outcome.new.self first s c.args.txn c.args.place c.take_back_step-outcome.result c.requires.within (λ r there. (c.requires.own r there).0) c.take_back_step-outcome.ensures.back shows);
 }
@@ -127,6 +131,7 @@ returns-in-Clear-clause-steps g c = record {
   moments = λ first r schema. let D = g.D.Device in let k = c.args.self.now in
       meanwhile D.seen D.may_leave k.relations k.counters first D.moment D.left_since g.met.D.Device.only_now k.core _ c.take_back_step-outcome.ensures.moments r schema;
   once = c.take_back_step-outcome.ensures.once;
+  others = others_of c.args.self.now.core.running.items c.take_back_step-outcome.new.self.running.items c.args.place c.args.txn c.requires.within (λ r at. (c.requires.own r at).0) c.take_back_step-outcome.ensures.others;
   aborted = λ first s shows. subst (BackShown g.D.Device.seen g.D.Device.may_leave c.args.self.now.relations c.args.self.now.counters c.take_back_step-outcome.new.self first s c.args.txn) (c.in_ok-outcome.was ∙ ap Ok c.in-Clear.is)
       (back_shown g.D.Device.seen g.D.Device.may_leave c.args.self.now.relations c.args.self.now.counters c.args.self.now.core c.take_back_step-outcome.new.self first s c.args.txn c.args.place c.take_back_step-outcome.result c.requires.within (λ r there. (c.requires.own r there).0) c.take_back_step-outcome.ensures.back shows);
 }

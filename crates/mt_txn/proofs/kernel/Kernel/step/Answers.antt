@@ -18,6 +18,10 @@ use Rattle.std.proofs.lemmas.Result.{err_from_is_err_and}
 use Rattle.mt_txn.proofs.Answering.{err_stepped, going_stepped}
 use Rattle.mt_txn.proofs.Showing.{sound_of, step_shown, step_well, forward_of, stage_of, StepShown}
 use Rattle.mt_txn.proofs.Restarting.{meanwhile, no_call, restarts_on, step_goes}
+use Rattle.mt_log.specs.Words.{appended}
+use Rattle.mt_core.specs.Writes.{StepWrites}
+use Rattle.mt_txn.proofs.Stepping.{others_of, reported_writes}
+use Rattle.mt_txn.specs.Writes.{WritesOnePage}
 use Rattle.mt_txn.proofs.kernel.Kernel.step.Goals as goal
 
 pub step-outcome-requires-clause-safe : goal.step-outcome-requires-clause-safe
@@ -123,3 +127,24 @@ returns-in-Going-clause-locks g c = λ may. let k = c.args.self.now.core in let 
             }) c.args.self.now.well c.stepped.ensures (subst (KeepsPageLocks k n r) was (c.step-outcome.ensures.locks r at)),
       ),
     )
+
+pub returns-in_err-reply-clause-others : goal.returns-in_err-reply-clause-others
+returns-in_err-reply-clause-others g c = others_of c.args.self.now.core.running.items c.step-outcome.new.self.running.items c.in-Some-place_of.place c.args.txn c.in-Some-place_of.ensures.place.0 c.in-Some-place_of.ensures.place.1 c.step-outcome.ensures.others
+
+pub returns-in-Ended-clause-others : goal.returns-in-Ended-clause-others
+returns-in-Ended-clause-others g c = others_of c.args.self.now.core.running.items c.step-outcome.new.self.running.items c.in-Some-place_of.place c.args.txn c.in-Some-place_of.ensures.place.0 c.in-Some-place_of.ensures.place.1 c.step-outcome.ensures.others
+
+pub returns-in-Going-clause-others : goal.returns-in-Going-clause-others
+returns-in-Going-clause-others g c = others_of c.args.self.now.core.running.items c.step-outcome.new.self.running.items c.in-Some-place_of.place c.args.txn c.in-Some-place_of.ensures.place.0 c.in-Some-place_of.ensures.place.1 c.step-outcome.ensures.others
+
+pub returns-in_err-reply-clause-writes : goal.returns-in_err-reply-clause-writes
+returns-in_err-reply-clause-writes g c =
+    let p = err_from_is_err_and c.from_residual.result c.from_residual.ensures.1 in
+    subst (λ (res : Result Stepped Refusal). WritesOnePage (appended c.args.self.now.core.operations.store.log) (appended c.step-outcome.new.self.operations.store.log) res) (sym p.1) (subst (StepWrites (appended c.args.self.now.core.operations.store.log) (appended c.step-outcome.new.self.operations.store.log)) c.in_err-reply.was c.step-outcome.ensures.writes)
+
+pub returns-in-Ended-clause-writes : goal.returns-in-Ended-clause-writes
+returns-in-Ended-clause-writes g c = subst (StepWrites (appended c.args.self.now.core.operations.store.log) (appended c.step-outcome.new.self.operations.store.log)) (c.in_ok-reply.was ∙ ap Ok c.in-Ended.is) c.step-outcome.ensures.writes
+
+pub returns-in-Going-clause-writes : goal.returns-in-Going-clause-writes
+returns-in-Going-clause-writes g c =
+    reported_writes c.step-outcome.new.self.running.items (appended c.args.self.now.core.operations.store.log) (appended c.step-outcome.new.self.operations.store.log) c.in-Going.going c.stepped.result c.stepped.ensures (subst (StepWrites (appended c.args.self.now.core.operations.store.log) (appended c.step-outcome.new.self.operations.store.log)) (c.in_ok-reply.was ∙ ap Ok c.in-Going.is) c.step-outcome.ensures.writes)

@@ -17,6 +17,7 @@ use Rattle.mt_txn.specs.Work.{LowersAbort}
 use Rattle.mt_txn.specs.declared.answers.AbortStepped.{AbortStepped}
 use Rattle.mt_txn.proofs.Restarting.{either_goes, no_call, restarts_on, stays_goes}
 use Rattle.mt_op.proofs.Faulting.{once_same}
+use Rattle.mt_core.specs.Work.{steps_in}
 use Rattle.mt_txn.proofs.kernel.Kernel.undo_next.Goals as goal
 
 pub undo_begin-requires-clause-safe : goal.undo_begin-requires-clause-safe
@@ -55,6 +56,7 @@ returns-in_err-undo_begin-clause-steps g c = record {
   moments = λ first r schema. let D = g.D.Device in let k = c.args.self.now in
       no_call D.seen D.may_leave k.relations k.counters first D.moment D.left_since g.met.D.Device.only_now k.core _ (ap (λ (s : Store g.row.D.Denot). s.device) c.undo_begin.ensures.store) r schema;
   once = once_same _ _ (ap g.D.Device.moment (ap (λ (s : Store g.row.D.Denot). s.device) c.undo_begin.ensures.store));
+  others = c.undo_begin.ensures.others;
   aborted = λ first s shows. let p = err_from_is_err_and c.from_residual.result c.from_residual.ensures.1 in
       err_aborted g.D.Device.seen g.D.Device.may_leave first s c.args.txn _ c.from_residual.result p.0 p.1 (led g.D.Device.seen g.D.Device.may_leave c.args.self.now.relations c.args.self.now.counters c.args.self.now.core c.undo_begin.new.self (λ z. z) first s (stays_led g.D.Device.seen g.D.Device.may_leave c.args.self.now.relations c.args.self.now.counters c.args.self.now.core c.undo_begin.new.self c.undo_begin.ensures.state) shows);
 }
@@ -78,6 +80,7 @@ returns-then-branch-clause-steps g c = record {
   moments = λ first r schema. let D = g.D.Device in let k = c.args.self.now in
       no_call D.seen D.may_leave k.relations k.counters first D.moment D.left_since g.met.D.Device.only_now k.core _ (ap (λ (s : Store g.row.D.Denot). s.device) c.undo_begin.ensures.store) r schema;
   once = once_same _ _ (ap g.D.Device.moment (ap (λ (s : Store g.row.D.Denot). s.device) c.undo_begin.ensures.store));
+  others = c.undo_begin.ensures.others;
   aborted = λ first s shows. back_stands g.D.Device.seen g.D.Device.may_leave c.args.self.now.relations c.args.self.now.counters c.undo_begin.new.self first s c.args.txn (led g.D.Device.seen g.D.Device.may_leave c.args.self.now.relations c.args.self.now.counters c.args.self.now.core c.undo_begin.new.self (λ z. z) first s (stays_led g.D.Device.seen g.D.Device.may_leave c.args.self.now.relations c.args.self.now.counters c.args.self.now.core c.undo_begin.new.self c.undo_begin.ensures.state) shows);
 }
 
@@ -105,6 +108,7 @@ returns-in_err-abort_end-clause-steps g c = record {
   moments = λ first r schema. let D = g.D.Device in let k = c.args.self.now in
       no_call D.seen D.may_leave k.relations k.counters first D.moment D.left_since g.met.D.Device.only_now k.core _ (c.abort_end.ensures.device ∙ ap (λ (s : Store g.row.D.Denot). s.device) c.undo_begin.ensures.store) r schema;
   once = once_same _ _ (ap g.D.Device.moment (c.abort_end.ensures.device ∙ ap (λ (s : Store g.row.D.Denot). s.device) c.undo_begin.ensures.store));
+  others = λ u other. ap (λ v. steps_in v.items u) c.abort_end.ensures.running ∙ c.undo_begin.ensures.others u other;
   aborted = λ first s shows. let p = err_from_is_err_and c.from_residual-in_err-abort_end.result c.from_residual-in_err-abort_end.ensures.1 in
       err_aborted g.D.Device.seen g.D.Device.may_leave first s c.args.txn _ c.from_residual-in_err-abort_end.result p.0 p.1 (led g.D.Device.seen g.D.Device.may_leave c.args.self.now.relations c.args.self.now.counters c.undo_begin.new.self c.abort_end.new.self (λ z. z) first s (λ origin base safe. (base, c.in_err-abort_end.ensures.err origin base safe)) (led g.D.Device.seen g.D.Device.may_leave c.args.self.now.relations c.args.self.now.counters c.args.self.now.core c.undo_begin.new.self (λ z. z) first s (stays_led g.D.Device.seen g.D.Device.may_leave c.args.self.now.relations c.args.self.now.counters c.args.self.now.core c.undo_begin.new.self c.undo_begin.ensures.state) shows));
 }
@@ -130,6 +134,7 @@ returns-clause-steps g c = record {
   moments = λ first r schema. let D = g.D.Device in let k = c.args.self.now in
       no_call D.seen D.may_leave k.relations k.counters first D.moment D.left_since g.met.D.Device.only_now k.core _ (c.abort_end.ensures.device ∙ ap (λ (s : Store g.row.D.Denot). s.device) c.undo_begin.ensures.store) r schema;
   once = once_same _ _ (ap g.D.Device.moment (c.abort_end.ensures.device ∙ ap (λ (s : Store g.row.D.Denot). s.device) c.undo_begin.ensures.store));
+  others = λ u other. ap (λ v. steps_in v.items u) c.abort_end.ensures.running ∙ c.undo_begin.ensures.others u other;
   aborted = λ first s shows. (
     led g.D.Device.seen g.D.Device.may_leave c.args.self.now.relations c.args.self.now.counters c.undo_begin.new.self c.abort_end.new.self (λ z. gone z c.args.txn) first s (λ origin base safe. (base, c.in_ok-abort_end.ensures.gone origin base safe)) (led g.D.Device.seen g.D.Device.may_leave c.args.self.now.relations c.args.self.now.counters c.args.self.now.core c.undo_begin.new.self (λ z. z) first s (stays_led g.D.Device.seen g.D.Device.may_leave c.args.self.now.relations c.args.self.now.counters c.args.self.now.core c.undo_begin.new.self c.undo_begin.ensures.state) shows),
     ∥∥₁_map shows (λ (origin, base, is, x). ap (λ (z : State). last_effect c.args.txn z.standing) x.state ∙ c.undo_begin.ensures.nothing (c.in_ok-undo_begin.was ∙ ap Ok c.if-branch.false)),

@@ -1,0 +1,30 @@
+-- What a step of an operation appends to the log: the records of one page at most, or its end.
+use Rattle.std.specs.Prelude.{ℕ, ◌≡◌, ◌≤◌, ◌+◌, ◌++◌, true, All, List, length, Result, Ok, Err}
+use Rattle.mt_base.specs.declared.refusal.Refusal.{Refusal}
+use Rattle.mt_frame.specs.History.{is_of_page}
+use Rattle.mt_frame.specs.declared.records.Record.{Record}
+use Rattle.mt_op.specs.declared.answers.Stepped.{Stepped}
+use Rattle.mt_op.specs.declared.answers.Stepped.TheVariants as stepped
+use Rattle.mt_core.specs.PageLocks.{step_of}
+use Rattle.mt_core.specs.declared.steps.Stepping.{Stepping}
+use Rattle.mt_core.specs.declared.steps.Stepping.TheVariants.{Going, Ended}
+
+-- nothing more, or records of one page
+abbrev pub HasPageMore : List Record → List Record → Type 0
+HasPageMore old new = (page : ℕ) × (more : List Record) × (new ≡ old ++ more) × All (λ (r : Record). is_of_page page r ≡ true) more
+
+-- A step that goes on appends the records of one page at most, and one that ends a record at most. One that waits,
+-- begins anew or is refused appends none.
+abbrev pub WritesOnce : List Record → List Record → Result Stepped Refusal → Type 0
+WritesOnce old new (Ok stepped.Went) = HasPageMore old new
+WritesOnce old new (Ok (stepped.Wait holder)) = new ≡ old
+WritesOnce old new (Ok (stepped.Again holder)) = new ≡ old
+WritesOnce old new (Ok stepped.Flush) = new ≡ old
+WritesOnce old new (Ok (stepped.Ready first second)) = length new ≤ length old + 1
+WritesOnce old new (Err why) = new ≡ old
+
+-- the same of what a step of the core answers
+abbrev pub StepWrites : List Record → List Record → Result Stepping Refusal → Type 0
+StepWrites old new (Ok (Ended reply)) = length new ≤ length old + 1
+StepWrites old new (Ok (Going g)) = WritesOnce old new (Ok (step_of g))
+StepWrites old new (Err why) = new ≡ old

@@ -14,7 +14,7 @@ use Rattle.mt_pool.specs.Kept.{carried, carried_of}
 use Rattle.mt_pool.specs.Turns.{IsImageOnly}
 use Rattle.mt_pool.proofs.Safe.{has_later, in_more, in_later}
 use Rattle.mt_restart.specs.Turned.{AreImagesOf}
-use Rattle.mt_restart.proofs.Marks.{has_append, or_false}
+use Rattle.mt_replay.proofs.Marks.{has_append, or_false}
 
 -- Each of the marked ones of the first n pages has one image, and no other page has one.
 pub record AreImagesBelow (n : ℕ) (pages : List (List ℕ)) (marked : List Bool) (images : List Record) : Type 0 where

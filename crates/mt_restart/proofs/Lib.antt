@@ -5,8 +5,6 @@ mod Formed
 mod Shut
 mod Zeros
 pub mod Assembled
-mod Walking
-mod Marks
 mod ImageRecords
 mod Sizes
 mod Slots

@@ -14,7 +14,8 @@ use Rattle.mt_pool.specs.Images.{GivesPages, has_image, page_in, slot}
 use Rattle.mt_pool.specs.Kept.{carried}
 use Rattle.mt_pool.specs.Turns.{AreImaged, IsImageOnly}
 use Rattle.mt_pool.proofs.Safe.{bool_cases, cut_torn, in_none, slot_apart}
-use Rattle.mt_restart.specs.Turned.{OnlySlots, AreInPlace, MarksImaged, MarksLost, AreImagesOf}
+use Rattle.mt_replay.specs.Marking.{MarksImaged, MarksLost}
+use Rattle.mt_restart.specs.Turned.{OnlySlots, AreInPlace, AreImagesOf}
 
 -- what is marked has an image
 pub are_imaged : (count : ℕ) (records : List Record) (marked : List Bool) → MarksImaged count records marked → AreImaged marked (carried records)

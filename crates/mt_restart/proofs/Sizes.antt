@@ -5,7 +5,7 @@ use Rattle.mt_frame.specs.Grammar.{body_text, record_text}
 use Rattle.mt_frame.specs.Lengths.{record_length}
 use Rattle.mt_frame.specs.declared.records.Record.{Record}
 use Rattle.mt_frame.proofs.TextLengths.{length-record_text}
-use Rattle.mt_restart.proofs.Walking.{take_next}
+use Rattle.mt_replay.proofs.Walking.{take_next}
 
 pub body_more : (rs : List Record) (i : ℕ) (r : Record) → i < length rs → r ≡ get_or rs i r → length (body_text (take (i + 1) rs)) ≡ length (body_text (take i rs)) + record_length r
 body_more rs i r lt is =

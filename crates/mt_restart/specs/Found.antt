@@ -18,7 +18,8 @@ use Rattle.mt_pool.specs.Images.{slot}
 use Rattle.mt_replay.specs.Stands.{IsReadAs}
 use Rattle.mt_space.specs.Changes.{PageBytes}
 use Rattle.mt_log.specs.NextSlot.{next_slot}
-use Rattle.mt_restart.specs.Turned.{MarksImaged, MarksLost, AreImagesOf}
+use Rattle.mt_replay.specs.Marking.{MarksImaged, MarksLost}
+use Rattle.mt_restart.specs.Turned.{AreImagesOf}
 use Rattle.mt_restart.specs.declared.restart_writes.Marks.{Marks}
 
 -- ---- before the first write

@@ -3,7 +3,6 @@ pub mod Firsts
 pub mod Formats
 pub mod Found
 pub mod Inspected
-pub mod Marking
 pub mod Recovered
 pub mod Reported
 pub mod Resumed

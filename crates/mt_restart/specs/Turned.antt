@@ -1,5 +1,5 @@
 -- What becomes of a device's bytes while a restart turns its log over to another area.
-use Rattle.std.specs.Prelude.{◌≡◌, ◌≢◌, ℕ, ◌*◌, ◌<◌, Bool, true, false, List, [], Result, OnOk, length, get_or}
+use Rattle.std.specs.Prelude.{◌≡◌, ℕ, ◌*◌, ◌<◌, Bool, true, false, List, [], Result, OnOk, length, get_or}
 use Rattle.std.specs.List.{AllByRecursion}
 use Rattle.mt_base.specs.declared.limits.TheConstants.{MASTER_BYTES, PAGE_BYTES}
 use Rattle.mt_disk.specs.Disk.{Follows, HasCause, LeavesOnly, Only, Torn}
@@ -39,17 +39,6 @@ pub record PutsDurably {D : Type 0} (seen : D → List ℕ) (may_leave : D → L
   pub durable : OnOk r (Only (seen e) (may_leave e))
 
 -- ---- images
-
--- Marked are the pages of which these records carry an image.
-pub record MarksImaged (count : ℕ) (records : List Record) (marked : List Bool) : Type 0 where
-  pub size : length marked ≡ count
-  pub marks : (p : ℕ) → p < count → get_or marked p false ≡ has_image (carried records) p
-
--- Marked are the pages that have no image and other bytes than their slots.
-pub record MarksLost (pages : List (List ℕ)) (imaged : List Bool) (c : List ℕ) (marked : List Bool) : Type 0 where
-  pub size : length marked ≡ length pages
-  pub lost : (p : ℕ) → p < length pages → get_or marked p false ≡ true → (get_or imaged p false ≡ false) × (slot MASTER_BYTES c p ≢ get_or pages p [])
-  pub kept : (p : ℕ) → p < length pages → get_or marked p false ≡ false → get_or imaged p false ≡ false → slot MASTER_BYTES c p ≡ get_or pages p []
 
 -- Each of the marked pages has one image, and no other page has one.
 pub record AreImagesOf (pages : List (List ℕ)) (marked : List Bool) (images : List Record) : Type 0 where

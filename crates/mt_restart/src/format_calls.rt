@@ -13,11 +13,12 @@ ghost use Rattle.mt_restart.specs.declared.schema.Schema.{Schema};
 
 use crate::Schema;
 use crate::first_pages::page_of;
-use mt_base::Refusal;
 use mt_base::limits::MASTER_BYTES;
+use mt_base::{PageNo, Refusal};
 use mt_disk::{Device, DeviceFault};
 use mt_frame::{CLOSED_GATE, MasterSlot, OPEN_GATE, encode_slot};
 use mt_log::{AreaPlace, FIRST_SLOT, SECOND_SLOT};
+use mt_pool::slot_at;
 
 // The first opening of a device.
 const FIRST_EPOCH: u64 = 1;
@@ -46,7 +47,7 @@ fn write_pages<D: Device>(device: &mut D, schema: &Schema) -> Result<(), DeviceF
 {
     for number in 0..schema.pages {
         let page = page_of(schema, number);
-        device.write_at(MASTER_BYTES + 4096 * u64::from(number), &page)?;
+        device.write_at(slot_at(MASTER_BYTES, PageNo::new(number)), &page)?;
     }
     Ok(())
 }

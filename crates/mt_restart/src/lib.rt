@@ -7,11 +7,11 @@
 
 mod area_renewal;
 mod beside;
+mod first_images;
 mod first_pages;
 mod format_calls;
 mod fresh_kernel;
 mod fresh_layers;
-mod image_marks;
 mod inspection;
 mod log_report;
 mod opened_kernel;

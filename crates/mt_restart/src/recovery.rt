@@ -4,7 +4,8 @@ ghost use Rattle.mt_restart.specs.Recovered.{FindsAll, Recovers};
 
 use crate::area_renewal::{prepare_next, turn};
 use crate::beside::{Beside, beside_of};
-use crate::restart_writes::{Marks, can_turn, marks_of};
+use crate::first_images::images_of;
+use crate::restart_writes::{Marks, can_turn};
 use mt_base::Refusal;
 use mt_disk::Device;
 use mt_frame::{MasterSlot, Record, slots_are_read_back};
@@ -41,21 +42,27 @@ fn find<D: Device>(alloc: Global, device: &mut D, frames: usize) -> Result<Findi
     ensures { FindsAll D.seen D.may_leave D.moment D.left_since D.faults frames device.old device.new result }
 {
     let replayed = replay(alloc, device)?;
-    let marks = marks_of(alloc, device, &replayed.ruling, &replayed.restored.pages)?;
-    if !can_turn(&replayed.ruling, &marks.images) {
+    let images = images_of(alloc, &replayed.restored.pages, replayed.changed())?;
+    if !can_turn(&replayed.ruling, &images) {
         return Err(Refusal::LogFull);
     }
-    let prepared = prepare_next(alloc, &replayed.ruling, &marks.images)?;
+    let prepared = prepare_next(alloc, &replayed.ruling, &images)?;
     let beside = beside_of(alloc, &replayed.restored.pages, frames)?;
     let Replayed {
         ruling,
         figures: _,
         restored,
+        imaged,
+        lost,
     } = replayed;
     Ok(Findings {
         ruling,
         restored,
-        marks,
+        marks: Marks {
+            imaged,
+            lost,
+            images,
+        },
         prepared,
         beside,
     })
@@ -63,8 +70,8 @@ fn find<D: Device>(alloc: Global, device: &mut D, frames: usize) -> Result<Findi
 
 // Makes a device one again that a kernel may begin over, with so many frames, whatever a crash left of it.
 //
-// The device is synced first. Then the passes of a restart are made in memory, as `replay` of mt_replay does, and all
-// memory is taken. At last the log turns over. Pages with an image in the ruling area are written in place, and
+// The device is synced first. Then the passes of a restart are made in memory, as `replay` of mt_replay does. They read
+// the log once and each page once, and mark the pages that are to be written. All memory is taken. At last the log turns over. Pages with an image in the ruling area are written in place, and
 // synced. The other area begins with images of the pages that are neither there nor in their slots. Its master slot
 // comes to rule, and those pages are written in place too.
 //

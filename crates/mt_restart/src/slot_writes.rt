@@ -3,8 +3,10 @@ ghost use Rattle.std.specs.Prelude.{◌≡◌, ◌+◌, ◌*◌, ◌≤◌, leng
 ghost use Rattle.mt_base.specs.declared.limits.TheConstants.{MASTER_BYTES, MAX_PAGES, PAGE_BYTES};
 ghost use Rattle.mt_restart.specs.Turned.{PutsDurably, PutsInPlace};
 
+use mt_base::PageNo;
 use mt_base::limits::MASTER_BYTES;
 use mt_disk::{Device, DeviceFault};
+use mt_pool::slot_at;
 
 /// Writes each marked page into its slot: a write for each. Nothing is synced.
 ///
@@ -22,7 +24,8 @@ pub(crate) fn write_in_place<D: Device>(
 {
     for page in 0..pages.len() {
         if marked[page] {
-            device.write_at(MASTER_BYTES + 4096 * page as u64, &pages[page])?;
+            let at = slot_at(MASTER_BYTES, PageNo::new(page as u16));
+            device.write_at(at, &pages[page])?;
         }
     }
     Ok(())

@@ -29,10 +29,10 @@ fn stopped_in_turn(alloc: Global) -> Result<[Option<u64>; 5], Refusal> {
 }
 
 /// The log has four batches: an empty one, those of two commits, and that of the unfinished insert. So the opening
-/// makes 77 calls (docs/PROVED.md has the rule), each of which fails, and goes well the next time.
+/// makes 48 calls (docs/PROVED.md has the rule), each of which fails, and goes well the next time.
 #[test]
 fn whenever_an_opening_stops_the_base_stands(rt: HostRuntime) -> Result<(), Fail> {
     let stops = stopped_in_turn(rt.alloc())?;
-    assert!(rt; stops == [Some(78); 5]);
+    assert!(rt; stops == [Some(49); 5]);
     Ok(())
 }

@@ -18,16 +18,16 @@ const PAGES: u16 = 16;
 
 // Openings of a content, if the ruling area has so many batches and the other master slot is open. One for each of
 // its device calls, which fails, and one that goes well. docs/PROVED.md says which calls these are.
-const ONE_BATCH: u64 = 60;
+const ONE_BATCH: u64 = 40;
 
-const TWO_BATCHES: u64 = 66;
+const TWO_BATCHES: u64 = 43;
 
-const THREE_BATCHES: u64 = 72;
+const THREE_BATCHES: u64 = 46;
 
-const FOUR_BATCHES: u64 = 78;
+const FOUR_BATCHES: u64 = 49;
 
 // If the other slot is closed: its gate is not to be closed first.
-const TWO_BATCHES_ALONE: u64 = 64;
+const TWO_BATCHES_ALONE: u64 = 41;
 
 // ---- openings that are stopped
 
@@ -381,12 +381,12 @@ fn each_failing(alloc: Global) -> Result<Option<u64>, Refusal> {
     Err(Refusal::Busy)
 }
 
-/// There are two forces of four calls each, a page is written, and the log turns over, in 65 calls. The first insert
+/// There are two forces of four calls each, a page is written, and the log turns over, in 42 calls. The first insert
 /// reads the slots of the directory, the bucket, the map and a free page. The second one reads those of the
 /// directory, the bucket and the page of records.
 #[test]
 fn whatever_call_fails_each_later_event_is_refused(rt: HostRuntime) -> Result<(), Fail> {
     let count = each_failing(rt.alloc())?;
-    assert!(rt; count == Some(81));
+    assert!(rt; count == Some(58));
     Ok(())
 }

@@ -1,19 +1,27 @@
-use Rattle.std.proofs.Common.{rules, ◌∙◌, inl, inr, ⊎_elim, ℕ, List, refl, sym, subst}
+use Rattle.std.proofs.Common.{rules, ◌≡◌, ◌<◌, inl, inr, ⊎_elim, ℕ, Bool, List, refl, sym, subst}
 use Rattle.std.proofs.lemmas.Result.{err_from_is_err_and}
-use Rattle.mt_disk.proofs.Frame.{runs_on}
 use Rattle.mt_frame.specs.declared.records.Record.{Record}
-use Rattle.mt_log.specs.Quiet.{OnlyReads}
+use Rattle.mt_frame.specs.declared.slots.MasterSlot.{MasterSlot}
+use Rattle.mt_replay.specs.Marking.{IsMarked}
 use Rattle.mt_restart.specs.Beside.{IsBeside}
 use Rattle.mt_restart.specs.Found.{AreMarked, CanTurn, IsPrepared}
+use Rattle.mt_restart.specs.Recovered.{IsCauseToStop}
+use Rattle.mt_restart.specs.Turned.{AreImagesOf}
+use Rattle.mt_restart.specs.declared.restart_writes.Marks.{Marks}
 use Rattle.mt_restart.proofs.Calls.{one_outcome}
 use Rattle.mt_restart.proofs.recovery.find.Goals as goal
-use Rattle.mt_restart.proofs.recovery.find.Goals.{After-marks_of}
 
--- no byte is written in the passes and the marks
-reads_both : (g : _) (c : After-marks_of g) → OnlyReads g.D.Device.seen g.D.Device.may_leave g.D.Device.moment g.D.Device.left_since c.args.device.now c.marks_of.new.device
-reads_both g c =
-    let D = g.D.Device in let r = c.replay.ensures in let m = c.marks_of.ensures.reads in
-    record { same = m.same ∙ r.seen; less = λ x left. r.crash x (m.less x left); moments = runs_on D.moment D.left_since D.may_leave g.met.D.Device.only_now c.args.device.now c.replay.new.device c.marks_of.new.device r.moments m.moments r.crash }
+-- the marks of the passes, with the images of the lost pages
+marks_are : (c : List ℕ) (ruling : MasterSlot) (items pages : List (List ℕ)) (m : Marks) (changed : List Bool) → pages ≡ items → changed ≡ m.lost.items → (k : IsMarked c ruling items m.imaged.items m.lost.items)
+    → AreImagesOf pages changed m.images.items → AreMarked c ruling items k.batches m
+marks_are c ruling items pages m changed same lost k images = record {
+  rules = k.area.rules;
+  held = k.area.held;
+  count = k.count;
+  imaged = k.imaged_are;
+  lost = k.lost_are;
+  images = subst (λ (l : List Bool). AreImagesOf items l m.images.items) lost (subst (λ (l : List (List ℕ)). AreImagesOf l changed m.images.items) same images);
+}
 
 pub returns-in_err-replayed : goal.returns-in_err-replayed
 returns-in_err-replayed g c = record {
@@ -27,14 +35,15 @@ returns-in_err-replayed g c = record {
   quiet = search rules;
 }
 
-pub returns-in_err-marks : goal.returns-in_err-marks
-returns-in_err-marks g c = record {
+pub returns-in_err-images : goal.returns-in_err-images
+returns-in_err-images g c = record {
   found = search rules;
   shows = search rules;
   no_other_refusal = search rules;
-  reads = reads_both g (goal.at.returns-in_err-marks g c).After-marks_of;
-  cause = search rules;
-  quiet = search rules;
+  reads = let r = c.replay.ensures in record { same = r.seen; less = r.crash; moments = r.moments };
+  cause = let D = g.D.Device in let p = err_from_is_err_and c.from_residual-in_err-images.result c.from_residual-in_err-images.ensures.1 in
+      rw (p.1, p.2) (subst (IsCauseToStop (D.seen c.args.device.now) (D.faults c.args.device.now < D.faults c.replay.new.device)) (sym c.in_err-images.ensures.only_memory) (inl tt));
+  quiet = λ not. c.in_ok-replayed.ensures.quiet (λ e. cc);
 }
 
 pub returns-then-not-can_turn : goal.returns-then-not-can_turn
@@ -42,23 +51,22 @@ returns-then-not-can_turn g c = record {
   found = search rules;
   shows = search rules;
   no_other_refusal = search rules;
-  reads = reads_both g (goal.at.returns-then-not-can_turn g c).After-marks_of;
-  cause = let D = g.D.Device in let r = c.in_ok-replayed.ensures in let k = c.in_ok-marks.ensures.marked in
+  reads = let r = c.replay.ensures in record { same = r.seen; less = r.crash; moments = r.moments };
+  cause = let D = g.D.Device in let x = c.in_ok-replayed.replayed in let r = c.in_ok-replayed.ensures in
       inr (
         refl,
         record {
-          ruling = c.in_ok-replayed.replayed.ruling;
-          figures = c.in_ok-replayed.replayed.figures;
-          items = c.in_ok-replayed.replayed.restored.pages.items;
-          batches = k.0;
-          marks = c.in_ok-marks.marks;
+          ruling = x.ruling;
+          figures = x.figures;
+          items = x.restored.pages.items;
+          batches = r.marked.batches;
+          marks = record { imaged = x.imaged; lost = x.lost; images = c.in_ok-images.images };
           replayed = r.replayed;
-          marked = subst (λ (x : List ℕ). AreMarked x c.in_ok-replayed.replayed.ruling c.in_ok-replayed.replayed.restored.pages.items k.0 c.in_ok-marks.marks) c.replay.ensures.seen
-              (subst (λ (x : List (List ℕ)). AreMarked (D.seen c.replay.new.device) c.in_ok-replayed.replayed.ruling x k.0 c.in_ok-marks.marks) c.deref.ensures.value k.1);
-          none = λ can. one_outcome c.can_turn.result (c.can_turn.ensures.1 (subst (λ (x : List Record). CanTurn c.in_ok-replayed.replayed.ruling x) (sym c.deref-2.ensures.value) can)) c.if-not-can_turn.true;
+          marked = marks_are (D.seen c.args.device.now) x.ruling x.restored.pages.items c.deref.result.now (record { imaged = x.imaged; lost = x.lost; images = c.in_ok-images.images }) c.changed.result.now c.deref.ensures.value c.changed.ensures r.marked c.in_ok-images.ensures.images;
+          none = λ can. one_outcome c.can_turn.result (c.can_turn.ensures.1 (subst (λ (l : List Record). CanTurn x.ruling l) (sym c.deref-2.ensures.value) can)) c.if-not-can_turn.true;
         },
       );
-  quiet = λ not. c.in_ok-marks.ensures.quiet (λ e. cc) ∙ c.in_ok-replayed.ensures.quiet (λ e. cc);
+  quiet = λ not. c.in_ok-replayed.ensures.quiet (λ e. cc);
 }
 
 pub returns-in_err-prepared : goal.returns-in_err-prepared
@@ -66,9 +74,9 @@ returns-in_err-prepared g c = record {
   found = search rules;
   shows = search rules;
   no_other_refusal = search rules;
-  reads = reads_both g (goal.at.returns-in_err-prepared g c).After-marks_of;
+  reads = let r = c.replay.ensures in record { same = r.seen; less = r.crash; moments = r.moments };
   cause = search rules;
-  quiet = λ not. c.in_ok-marks.ensures.quiet (λ e. cc) ∙ c.in_ok-replayed.ensures.quiet (λ e. cc);
+  quiet = λ not. c.in_ok-replayed.ensures.quiet (λ e. cc);
 }
 
 pub returns-in_err-beside : goal.returns-in_err-beside
@@ -76,27 +84,26 @@ returns-in_err-beside g c = record {
   found = search rules;
   shows = search rules;
   no_other_refusal = search rules;
-  reads = reads_both g (goal.at.returns-in_err-beside g c).After-marks_of;
+  reads = let r = c.replay.ensures in record { same = r.seen; less = r.crash; moments = r.moments };
   cause = search rules;
-  quiet = search rules;
+  quiet = λ not. c.in_ok-replayed.ensures.quiet (λ e. cc);
 }
 
 pub returns : goal.returns
 returns g c = record {
-  found = let D = g.D.Device in let r = c.in_ok-replayed.ensures in let k = c.in_ok-marks.ensures.marked in
+  found = let D = g.D.Device in let x = c.in_ok-replayed.replayed in let r = c.in_ok-replayed.ensures in
       record {
-        restored = record { slot = c.in_ok-replayed.replayed.ruling; figures = c.in_ok-replayed.replayed.figures; replayed = r.replayed };
-        batches = k.0;
-        marked = subst (λ (x : List ℕ). AreMarked x c.in_ok-replayed.replayed.ruling c.in_ok-replayed.replayed.restored.pages.items k.0 c.in_ok-marks.marks) c.replay.ensures.seen
-            (subst (λ (x : List (List ℕ)). AreMarked (D.seen c.replay.new.device) c.in_ok-replayed.replayed.ruling x k.0 c.in_ok-marks.marks) c.deref.ensures.value k.1);
-        turns = subst (CanTurn c.in_ok-replayed.replayed.ruling) c.deref-2.ensures.value (c.can_turn.ensures.0 c.if-not-can_turn.false);
+        restored = record { slot = x.ruling; figures = x.figures; replayed = r.replayed };
+        batches = r.marked.batches;
+        marked = marks_are (D.seen c.args.device.now) x.ruling x.restored.pages.items c.deref.result.now (record { imaged = x.imaged; lost = x.lost; images = c.in_ok-images.images }) c.changed.result.now c.deref.ensures.value c.changed.ensures r.marked c.in_ok-images.ensures.images;
+        turns = subst (CanTurn x.ruling) c.deref-2.ensures.value (c.can_turn.ensures.0 c.if-not-can_turn.false);
         checked = r.replayed.undone.after;
-        prepared = subst (λ (x : List Record). IsPrepared c.in_ok-replayed.replayed.ruling x c.in_ok-prepared.prepared) c.deref-3.ensures.value c.in_ok-prepared.ensures.prepared;
-        beside = subst (λ (x : List (List ℕ)). IsBeside x c.args.frames c.in_ok-beside.beside) c.deref-4.ensures.value c.in_ok-beside.ensures.beside;
+        prepared = subst (λ (l : List Record). IsPrepared x.ruling l c.in_ok-prepared.prepared) c.deref-3.ensures.value c.in_ok-prepared.ensures.prepared;
+        beside = subst (λ (l : List (List ℕ)). IsBeside l c.args.frames c.in_ok-beside.beside) c.deref-4.ensures.value c.in_ok-beside.ensures.beside;
       };
   shows = λ relations counters b can. c.in_ok-replayed.ensures.found relations counters b can;
   no_other_refusal = search rules;
-  reads = reads_both g (goal.at.returns g c).After-marks_of;
+  reads = let r = c.replay.ensures in record { same = r.seen; less = r.crash; moments = r.moments };
   cause = search rules;
   quiet = search rules;
 }

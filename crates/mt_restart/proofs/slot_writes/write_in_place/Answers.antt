@@ -1,5 +1,5 @@
-use Rattle.std.proofs.Common.{rules, ◌≡◌, ◌∙◌, ◌+◌, ◌<◌, ℕ, [], true, false, length, get_or, refl, ap, sym, subst, arith}
-use Rattle.mt_disk.specs.Disk.{Follows, LeavesOnly}
+use Rattle.std.proofs.Common.{rules, ◌≡◌, ◌∙◌, ◌+◌, ◌*◌, ◌<◌, ℕ, [], true, false, length, get_or, refl, ap, sym, subst, arith}
+use Rattle.mt_disk.specs.Disk.{Follows, LeavesOnly, Torn, Wrote}
 use Rattle.mt_disk.proofs.Frame.{goes_on, started}
 use Rattle.mt_pool.specs.Images.{slot}
 use Rattle.mt_restart.specs.Turned.{ButForSlots, OnlySlots}
@@ -23,11 +23,14 @@ returns-in_err-write_at g c =
     let may = g.D.Device.may_leave in let seen = g.D.Device.seen in let p = c.loop-page.page in let marked = c.args.marked.now in
     let d = c.args.device.now in let mid = c.loop-page.device in let new = c.write_at.new.self in let v = c.loop-page.invariant in
     let size = c.told-pages p c.loop-page-test.true in
+    let n = length (get_or c.args.pages.now p []) in
+    let at : c.slot_at-at.result ≡ 8192 + 4096 * p = c.slot_at-at.ensures ∙ ap (λ (k : ℕ). 8192 + 4096 * k) c.new.ensures in
+    let torn : Torn (8192 + 4096 * p) n (seen mid) (seen new) = subst (λ (a : ℕ). Torn a n (seen mid) (seen new)) at c.write_at.ensures.rest in
     let inside : p < length marked = subst (λ (n : ℕ). p < n) (sym c.requires.count) c.loop-page-test.true in
-    let elsewhere : Follows (OnlySlots marked) (may d) (may new) = slots_follow marked p _ (may d) (may mid) (may new) inside c.if-marked-page.true size v.elsewhere c.write_at.ensures.crash in
+    let elsewhere : Follows (OnlySlots marked) (may d) (may new) = slots_follow marked p n (may d) (may mid) (may new) inside c.if-marked-page.true size v.elsewhere (subst (λ (a : ℕ). Follows (Torn a n) (may mid) (may new)) at c.write_at.ensures.crash) in
     record {
       written = search rules;
-      slots = slots_trans marked (seen d) (seen mid) (seen new) v.slots (slots_one marked p _ (seen mid) (seen new) inside c.if-marked-page.true size c.write_at.ensures.rest);
+      slots = slots_trans marked (seen d) (seen mid) (seen new) v.slots (slots_one marked p n (seen mid) (seen new) inside c.if-marked-page.true size torn);
       elsewhere = elsewhere;
       moments = goes_on g.D.Device.moment g.D.Device.left_since d mid new (ButForSlots marked (may d)) (may new) v.moments c.write_at.ensures.time elsewhere;
       cause = search rules;
@@ -42,14 +45,16 @@ loop-page-preserved g c =
     elim c.if-marked-page.branch [
       | then-marked-page+in_ok-write_at w ↦
           let new = w.write_at.new.self in
-          let size : length (get_or pages p []) ≡ 4096 = c.told-pages p lt in
+          let n = length (get_or pages p []) in
+          let size : n ≡ 4096 = c.told-pages p lt in
+          let at : w.slot_at-at.result ≡ 8192 + 4096 * p = w.slot_at-at.ensures ∙ ap (λ (k : ℕ). 8192 + 4096 * k) w.new.ensures in
           let inside : p < length marked = subst (λ (n : ℕ). p < n) (sym c.requires.count) lt in
-          let elsewhere : Follows (OnlySlots marked) (may d) (may new) = slots_follow marked p (length (get_or pages p [])) (may d) (may mid) (may new) inside w.if-marked-page.true size v.elsewhere w.write_at.ensures.crash in
+          let elsewhere : Follows (OnlySlots marked) (may d) (may new) = slots_follow marked p n (may d) (may mid) (may new) inside w.if-marked-page.true size v.elsewhere (subst (λ (a : ℕ). Follows (Torn a n) (may mid) (may new)) at w.write_at.ensures.crash) in
           record {
             written = subst (λ (x : _). (q : ℕ) → q < p + 1 → get_or marked q false ≡ true → slot 8192 (seen x) q ≡ get_or pages q []) (sym w.device-is)
-                (slots_more marked pages p (get_or pages p []) (seen mid) (seen new) w.in_ok-write_at.ensures.written size refl v.written);
+                (slots_more marked pages p (get_or pages p []) (seen mid) (seen new) (subst (λ (a : ℕ). Wrote a (get_or pages p []) (seen mid) (seen new)) at w.in_ok-write_at.ensures.written) size refl v.written);
             slots = subst (λ (x : _). OnlySlots marked (seen d) (seen x)) (sym w.device-is)
-                (slots_trans marked (seen d) (seen mid) (seen new) v.slots (slots_one marked p (length (get_or pages p [])) (seen mid) (seen new) inside w.if-marked-page.true size w.write_at.ensures.rest));
+                (slots_trans marked (seen d) (seen mid) (seen new) v.slots (slots_one marked p n (seen mid) (seen new) inside w.if-marked-page.true size (subst (λ (a : ℕ). Torn a n (seen mid) (seen new)) at w.write_at.ensures.rest)));
             elsewhere = subst (λ (x : _). Follows (OnlySlots marked) (may d) (may x)) (sym w.device-is) elsewhere;
             moments = subst (λ (x : _). LeavesOnly m l d x (ButForSlots marked (may d))) (sym w.device-is)
                 (goes_on m l d mid new (ButForSlots marked (may d)) (may new) v.moments w.write_at.ensures.time elsewhere);

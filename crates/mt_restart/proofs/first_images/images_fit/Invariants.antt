@@ -1,6 +1,6 @@
 use Rattle.std.proofs.Common.{◌≡◌, ◌+◌, ◌<◌, length, take}
 use Rattle.mt_frame.specs.Grammar.{body_text}
-use Rattle.mt_restart.proofs.image_marks.images_fit.Given as goal
+use Rattle.mt_restart.proofs.first_images.images_fit.Given as goal
 
 abbrev pub invariant-loop-entry : goal.invariant-loop-entry
 invariant-loop-entry l = record {

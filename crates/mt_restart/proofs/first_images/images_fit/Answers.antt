@@ -1,6 +1,6 @@
 use Rattle.std.proofs.Common.{◌+◌, arith}
 use Rattle.mt_restart.proofs.Sizes.{body_more, body_part}
-use Rattle.mt_restart.proofs.image_marks.images_fit.Goals as goal
+use Rattle.mt_restart.proofs.first_images.images_fit.Goals as goal
 
 pub loop-entry-preserved : goal.loop-entry-preserved
 loop-entry-preserved c =

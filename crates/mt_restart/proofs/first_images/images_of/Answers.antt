@@ -1,7 +1,7 @@
 use Rattle.std.proofs.Common.{◌+◌, sym, subst, arith}
 use Rattle.mt_restart.proofs.ImageRecords.{AreImagesBelow, images_all, marked_one, unmarked}
-use Rattle.mt_restart.proofs.image_marks.images_of.Goals as goal
-use Rattle.mt_restart.proofs.image_marks.images_of.Goals.{then-marked-page+in_ok-image+in_ok-push, else-marked-page}
+use Rattle.mt_restart.proofs.first_images.images_of.Goals as goal
+use Rattle.mt_restart.proofs.first_images.images_of.Goals.{then-marked-page+in_ok-image+in_ok-push, else-marked-page}
 
 pub loop-page-preserved : goal.loop-page-preserved
 loop-page-preserved c =

@@ -21,9 +21,9 @@ has_append (Some i ∷ xs) ys p = ap (λ (b : Bool). (i.0 == p) || b) (has_appen
 pub marks_then : (front behind all : List Record) (old mid new : List Bool) → all ≡ front ++ behind → MarksMore front old mid → MarksMore behind mid new → MarksMore all old new
 marks_then front behind all old mid new is first second = record {
   size = second.size ∙ first.size;
-  marks = λ p lt.
-      second.marks p (let n = first.size in omega arith)
-      ∙ ap (λ (b : Bool). b || has_image (carried behind) p) (first.marks p lt)
+  each = λ p lt.
+      second.each p (let n = first.size in omega arith)
+      ∙ ap (λ (b : Bool). b || has_image (carried behind) p) (first.each p lt)
       ∙ or_assoc (get_or old p false) (has_image (carried front) p) (has_image (carried behind) p)
       ∙ ap (λ (b : Bool). get_or old p false || b) (sym (has_append (carried front) (carried behind) p))
       ∙ ap (λ (es : List Carried). get_or old p false || has_image es p) (sym (map-append carried_of front behind))
@@ -38,7 +38,7 @@ pub lost_of : (pages slots : List (List ℕ)) (imaged lost : List Bool) (c : Lis
     → AreOfSlots (length pages) imaged c slots → MarksLost pages imaged c lost
 lost_of pages slots imaged lost c n all size each read = record {
   size = size ∙ all;
-  lost = λ p lt is. let both = (each p (omega (arith, all))).lost is in (both.0, λ same. both.1 (read p lt both.0 ∙ same));
+  other = λ p lt is. let both = (each p (omega (arith, all))).other is in (both.0, λ same. both.1 (read p lt both.0 ∙ same));
   kept = λ p lt not none. sym (read p lt none) ∙ (each p (omega (arith, all))).kept not none;
 }
 
@@ -71,4 +71,4 @@ opened_by count records imaged c slots opening marks read gives p lt = go (has_i
   where
     go : (b : Bool) → has_image (carried records) p ≡ b → page_in (carried records) p (get_or slots p []) ≡ page_in (carried records) p (slot 8192 c p)
     go true has = image_in (carried records) p (get_or slots p []) (slot 8192 c p) has
-    go false none = ap (page_in (carried records) p) (read p lt (marks.marks p lt ∙ none))
+    go false none = ap (page_in (carried records) p) (read p lt (marks.each p lt ∙ none))

@@ -13,11 +13,11 @@ use Rattle.mt_replay.specs.Stands.{HasArea}
 -- Marked are the pages that were so, and those of which these records carry an image.
 pub record MarksMore (records : List Record) (old new : List Bool) : Type 0 where
   pub size : length new ≡ length old
-  pub marks : (p : ℕ) → p < length old → get_or new p false ≡ (get_or old p false || has_image (carried records) p)
+  pub each : (p : ℕ) → p < length old → get_or new p false ≡ (get_or old p false || has_image (carried records) p)
 
 -- What is reported of a page is whether it has no image and other bytes than its slot.
 pub record TellsLost (bytes : List ℕ) (imaged : Bool) (in_slot : List ℕ) (outcome : Bool) : Type 0 where
-  pub lost : outcome ≡ true → (imaged ≡ false) × (in_slot ≢ bytes)
+  pub other : outcome ≡ true → (imaged ≡ false) × (in_slot ≢ bytes)
   pub kept : outcome ≡ false → imaged ≡ false → in_slot ≡ bytes
 
 -- ---- marks of all pages
@@ -25,13 +25,15 @@ pub record TellsLost (bytes : List ℕ) (imaged : Bool) (in_slot : List ℕ) (ou
 -- Marked are the pages of which these records carry an image.
 pub record MarksImaged (count : ℕ) (records : List Record) (marked : List Bool) : Type 0 where
   pub size : length marked ≡ count
-  pub marks : (p : ℕ) → p < count → get_or marked p false ≡ has_image (carried records) p
+  pub each : (p : ℕ) → p < count → get_or marked p false ≡ has_image (carried records) p
 
 -- Marked are the pages that have no image and other bytes than their slots.
 pub record MarksLost (pages : List (List ℕ)) (imaged : List Bool) (c : List ℕ) (marked : List Bool) : Type 0 where
   pub size : length marked ≡ length pages
-  pub lost : (p : ℕ) → p < length pages → get_or marked p false ≡ true → (get_or imaged p false ≡ false) × (slot MASTER_BYTES c p ≢ get_or pages p [])
-  pub kept : (p : ℕ) → p < length pages → get_or marked p false ≡ false → get_or imaged p false ≡ false → slot MASTER_BYTES c p ≡ get_or pages p []
+  pub other : (p : ℕ) → p < length pages → get_or marked p false ≡ true
+      → (get_or imaged p false ≡ false) × (slot MASTER_BYTES c p ≢ get_or pages p [])
+  pub kept : (p : ℕ) → p < length pages → get_or marked p false ≡ false → get_or imaged p false ≡ false
+      → slot MASTER_BYTES c p ≡ get_or pages p []
 
 -- The ruling area holds these batches; marked are the pages with an image there, and those that are lost.
 pub record IsMarked (c : List ℕ) (ruling : MasterSlot) (pages : List (List ℕ)) (imaged lost : List Bool) : Type 0 where

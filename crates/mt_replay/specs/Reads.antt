@@ -15,15 +15,19 @@ use Rattle.mt_space.specs.Changes.{PageBytes}
 
 -- each that has no image is as its slot has it
 abbrev pub AreOfSlots : ℕ → List Bool → List ℕ → List (List ℕ) → Type 0
-AreOfSlots count imaged c slots = (p : ℕ) → p < count → get_or imaged p false ≡ false → get_or slots p [] ≡ slot MASTER_BYTES c p
+AreOfSlots count imaged c slots =
+    (p : ℕ) → p < count → get_or imaged p false ≡ false → get_or slots p [] ≡ slot MASTER_BYTES c p
 
 -- they are the pages held that these records lead to, from the images that the records carry and these slots
 abbrev pub AreLedOn : List Record → List (List ℕ) → List (List ℕ) → Type 0
-AreLedOn records slots pages = (opening : PageBytes) → ((p : ℕ) → p < length slots → page_in (carried records) p (get_or slots p []) ≡ opening p) → AreFirst pages (pages_held opening records)
+AreLedOn records slots pages = (opening : PageBytes)
+    → ((p : ℕ) → p < length slots → page_in (carried records) p (get_or slots p []) ≡ opening p)
+    → AreFirst pages (pages_held opening records)
 
 -- they are the pages held that these records lead to, from whatever opening the device gives
 abbrev pub AreLedTo : ℕ → List Record → List ℕ → List (List ℕ) → Type 0
-AreLedTo count records c pages = (opening : PageBytes) → GivesPages MASTER_BYTES count opening (carried records) c → AreFirst pages (pages_held opening records)
+AreLedTo count records c pages =
+    (opening : PageBytes) → GivesPages MASTER_BYTES count opening (carried records) c → AreFirst pages (pages_held opening records)
 
 -- so many whole pages are read, and they are these; or memory was refused or the device failed
 pub record ReadsPages {D : Type 0} (seen : D → List ℕ) (may_leave : D → List ℕ → Type 0) (moment : D → ℕ) (left_since : D → ℕ → List ℕ → Type 0) (failures : D → ℕ) (n : ℕ) (AreThese : List (List ℕ) → Type 0) (d e : D) (r : Result (Vec (List ℕ) Global) Refusal) : Type 0 where
@@ -41,8 +45,8 @@ pub record AreHeldOf (n : ℕ) (records : List Record) (c : List ℕ) (h : HeldP
   pub count : length h.pages.items ≡ n
   pub led : AreLedTo n records c h.pages.items
   pub imaged : MarksImaged n records h.imaged.items
-  pub all : length h.slots.items ≡ n
-  pub slots : AreOfSlots n h.imaged.items c h.slots.items
+  pub all : length h.in_slots.items ≡ n
+  pub slots : AreOfSlots n h.imaged.items c h.in_slots.items
 
 -- they are found; or memory was refused or the device failed
 pub record FindsHeld {D : Type 0} (seen : D → List ℕ) (may_leave : D → List ℕ → Type 0) (moment : D → ℕ) (left_since : D → ℕ → List ℕ → Type 0) (failures : D → ℕ) (n : ℕ) (records : List Record) (d e : D) (r : Result HeldPages Refusal) : Type 0 where

@@ -169,11 +169,11 @@ pub fn replay<D: Device>(alloc: Global, device: &mut D) -> Result<Replayed, Refu
     let losers = losers_of(alloc, &batches)?;
     let HeldPages {
         pages,
-        slots,
+        in_slots,
         imaged,
     } = held;
     let restored = undone(alloc, pages, &losers)?;
-    let lost = lost_pages(alloc, &slots, &restored.pages, &imaged)?;
+    let lost = lost_pages(alloc, &in_slots, &restored.pages, &imaged)?;
     let figures = figures_of(&batches);
     Ok(Replayed {
         ruling,

@@ -24,7 +24,7 @@ pub(crate) struct HeldPages {
     // the bytes of each page, by its number
     pub(crate) pages: Vec<[u8; 4096]>,
     // the bytes of its slot, unless it has an image in the area
-    pub(crate) slots: Vec<[u8; 4096]>,
+    pub(crate) in_slots: Vec<[u8; 4096]>,
     // whether it has one
     pub(crate) imaged: Vec<bool>,
 }
@@ -71,11 +71,11 @@ pub(crate) fn held_pages<D: Device>(
         (joined (records_of batches.now)) device.old device.new result }
 {
     let imaged = imaged_in(alloc, count, batches)?;
-    let slots = read_slots(alloc, device, count, &imaged)?;
-    let pages = led_on(alloc, &slots, batches)?;
+    let in_slots = read_slots(alloc, device, count, &imaged)?;
+    let pages = led_on(alloc, &in_slots, batches)?;
     Ok(HeldPages {
         pages,
-        slots,
+        in_slots,
         imaged,
     })
 }

@@ -106,7 +106,7 @@ module _ (one : OneSlot) (s : Schema) (c : List ℕ) (f : IsFormattedAs s c) whe
 
     -- so none is lost
     none_lost : (p : ℕ) → p < length x.items → get_or x.marks.lost.items p false ≡ false
-    none_lost p lt = not_true (get_or x.marks.lost.items p false) (λ lost. (x.marked.lost.lost p lt lost).1 (sym (slots p lt)))
+    none_lost p lt = not_true (get_or x.marks.lost.items p false) (λ lost. (x.marked.lost.other p lt lost).1 (sym (slots p lt)))
 
     none_imaged : x.marks.images.items ≡ []
     none_imaged = no_images (length x.items) x.marks.images.items x.marked.images.only (λ p lt. x.marked.images.some p lt ∙ none_lost p lt)

@@ -20,7 +20,7 @@ use Rattle.mt_restart.specs.Turned.{OnlySlots, AreInPlace, AreImagesOf}
 -- what is marked has an image
 pub are_imaged : (count : ℕ) (records : List Record) (marked : List Bool) → MarksImaged count records marked → AreImaged marked (carried records)
 are_imaged count records marked m p is = elim (cases_lt p count) [
-  | inl inside ↦ sym (m.marks p inside) ∙ is
+  | inl inside ↦ sym (m.each p inside) ∙ is
   | inr past ↦ absurd (let size = m.size in let none = get_or_past marked p false (omega (arith, past, size)) in cc)
 ]
 

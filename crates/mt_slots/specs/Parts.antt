@@ -51,8 +51,8 @@ abbrev pub StaysPut : List ℕ → List ℕ → ℕ → Type 0
 StaysPut old new i = (j : ℕ) → j < count old → j ≢ i → offset new j ≡ offset old j
 
 -- only these bytes change, even if the head of slot i was another before
-abbrev pub Touches : TouchedBytes → ℕ → List ℕ → List ℕ → Type 0
-Touches touched i old new = (before : List ℕ) → Torn (8 + 4 * i) 4 before old → TouchesOnly touched before new
+abbrev pub TouchesRow : TouchedBytes → ℕ → List ℕ → List ℕ → Type 0
+TouchesRow touched i old new = (before : List ℕ) → Torn (8 + 4 * i) 4 before old → TouchesOnly touched before new
 
 -- a record of the page begins here
 pub record Begins (page : List ℕ) (n low : ℕ) : Type 0 where

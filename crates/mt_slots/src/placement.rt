@@ -3,7 +3,7 @@ ghost use Rattle.std.specs.Prelude.{◌≡◌, ◌≢◌, ◌+◌, ◌*◌, ◌<
 ghost use Rattle.mt_base.specs.declared.limits.TheConstants.{PAGE_BYTES};
 ghost use Rattle.mt_base.specs.Ranges.{Wrote};
 ghost use Rattle.mt_slots.specs.Page.{IsShaped, IsFree, Opens, count, offset, size, live_bytes};
-ghost use Rattle.mt_slots.specs.Parts.{IsPlace, HasPlace, StaysPut, Begins, row_text, PutsRow, Touches};
+ghost use Rattle.mt_slots.specs.Parts.{IsPlace, HasPlace, StaysPut, Begins, row_text, PutsRow, TouchesRow};
 
 use crate::compaction::compact;
 use crate::contents::Survey;
@@ -64,7 +64,7 @@ pub(crate) fn place_row(
     ensures puts { PutsRow page.old page.new i slots
         (record { relation = relation; key = key.now; value = value.now }) }
     ensures stays { StaysPut page.old page.new i }
-    ensures touched { Touches result i page.old page.new }
+    ensures touched { TouchesRow result i page.old page.new }
 {
     let count = row_bytes(key, value);
     write_row(page, at, relation, key, value);
@@ -132,7 +132,7 @@ pub(crate) fn settle(
     ensures puts { PutsRow page.old page.new i slots
         (record { relation = relation; key = key.now; value = value.now }) }
     ensures stays { HasPlace page.old i slots (4 + length key.now + length value.now) → StaysPut page.old page.new i }
-    ensures touched { Touches result i page.old page.new }
+    ensures touched { TouchesRow result i page.old page.new }
 {
     let bytes = row_bytes(key, value);
     let table = PAGE_HEAD_BYTES + SLOT_BYTES * slots;

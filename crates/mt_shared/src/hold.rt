@@ -187,7 +187,7 @@ impl<'a, D: Device, G: Gate + Drop, J: Naming> Hold<'a, D, G, J> {
     ) -> Result<Reply, Refusal> {
         let mut locked = self.lock(rt);
         for _ in rt.forever() {
-            match locked.call(number, op.try_clone()?) {
+            match locked.call(number, op) {
                 Ok(Called::Started) => return self.stepped(rt, locked, number, session),
                 Ok(Called::Wait(_)) => locked = self.sleep(rt, locked),
                 Err(why) => return Err(self.shared.refusing(why)),

@@ -1,4 +1,4 @@
-// The images with which an area begins: of the pages that a restart changed, and that no other text holds.
+// The images with which an area begins: those of the pages that are lost.
 ghost use Rattle.std.specs.Prelude.{◌≡◌, ◌+◌, ◌<◌, ◌≤◌, ◌↔◌, [], Some, length, IfOk, IfErr, IsTrue};
 ghost use Rattle.std.specs.List.{AllByRecursion};
 ghost use Rattle.mt_base.specs.declared.limits.TheConstants.{MAX_PAGES};

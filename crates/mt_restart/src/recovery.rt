@@ -71,9 +71,10 @@ fn find<D: Device>(alloc: Global, device: &mut D, frames: usize) -> Result<Findi
 // Makes a device one again that a kernel may begin over, with so many frames, whatever a crash left of it.
 //
 // The device is synced first. Then the passes of a restart are made in memory, as `replay` of mt_replay does. They read
-// the log once and each page once, and mark the pages that are to be written. All memory is taken. At last the log turns over. Pages with an image in the ruling area are written in place, and
-// synced. The other area begins with images of the pages that are neither there nor in their slots. Its master slot
-// comes to rule, and those pages are written in place too.
+// the log once, and each page's slot once at most, and mark the pages that are to be written. All memory is taken. At
+// last the log turns over. Pages with an image in the ruling area are written in place, and synced. The other area
+// begins with images of the pages that are neither there nor in their slots. Its master slot comes to rule, and those
+// pages are written in place too.
 //
 // Whatever a crash leaves in this call, it is what it might have left before, or represents the base that the bytes
 // represented before. After a sync that went well it represents that base. So it may be made again, however often it

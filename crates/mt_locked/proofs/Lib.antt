@@ -1,6 +1,7 @@
 pub mod Books
 pub mod Counts
-pub mod Ending
 pub mod Idle
 pub mod Keeping
+pub mod Rotations
 pub mod Sets
+pub mod Standings

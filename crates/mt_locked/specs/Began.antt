@@ -1,13 +1,11 @@
 -- What a kernel shows, whatever its state.
-use Rattle.std.specs.Prelude.{◌≡◌, ℕ, false, List, [], ◌∷◌, length}
+use Rattle.std.specs.Prelude.{◌≡◌, ℕ, false, List, length}
 use Rattle.mt_base.specs.declared.modes.LockMode.{LockMode}
 use Rattle.mt_disk.specs.declared.device.Device.{Ghosts}
 use Rattle.mt_live.specs.Machine.{State}
 use Rattle.mt_model.specs.Views.{base_of}
-use Rattle.mt_model.specs.declared.history.Committed.{Committed}
 use Rattle.mt_model.specs.declared.objects.Object.{Object}
 use Rattle.mt_model.specs.declared.tables.Base.{Base}
-use Rattle.mt_locked.specs.Names.{no_base}
 use Rattle.mt_slock.specs.Views.{held_of}
 use Rattle.mt_txn.specs.Shown.{Restarts, Shows}
 use Rattle.mt_txn.specs.Turned.{HasNobody}
@@ -26,13 +24,3 @@ pub record IsIdle {D : Type 0} {g : Ghosts D} (k : Kernel D g) : Type 0 where
   pub nobody : HasNobody k
   pub objects : (t : ℕ) (x : Object) (m : LockMode) → held_of k.core.locks t x m ≡ false
   pub pages : length k.core.operations.locks ≡ 0
-
--- the base that a kernel began on, and its book of durable transactions
-pub record BasedSeen : Type 0 where
-  pub base : Base
-  pub book : List Committed
-
--- the first of a history of bases
-abbrev pub first_base : List Base → Base
-first_base [] = no_base
-first_base (b ∷ bs) = b

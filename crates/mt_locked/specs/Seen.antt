@@ -1,5 +1,5 @@
 -- What contracts see of a pass and of the locked kernel.
-use Rattle.std.specs.Prelude.{◌≡◌, ◌≢◌, ◌≤◌, ◌⊎◌, Bool, true, false, Result, Ok, Err, ℕ, ◌+◌, List, [], ◌∷◌, ◌++◌, length, take, slice_get, Some}
+use Rattle.std.specs.Prelude.{◌≡◌, ◌≢◌, ◌≤◌, ◌⊎◌, Bool, ℕ, ◌+◌, List, [], ◌∷◌, ◌++◌, length, take, slice_get, Some}
 use Rattle.mt_mark.specs.Held.{Held}
 use Rattle.mt_mark.specs.Legal.{IsLegal}
 use Rattle.mt_mark.specs.Rule.{dones, NoneBy}
@@ -8,7 +8,6 @@ use Rattle.mt_model.specs.declared.history.Committed.{Committed}
 use Rattle.mt_model.specs.declared.operations.Op.{Op}
 use Rattle.mt_model.specs.declared.operations.Reply.{Reply}
 use Rattle.mt_model.specs.declared.tables.Base.{Base}
-use Rattle.mt_locked.specs.Began.{BasedSeen}
 
 -- the pass's number, and its beginning of the history
 pub record PassSeen : Type 0 where
@@ -67,27 +66,3 @@ pub record Beside (end seat : Held) : Type 0 where
   pub base : seat.view.base ≡ end.view.base
   pub list : seat.view.list ≡ end.view.list
   pub above : 1 ≤ seat.view.number
-
--- the base that a kernel began on, its book of durable transactions, and whether a rotation left no more of it
-pub record KeptSeen : Type 0 where
-  pub base : Base
-  pub book : List Committed
-  pub is_left : Bool
-
-abbrev pub whole : BasedSeen → KeptSeen
-whole b = record { base = b.base; book = b.book; is_left = false }
-
-abbrev pub seen_of : {X : Type 0} → Result BasedSeen X → BasedSeen → KeptSeen
-seen_of (Ok b) past = whole b
-seen_of (Err x) past = record { base = past.base; book = past.book; is_left = true }
-
--- base and book are as they were
-pub record KeepsAll (old : BasedSeen) (new : KeptSeen) : Type 0 where
-  pub base : new.base ≡ old.base
-  pub book : new.book ≡ old.book
-
--- nothing is left of the kernel that was not before, unless the book has so many transactions
-pub record IsTurned (commits : ℕ) (old new : KeptSeen) : Type 0 where
-  pub base : new.base ≡ old.base
-  pub book : new.book ≡ old.book
-  pub left : (new.is_left ≡ old.is_left) ⊎ (length old.book ≡ commits)

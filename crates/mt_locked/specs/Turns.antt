@@ -1,16 +1,18 @@
 -- What is reported of a kernel under the lock: of its log, and of a log that was turned over.
-use Rattle.std.specs.Prelude.{◌≡◌, ℕ, Bool, true, None, Result, Ok, IfErr, IsErr}
+use Rattle.std.specs.Prelude.{◌≡◌, ℕ, Bool, true, List, length, None, Result, Ok, IfErr, IsErr}
 use Rattle.mt_base.specs.declared.refusal.Refusal.{Refusal}
 use Rattle.mt_disk.specs.declared.device.Device.{Ghosts}
 use Rattle.mt_live.specs.Machine.{State}
 use Rattle.mt_log.specs.Words.{appended, area_size, used}
 use Rattle.mt_model.specs.Views.{base_of}
+use Rattle.mt_model.specs.declared.history.Committed.{Committed}
 use Rattle.mt_model.specs.declared.tables.Base.{Base}
 use Rattle.mt_op.specs.Begun.{AreImages}
 use Rattle.mt_restart.specs.Rotated.{early_cause}
 use Rattle.mt_locked.specs.Began.{BeganOn}
 use Rattle.mt_restart.specs.TurnFaults.{IsTurnFault}
-use Rattle.mt_locked.specs.Seen.{IsTurned, KeptSeen}
+use Rattle.mt_restart.specs.declared.standing.Standing.{Standing}
+use Rattle.mt_locked.specs.Standings.{KeepsHistory, book_in, is_ended}
 use Rattle.mt_locked.specs.declared.log_use.LogUse.{LogUse}
 use Rattle.mt_txn.specs.Shown.{Shows}
 use Rattle.mt_txn.specs.declared.kernel.Kernel.{Kernel}
@@ -40,10 +42,14 @@ pub record IsTurn {D : Type 0} (g : Ghosts D) (base : Base) : Type 0 where
 abbrev pub HasTurned : {D : Type 0} → Ghosts D → Base → Type 0
 HasTurned g base = ∥ IsTurn g base ∥₁
 
--- what a rotation makes of what is kept, and what it answers
-pub record IsRotation {D : Type 0} (g : Ghosts D) (commits : ℕ) (old new : KeptSeen) (outcome : Result Bool Refusal) : Type 0 where
-  pub turned : IsTurned commits old new
+-- What a rotation makes of what stands under a history of so many commits, and what it answers. That history and the
+-- book are kept.
+pub record IsRotation {D : Type 0} (g : Ghosts D) (commits : ℕ) (old new : Standing D g) (outcome : Result Bool Refusal) : Type 0 where
+  pub keeps : (base : Base) (history : List Committed) → length history ≡ commits
+      → KeepsHistory g.seen g.may_leave base history old
+      → KeepsHistory g.seen g.may_leave base history new × (book_in new history ≡ book_in old history)
   pub why : IfErr outcome IsTurnFault
-  pub did : outcome ≡ Ok true → HasTurned g old.base
+  pub did : outcome ≡ Ok true → (base : Base) (history : List Committed)
+      → KeepsHistory g.seen g.may_leave base history old → HasTurned g base
   -- if no more than the device is left, it is refused
-  pub gone : new.is_left ≡ true → IsErr outcome
+  pub gone : is_ended new ≡ true → IsErr outcome

@@ -7,19 +7,15 @@
 //! tokens stays here: no clause says how many transactions a pass has.
 #![tactic(auto)]
 
-mod based;
-mod kept;
 mod locked;
 mod log_use;
 mod names;
 mod pass;
 mod passes;
-mod past;
 mod returned_passes;
 mod rotation;
 mod txn;
 
-pub use based::Based;
 pub use locked::{Due, Locked, Unclosed};
 pub use log_use::LogUse;
 pub use names::Naming;

@@ -1,29 +1,32 @@
 // What the lock of a shared kernel guards, and what is done under it. mt_shared calls it with the lock taken;
 // nothing here waits or wakes a thread.
-ghost use Rattle.std.specs.Prelude.{◌≡◌, ◌+◌, ◌++◌, ◌∷◌, [], ◌≤◌, false, length, OnOk, IfOk, IfErr, IfNone, IfSome, Ok, IsTrue, ◌↔◌, slice_get, Some, All, true};
+ghost use Rattle.std.specs.Prelude.{◌≡◌, ◌+◌, ◌++◌, ◌∷◌, [], ◌≤◌, false, length, OnOk, IfOk, IfErr, IsErr, IfNone, IfSome, Ok, IsTrue, ◌↔◌, slice_get, Some, All, true};
 ghost use mathlib.Core.List.{IsPrefix};
 ghost use Rattle.mt_mark.specs.Legal.{IsLegal};
 ghost use Rattle.mt_mark.specs.Rule.{dones, Holds, IsConfirmed};
 ghost use Rattle.mt_locked.specs.Began.{BeganOn, IsIdle};
+ghost use Rattle.mt_locked.specs.Standings.{LeavesBook};
 ghost use Rattle.mt_locked.specs.Refusals.{IsCloseRefusal};
 ghost use Rattle.mt_restart.specs.TurnFaults.{IsTurnFault};
 ghost use Rattle.mt_locked.specs.Seen.{PassSeen, Entered, CannotEnter};
 ghost use Rattle.mt_locked.specs.Turns.{HasTurned, IsUseOn};
 ghost use Rattle.mt_txn.specs.Shown.{is_failed};
+ghost use Rattle.mt_txn.specs.Turned.{HasNobody};
 ghost use Rattle.mt_locked.specs.Whole.{HasAllOf, IsOfAll, IsWhole, all_own};
 
-use crate::based::Based;
-use crate::kept::Kept;
-use crate::log_use::LogUse;
+use crate::log_use::{LogUse, log_use_of};
 use crate::names::Naming;
 use crate::pass::Pass;
 use crate::returned_passes::{are_all, meet_all};
+use crate::rotation::turned;
 use crate::txn::Txn;
+use core::mem::replace_with;
 use mt_base::{Refusal, TxnNo};
 use mt_disk::Device;
 use mt_mark::{End, Entry};
 use mt_model::{Committed, Op};
 use mt_pool::Flushed;
+use mt_restart::Standing;
 use mt_txn::{AbortStepped, Called, Kernel, KernelForced, Stepped};
 use std::alloc::Global;
 use std::marker::{Model, PhantomData};
@@ -42,7 +45,7 @@ pub enum Due {
 /// What lies under the lock: the kernel, or what a rotation left of it, with its end of the mark. Its first commits
 /// are the history, as many as the mark counts. Contracts see the book and the history.
 pub struct Locked<D: Device, J: Naming> {
-    pub(crate) kernel: Kept<D>,
+    pub(crate) standing: Standing<D>,
     pub(crate) end: End,
     // the place of the commit that was appended last
     pub(crate) appended: u64,
@@ -61,33 +64,33 @@ pub struct Unclosed<D: Device, J: Naming> {
 }
 
 impl<D: Device, J: Naming> Model for Locked<D, J> {
-    ghost use Rattle.std.specs.Prelude.{◌≡◌, true};
-    ghost use mathlib.Core.List.{IsPrefix};
+    ghost use Rattle.std.specs.Prelude.{◌≡◌};
     ghost use Rattle.mt_mark.specs.Rule.{dones, IsConfirmed};
     ghost use Rattle.mt_locked.specs.Seen.{LockedSeen};
+    ghost use Rattle.mt_locked.specs.Standings.{KeepsHistory, seen_in};
 
     ghost Value = { LockedSeen };
 
-    ghost view = { λ l. record { book = l.kernel.book; list = l.end.view.list; is_left = l.kernel.is_left } };
+    ghost view = { λ l. seen_in l.standing l.end.view.list };
 
-    ghost invariant = { λ l. (l.end.mark ≡ J.mark) × (l.end.view.base ≡ J.base) × (l.kernel.base ≡ J.base)
-        × IsConfirmed l.end.view × IsPrefix (dones l.end.view.list) l.kernel.book
-        × (l.kernel.is_left ≡ true → l.kernel.book ≡ dones l.end.view.list) × (l.end.view.book ≡ J.book) };
+    ghost invariant = { λ l. (l.end.mark ≡ J.mark) × (l.end.view.base ≡ J.base) × (l.end.view.book ≡ J.book)
+        × IsConfirmed l.end.view
+        × KeepsHistory D.seen D.may_leave J.base (dones l.end.view.list) l.standing };
 }
 
 impl<D: Device, J: Naming> Locked<D, J> {
     /// A kernel with the end of the mark that was made about it. The history is its book, or the first of it.
-    pub fn over(kernel: Based<D>, end: End) -> Locked<D, J>
+    pub fn over(kernel: Kernel<D>, end: End) -> Locked<D, J>
         requires name { (end.mark ≡ J.mark) × (end.view.base ≡ J.base) × (end.view.book ≡ J.book) }
-        requires base { kernel.base ≡ J.base }
+        requires began { BeganOn D.seen D.may_leave J.base kernel }
         requires confirmed { IsConfirmed end.view }
-        requires front { IsPrefix (dones end.view.list) kernel.book }
-        ensures book { result.book ≡ kernel.book }
+        requires front { IsPrefix (dones end.view.list) kernel.core.book.items }
+        ensures book { result.book ≡ kernel.core.book.items }
         ensures list { result.list ≡ end.view.list }
         ensures here { result.is_left ≡ false }
     {
         Locked {
-            kernel: Kept::new(kernel),
+            standing: Standing::Stands(kernel),
             end,
             appended: 0,
             holding: 0,
@@ -125,24 +128,46 @@ impl<D: Device, J: Naming> Locked<D, J> {
     fn has(&self, at: u64, entry: &Entry) -> bool
         requires at { at ≡ length self.now.list }
         ensures is { IsTrue result ↔ (slice_get self.now.book at ≡ Some entry.now.done) }
-        ensures legal { IsLegal J.base self.now.book }
+        ensures legal { IsTrue result → IsLegal J.base self.now.book }
     {
-        match self.kernel.book() {
-            Some(book) => has_at(book, at, entry),
-            None => false,
+        match &self.standing {
+            Standing::Stands(kernel) => has_at(kernel.book(), at, entry),
+            Standing::Ended(_) => false,
+        }
+    }
+
+    // How many commits the book has: those of the history, if no kernel stands.
+    fn len(&mut self) -> u64
+        ensures same { self.new ≡ self.old }
+        ensures len { result ≡ length self.old.book }
+    {
+        match &self.standing {
+            Standing::Stands(kernel) => kernel.book().len() as u64,
+            Standing::Ended(_) => self.end.check(),
+        }
+    }
+
+    // Whether each call is refused with 2: the kernel has failed, or none stands.
+    fn has_failed(&self) -> bool {
+        match &self.standing {
+            Standing::Stands(kernel) => kernel.has_failed(),
+            Standing::Ended(_) => true,
         }
     }
 
     /// Whether the book has nothing after this place.
-    pub fn is_last(&self, place: u64) -> bool
-        ensures { IsTrue result ↔ (length self.now.book ≤ place) }
+    pub fn is_last(&mut self, place: u64) -> bool
+        ensures same { self.new ≡ self.old }
+        ensures is { IsTrue result ↔ (length self.old.book ≤ place) }
     {
-        self.kernel.len() <= place
+        self.len() <= place
     }
 
     /// Whether a commit was appended that is not in the book yet.
-    pub fn is_committing(&self) -> bool {
-        self.kernel.len() < self.appended
+    pub fn is_committing(&mut self) -> bool
+        ensures { self.new ≡ self.old }
+    {
+        self.len() < self.appended
     }
 
     /// Whether who commits at this place makes force steps: it is the next to be entered, and not in the book yet. If
@@ -151,35 +176,47 @@ impl<D: Device, J: Naming> Locked<D, J> {
         ensures { self.new ≡ self.old }
     {
         let is_next = place > 0 && self.end.check() == place - 1;
-        place > self.kernel.len() && (is_next || self.kernel.has_failed())
+        place > self.len() && (is_next || self.has_failed())
     }
 
     /// Begins a transaction, as [`Kernel::begin`]; the book and the history stay.
     pub fn begin(&mut self, session: u32) -> Result<TxnNo, Refusal>
         ensures { self.new ≡ self.old }
     {
-        self.kernel.begin(session)
+        let Standing::Stands(kernel) = &mut self.standing else {
+            return Err(Refusal::DeviceFailed);
+        };
+        kernel.begin(session)
     }
 
     /// Begins an operation, as [`Kernel::call`]; the book and the history stay.
     pub fn call(&mut self, txn: TxnNo, op: Op) -> Result<Called, Refusal>
         ensures { self.new ≡ self.old }
     {
-        self.kernel.call(txn, op)
+        let Standing::Stands(kernel) = &mut self.standing else {
+            return Err(Refusal::DeviceFailed);
+        };
+        kernel.call(txn, op)
     }
 
     /// Makes a step of an operation, as [`Kernel::step`]; the book and the history stay.
     pub fn step(&mut self, txn: TxnNo) -> Result<Stepped, Refusal>
         ensures { self.new ≡ self.old }
     {
-        self.kernel.step(txn)
+        let Standing::Stands(kernel) = &mut self.standing else {
+            return Err(Refusal::DeviceFailed);
+        };
+        kernel.step(txn)
     }
 
     /// Appends a commit, and answers its place, as [`Kernel::commit_begin`]; the book and the history stay.
     pub fn commit_begin(&mut self, txn: TxnNo) -> Result<u64, Refusal>
         ensures { self.new ≡ self.old }
     {
-        let place = self.kernel.commit_begin(txn)?;
+        let Standing::Stands(kernel) = &mut self.standing else {
+            return Err(Refusal::DeviceFailed);
+        };
+        let place = kernel.commit_begin(txn)?;
         self.appended = place;
         Ok(place)
     }
@@ -188,21 +225,30 @@ impl<D: Device, J: Naming> Locked<D, J> {
     pub fn abort_begin(&mut self, txn: TxnNo) -> Result<(), Refusal>
         ensures { self.new ≡ self.old }
     {
-        self.kernel.abort_begin(txn)
+        let Standing::Stands(kernel) = &mut self.standing else {
+            return Err(Refusal::DeviceFailed);
+        };
+        kernel.abort_begin(txn)
     }
 
     /// Makes a step of an abort, as [`Kernel::abort_step`]; the book and the history stay.
     pub fn abort_step(&mut self, txn: TxnNo) -> Result<AbortStepped, Refusal>
         ensures { self.new ≡ self.old }
     {
-        self.kernel.abort_step(txn)
+        let Standing::Stands(kernel) = &mut self.standing else {
+            return Err(Refusal::DeviceFailed);
+        };
+        kernel.abort_step(txn)
     }
 
     /// Flushes a page, as [`Kernel::flush_step`]; the book and the history stay.
     pub fn flush_step(&mut self) -> Result<Flushed, Refusal>
         ensures { self.new ≡ self.old }
     {
-        self.kernel.flush_step()
+        let Standing::Stands(kernel) = &mut self.standing else {
+            return Err(Refusal::DeviceFailed);
+        };
+        kernel.flush_step()
     }
 
     /// One force step. The book grows at its end.
@@ -210,7 +256,10 @@ impl<D: Device, J: Naming> Locked<D, J> {
         ensures book { IsPrefix self.old.book self.new.book }
         ensures list { self.new.list ≡ self.old.list }
     {
-        self.kernel.force_step()
+        let Standing::Stands(kernel) = &mut self.standing else {
+            return Err(Refusal::DeviceFailed);
+        };
+        kernel.force_step()
     }
 
     /// Flushes a page; if each waits for the log, one step of a force.
@@ -239,12 +288,12 @@ impl<D: Device, J: Naming> Locked<D, J> {
             Some(Refusal::Stranger)
         } else if passes.iter().any(|p| p.is_busy) {
             Some(Refusal::Busy)
-        } else if self.kernel.is_left() {
-            Some(Refusal::DeviceFailed)
-        } else if entered != self.kernel.len() {
-            Some(Refusal::Busy)
         } else {
-            None
+            match &self.standing {
+                Standing::Stands(kernel) if kernel.book().len() as u64 == entered => None,
+                Standing::Stands(_) => Some(Refusal::Busy),
+                Standing::Ended(_) => Some(Refusal::DeviceFailed),
+            }
         }
     }
 
@@ -261,21 +310,21 @@ impl<D: Device, J: Naming> Locked<D, J> {
         ensures back { IfErr result (λ u. u.passes.items ≡ passes.items) }
     {
         let Locked {
-            kernel,
+            standing,
             end,
             appended,
             holding,
             due,
             of,
         } = self;
-        match kernel.into_idle() {
-            Ok(kernel) => {
+        match standing {
+            Standing::Stands(kernel) if has_ended(&kernel) => {
                 meet_all(end, passes);
                 Ok(kernel)
             }
-            Err(kernel) => {
+            standing => {
                 let locked = Locked {
-                    kernel,
+                    standing,
                     end,
                     appended,
                     holding,
@@ -317,12 +366,15 @@ impl<D: Device, J: Naming> Locked<D, J> {
     pub fn log_use(&self) -> Option<LogUse>
         ensures { IfSome result (IsUseOn ⟦<D as Device>⟧ J.base) }
     {
-        self.kernel.log_use()
+        match &self.standing {
+            Standing::Stands(kernel) => Some(log_use_of(kernel)),
+            Standing::Ended(_) => None,
+        }
     }
 
     /// Whether more than half of the log's area is in use; false if a rotation left no kernel.
     pub fn is_half_used(&self) -> bool {
-        match self.kernel.log_use() {
+        match self.log_use() {
             Some(log) => log.is_above_half(),
             None => false,
         }
@@ -350,7 +402,7 @@ impl<D: Device, J: Naming> Locked<D, J> {
     /// What who tends is to do. If the device has failed, that is to ask for a turn of the log, and to be refused.
     pub fn due(&self) -> Due {
         match self.due {
-            Due::Nothing if self.kernel.has_failed() => Due::Turn,
+            Due::Nothing if self.has_failed() => Due::Turn,
             due => due,
         }
     }
@@ -382,23 +434,6 @@ impl<D: Device, J: Naming> Locked<D, J> {
     {
         self.due = Due::End;
     }
-
-    /// The kernel, or the device that a rotation left of it.
-    pub fn into_kernel(self) -> Result<Kernel<D>, D>
-        ensures book { IfOk result (λ k. k.core.book.items ≡ self.book) }
-        ensures began { IfOk result (BeganOn D.seen D.may_leave J.base) }
-        ensures left { IfErr result (λ _. self.is_left ≡ true) }
-    {
-        let Locked {
-            kernel,
-            end: _,
-            appended: _,
-            holding: _,
-            due: _,
-            of: _,
-        } = self;
-        kernel.into_kernel()
-    }
 }
 
 impl<D: Device + Drop, J: Naming> Locked<D, J> {
@@ -407,16 +442,46 @@ impl<D: Device + Drop, J: Naming> Locked<D, J> {
     pub fn rotate(&mut self, alloc: Global, frames: usize) -> Result<bool, Refusal>
         ensures why { IfErr result IsTurnFault }
         ensures did { result ≡ Ok true → HasTurned ⟦<D as Device>⟧ J.base }
+        ensures gone { self.new.is_left ≡ true → IsErr result }
         ensures book { self.new.book ≡ self.old.book }
         ensures list { self.new.list ≡ self.old.list }
     {
         let entered = self.end.check();
-        let turned = self.kernel.rotate(entered, alloc, frames);
-        if turned != Ok(false) {
+        let outcome = replace_with(&mut self.standing, (entered, alloc, frames), turned);
+        if outcome != Ok(false) {
             self.settle();
         }
-        turned
+        outcome
     }
+
+    /// The device, of the kernel or as a rotation left it. What is active is gone with the kernel. Whatever a crash
+    /// leaves of the device, a restart finds what the book leads to, or the book and commits that were under way.
+    pub fn into_device(self) -> D
+        ensures { LeavesBook D.may_leave J.base self.book result }
+    {
+        let Locked {
+            standing,
+            end: _,
+            appended: _,
+            holding: _,
+            due: _,
+            of: _,
+        } = self;
+        match standing {
+            Standing::Stands(kernel) => {
+                kernel.can_restart();
+                kernel.into_device()
+            }
+            Standing::Ended(device) => device,
+        }
+    }
+}
+
+// Whether a kernel has failed, or no transaction is active in it.
+fn has_ended<D: Device>(kernel: &Kernel<D>) -> bool
+    ensures { IsTrue result → is_failed kernel.now ≡ false → HasNobody kernel.now }
+{
+    kernel.has_failed() || kernel.has_nobody()
 }
 
 // Whether a book has this transaction at this place, from 0.

@@ -1,36 +1,14 @@
-// Turns the log of a kernel over, by `rotate` of mt_restart, and keeps the kernel's base beside what comes of it.
-// `kept` alone calls it.
+// Turns the log of a kernel over that stands under the lock, by `rotate` of mt_restart. `locked` alone calls it.
 ghost use Rattle.std.specs.Prelude.{◌≡◌, ◌↔◌, Ok, true, false, length, IfOk, IfErr, IsErr, IsOk, IsTrue};
-ghost use Rattle.mt_locked.specs.Seen.{IsTurned, KeepsAll, seen_of, whole};
+ghost use Rattle.mt_locked.specs.Turns.{IsRotation};
 ghost use Rattle.mt_restart.specs.TurnFaults.{IsTurnFault};
-ghost use Rattle.mt_locked.specs.Turns.{HasTurned};
+ghost use Rattle.mt_restart.specs.declared.standing.Standing.TheVariants.{Stands};
 
-use crate::based::Based;
-use crate::past::{Past, reported_of};
 use mt_base::Refusal;
 use mt_disk::Device;
 use mt_restart::{Standing, rotate};
+use mt_txn::Kernel;
 use std::alloc::Global;
-
-// What a rotation gives: the kernel, or the device that was left of it, and its past, if none is left. With it is
-// whether the log was turned over, which it is not while something is under way.
-pub(crate) struct Turned<D: Device> {
-    pub(crate) held: Result<Based<D>, D>,
-    pub(crate) past: Past,
-    pub(crate) outcome: Result<bool, Refusal>,
-}
-
-// The kernel, and what is answered.
-fn kept<D: Device>(kernel: Based<D>, outcome: Result<bool, Refusal>) -> Turned<D>
-    ensures held { result.held ≡ Ok kernel }
-    ensures outcome { result.outcome ≡ outcome }
-{
-    Turned {
-        held: Ok(kernel),
-        past: Past::none(),
-        outcome,
-    }
-}
 
 // What a refusal with the kernel comes to. But for these, a transaction lives.
 fn answer_to(why: Refusal) -> Result<bool, Refusal>
@@ -44,7 +22,7 @@ fn answer_to(why: Refusal) -> Result<bool, Refusal>
     }
 }
 
-// Whether a rotation that left the kernel turned the log over.
+// Whether a rotation turned the log over.
 fn has_turned(outcome: Result<(), Refusal>) -> Result<bool, Refusal>
     ensures why { IfErr result IsTurnFault }
     ensures did { result ≡ Ok true → IsOk outcome }
@@ -56,55 +34,42 @@ fn has_turned(outcome: Result<(), Refusal>) -> Result<bool, Refusal>
     }
 }
 
-// Whether its book has just so many commits.
-fn has_just<D: Device>(kernel: &Based<D>, commits: u64) -> bool
-    ensures { IsTrue result ↔ (length kernel.now.book ≡ commits) }
+// Whether a kernel's book has just so many commits.
+fn has_just<D: Device>(kernel: &Kernel<D>, commits: u64) -> bool
+    ensures { IsTrue result ↔ (length kernel.now.core.book.items ≡ commits) }
 {
     kernel.book().len() as u64 == commits
 }
 
-// Turns a kernel's log over, if its book has so many commits, and no transaction is active.
-pub(crate) fn turn<D: Device + Drop>(
-    kernel: Based<D>,
+// Turns a kernel's log over, if its book has so many commits and no transaction is active; whether it did.
+fn turned_over<D: Device + Drop>(
+    kernel: Kernel<D>,
     commits: u64,
     alloc: Global,
     frames: usize,
-) -> Turned<D>
-    ensures turned { IsTurned commits (whole kernel) (seen_of result.held result.past) }
-    ensures why { IfErr result.outcome IsTurnFault }
-    ensures did { result.outcome ≡ Ok true → HasTurned ⟦<D as Device>⟧ kernel.base }
-    ensures gone { (seen_of result.held result.past).is_left ≡ true → IsErr result.outcome }
+) -> (Standing<D>, Result<bool, Refusal>)
+    ensures { IsRotation ⟦<D as Device>⟧ commits (Stands kernel) result.0 result.1 }
 {
     if kernel.has_failed() {
-        return kept(kernel, Err(Refusal::DeviceFailed));
+        return (Standing::Stands(kernel), Err(Refusal::DeviceFailed));
     }
     if !has_just(&kernel, commits) {
-        return kept(kernel, Ok(false));
+        return (Standing::Stands(kernel), Ok(false));
     }
-    rotated(kernel, alloc, frames)
+    let (standing, outcome) = rotate(alloc, kernel, frames);
+    (standing, has_turned(outcome))
 }
 
-fn rotated<D: Device + Drop>(kernel: Based<D>, alloc: Global, frames: usize) -> Turned<D>
-    ensures keeps { KeepsAll kernel (seen_of result.held result.past) }
-    ensures why { IfErr result.outcome IsTurnFault }
-    ensures did { result.outcome ≡ Ok true → HasTurned ⟦<D as Device>⟧ kernel.base }
-    ensures gone { (seen_of result.held result.past).is_left ≡ true → IsErr result.outcome }
+// The same of what stands. It is refused with 2 if that is no kernel.
+pub(crate) fn turned<D: Device + Drop>(
+    standing: Standing<D>,
+    at: (u64, Global, usize),
+) -> (Standing<D>, Result<bool, Refusal>)
+    ensures { IsRotation ⟦<D as Device>⟧ at.0 standing result.0 result.1 }
 {
-    let book = kernel.book();
-    let len = book.len() as u64;
-    let reported = reported_of(book);
-    let Based { kernel, base } = kernel;
-    let (standing, outcome) = rotate(alloc, kernel, frames);
+    let (commits, alloc, frames) = at;
     match standing {
-        Standing::Stands(kernel) => kept(Based { kernel, base }, has_turned(outcome)),
-        Standing::Ended(device) => Turned {
-            held: Err(device),
-            past: Past {
-                len,
-                base,
-                book: reported,
-            },
-            outcome: Err(Refusal::DeviceFailed),
-        },
+        Standing::Stands(kernel) => turned_over(kernel, commits, alloc, frames),
+        Standing::Ended(device) => (Standing::Ended(device), Err(Refusal::DeviceFailed)),
     }
 }

@@ -35,10 +35,7 @@ pub struct Served<D: Device> {
 
 /// Drops what is shared, with its device.
 fn give_up<D: Device + Drop, G: Gate + Drop, J: Naming>(shared: Shared<D, G, J>) {
-    match shared.abandon() {
-        Ok(kernel) => drop(kernel.into_device()),
-        Err(device) => drop(device),
-    }
+    drop(shared.abandon());
 }
 
 /// Closes what was shared, once each transcript is in its place.

@@ -14,7 +14,7 @@ use crate::gate::Gate;
 use crate::shared::Shared;
 use mt_base::Refusal;
 use mt_disk::Device;
-use mt_locked::{Based, Locked, Naming, Pass, passes_of};
+use mt_locked::{Locked, Naming, Pass, passes_of};
 use mt_mark::{About, End, Seat};
 use mt_model::{Base, Committed};
 use mt_restart::open;
@@ -26,7 +26,7 @@ use std::snapshot::Snapshot;
 /// A kernel with its mark, which has no name yet. Contracts see which mark it is, the base that the kernel began on,
 /// and its book.
 pub struct Opened<D: Device> {
-    kernel: Based<D>,
+    kernel: Kernel<D>,
     end: End,
     seats: Vec<Seat>,
 }
@@ -35,6 +35,7 @@ impl<D: Device> Model for Opened<D> {
     ghost use Rattle.std.specs.Prelude.{◌≡◌, All, vec_len};
     ghost use Rattle.mt_mark.specs.Rule.{labelled, IsConfirmed};
     ghost use Rattle.mt_mark.specs.Held.{Held};
+    ghost use Rattle.mt_locked.specs.Began.{BeganOn};
     ghost use Rattle.mt_locked.specs.Seen.{Beside};
     ghost use Rattle.mt_shared.specs.Opens.{OpenedSeen};
 
@@ -42,13 +43,13 @@ impl<D: Device> Model for Opened<D> {
 
     ghost view = { λ o. record {
       mark = o.end.mark;
-      base = o.kernel.base;
-      book = o.kernel.book;
+      base = o.end.view.base;
+      book = o.kernel.core.book.items;
       count = vec_len o.seats;
     } };
 
-    ghost invariant = { λ o. (o.end.view.base ≡ o.kernel.base) × IsConfirmed o.end.view
-        × (o.end.view.list ≡ labelled o.kernel.book) × (o.end.view.book ≡ o.kernel.book)
+    ghost invariant = { λ o. BeganOn D.seen D.may_leave o.end.view.base o.kernel × IsConfirmed o.end.view
+        × (o.end.view.list ≡ labelled o.end.view.book) × (o.end.view.book ≡ o.kernel.core.book.items)
         × All (Beside o.end) o.seats.items };
 }
 
@@ -72,11 +73,7 @@ impl<D: Device> Opened<D> {
         ensures same { IfErr result (λ k. k ≡ kernel) }
     {
         match marked(alloc, base, kernel.book(), count) {
-            Ok((end, seats)) => Ok(Opened {
-                kernel: Based::new(kernel, base),
-                end,
-                seats,
-            }),
+            Ok((end, seats)) => Ok(Opened { kernel, end, seats }),
             Err(_) => Err(kernel),
         }
     }
@@ -97,7 +94,7 @@ impl<D: Device> Opened<D> {
     {
         let Opened { kernel, end, seats } = self;
         let Ok(passes) = passes_of::<J>(alloc, &end, seats) else {
-            return Err(kernel.into_kernel());
+            return Err(kernel);
         };
         let shared = Shared::over(Locked::over(kernel, end), gate);
         Ok((shared, passes))

@@ -1,15 +1,17 @@
 // What threads call of a kernel that they share, and how they sleep and are woken. The lock is taken here and in
 // `hold`; what is done under it is in mt_locked.
-ghost use Rattle.std.specs.Prelude.{◌≡◌, ◌≢◌, ◌+◌, ◌↔◌, All, false, length, None, IfOk, IfErr, OnOk, OnErr, IfSome};
+ghost use Rattle.std.specs.Prelude.{◌≡◌, ◌≢◌, ◌+◌, ◌↔◌, All, false, length, None, IfOk, IfErr, OnOk, OnErr, IfSome, IsSome, List};
 ghost use mathlib.Core.List.{IsPrefix};
 ghost use Rattle.mt_base.specs.declared.refusal.Refusal.TheVariants.{DeviceFailed, Stranger};
 ghost use Rattle.mt_mark.specs.Rule.{dones};
+ghost use Rattle.mt_model.specs.declared.history.Committed.{Committed};
 ghost use Rattle.mt_model.specs.declared.operations.Reply.{Reply};
 ghost use Rattle.mt_locked.specs.Began.{BeganOn, IsIdle};
 ghost use Rattle.mt_locked.specs.Refusals.{IsCloseRefusal};
 ghost use Rattle.mt_restart.specs.TurnFaults.{IsTurnFault};
 ghost use Rattle.mt_shared.specs.Refusals.{IsTurnRefusal};
 ghost use Rattle.mt_locked.specs.Seen.{PassSeen, Extends, Looked, fresh, with_call};
+ghost use Rattle.mt_locked.specs.Standings.{LeavesBook};
 ghost use Rattle.mt_locked.specs.Turns.{HasTurned, IsUseOn};
 ghost use Rattle.mt_txn.specs.Shown.{is_failed};
 ghost use Rattle.mt_locked.specs.Whole.{HasAllOf, all_own};
@@ -128,22 +130,6 @@ impl<D: Device, G: Gate + Drop, J: Naming> Shared<D, G, J> {
         if is_due {
             self.due.notify_all();
         }
-    }
-
-    /// The kernel, or the device that a rotation left of it, for use after a close was refused. What is active is
-    /// gone with it.
-    pub fn abandon(self) -> Result<Kernel<D>, D>
-        ensures { IfOk result (BeganOn D.seen D.may_leave J.base) }
-    {
-        let Shared {
-            locked,
-            moved: _,
-            turns: _,
-            due: _,
-            gate: _,
-            wanted: _,
-        } = self;
-        locked.into_inner().into_kernel()
     }
 
     /// Sees the history as it is, and answers its length. It is one load of the mark: it takes no lock, waits for
@@ -426,6 +412,25 @@ impl<D: Device, G: Gate + Drop, J: Naming> Shared<D, G, J> {
 }
 
 impl<D: Device + Drop, G: Gate + Drop, J: Naming> Shared<D, G, J> {
+    /// The device, for use after a close was refused: there is always one. What is active is gone with the kernel, and
+    /// nothing of it is taken back. Whatever a crash leaves of the device, a restart finds what commits lead to, each
+    /// alone, in their order, from the base that the kernel began on.
+    pub fn abandon(self) -> Option<D>
+        ensures there { IsSome result }
+        ensures found { IfSome result (λ device.
+            ∥ ((book : List Committed) × LeavesBook D.may_leave J.base book device) ∥₁) }
+    {
+        let Shared {
+            locked,
+            moved: _,
+            turns: _,
+            due: _,
+            gate: _,
+            wanted: _,
+        } = self;
+        Some(locked.into_inner().into_device())
+    }
+
     /// Turns the kernel's log over, while no transaction is active. It waits for the lock alone. The history goes on,
     /// and so do the passes. The kernel then has so many pages in frames.
     ///

@@ -132,7 +132,5 @@ pub fn reported_behind<J: Naming>(
 
 // Drops what is shared.
 fn give_up<J: Naming>(shared: Memory<J>) {
-    if let Ok(kernel) = shared.abandon() {
-        let _device = kernel.into_device();
-    }
+    drop(shared.abandon());
 }

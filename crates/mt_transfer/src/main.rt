@@ -130,9 +130,7 @@ fn shared_transfers<J: Naming + Send + Sync, R: Threads + Wait + Sync>(
                 passes: _,
             },
         ) => {
-            if let Ok(kernel) = shared.abandon() {
-                let _device = kernel.into_device();
-            }
+            drop(shared.abandon());
             Err(why)
         }
     }

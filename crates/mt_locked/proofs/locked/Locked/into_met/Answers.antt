@@ -1,28 +1,37 @@
 use Rattle.std.proofs.Common.{List, length, ◌∙◌, ap, sym, All, subst}
-use Rattle.mt_mark.specs.Rule.{Holds}
+use Rattle.mt_mark.specs.Rule.{Holds, dones}
 use Rattle.mt_mark.specs.declared.view.Entry.{Entry}
+use Rattle.mt_restart.specs.declared.standing.Standing.{Standing}
 use Rattle.mt_locked.proofs.Books.{dones-length}
 use Rattle.mt_locked.proofs.Counts.{all_counted}
-use Rattle.mt_model.specs.declared.tables.Base.{Base}
-use Rattle.mt_locked.specs.Began.{BeganOn}
+use Rattle.mt_locked.proofs.Idle.{idle_of}
+use Rattle.mt_locked.proofs.Standings.{stands_on}
 use Rattle.mt_locked.specs.Seen.{LockedSeen, PassSeen}
+use Rattle.mt_locked.specs.Standings.{book_in}
 use Rattle.mt_locked.proofs.locked.Locked.into_met.Goals as goal
 
-pub returns-in-Ok-clause-own : goal.returns-in-Ok-clause-own
-returns-in-Ok-clause-own g c =
-    let book = c.in-Ok.ensures.book ∙ ap (λ (l : LockedSeen). l.book) c.self.view_is in
+pub returns-in-Stands-clause-own : goal.returns-in-Stands-clause-own
+returns-in-Stands-clause-own g c =
+    let h = dones c.self.inside.end.view.list in
+    let book = ap (λ (s : Standing _ _). book_in s h) (sym c.in-Stands.is) ∙ ap (λ (l : LockedSeen). l.book) c.self.view_is in
     let list = ap (λ (l : LockedSeen). l.list) c.self.view_is in
     let P : List Entry → PassSeen → Type 0 = λ l p. Holds p.number p.seen l in
     (c.args.self.list, c.requires.whole.all ∙ sym book, subst (λ (l : List Entry). All (P l) c.args.passes.items) list c.meet_all.ensures)
 
-pub returns-in-Ok-clause-count : goal.returns-in-Ok-clause-count
-returns-in-Ok-clause-count g c =
-    let book = c.in-Ok.ensures.book ∙ ap (λ (l : LockedSeen). l.book) c.self.view_is in
+pub returns-in-Stands-clause-count : goal.returns-in-Stands-clause-count
+returns-in-Stands-clause-count g c =
+    let h = dones c.self.inside.end.view.list in
+    let book = ap (λ (s : Standing _ _). book_in s h) (sym c.in-Stands.is) ∙ ap (λ (l : LockedSeen). l.book) c.self.view_is in
     let list = ap (λ (l : LockedSeen). l.list) c.self.view_is in
     let P : List Entry → PassSeen → Type 0 = λ l p. Holds p.number p.seen l in
     let held = subst (λ (l : List Entry). All (P l) c.args.passes.items) list c.meet_all.ensures in
     ap length (book ∙ sym c.requires.whole.all) ∙ (dones-length c.args.self.list ∙ all_counted g.J.Naming.book c.args.self.list c.args.passes.items c.requires.all held)
 
-pub returns-in-Ok-clause-began : goal.returns-in-Ok-clause-began
-returns-in-Ok-clause-began g c = let D = g.D.Device in
-    subst (λ (b : Base). BeganOn D.seen D.may_leave b c.in-Ok.kernel) c.self.invariant.2 c.in-Ok.ensures.began
+pub returns-in-Stands-clause-began : goal.returns-in-Stands-clause-began
+returns-in-Stands-clause-began g c = let D = g.D.Device in
+    (stands_on D.seen D.may_leave g.J.Naming.base (dones c.self.inside.end.view.list) c.self.inside.standing c.in-Stands.kernel c.in-Stands.is c.self.invariant.4).0
+
+pub returns-in-Stands-clause-idle : goal.returns-in-Stands-clause-idle
+returns-in-Stands-clause-idle g c = λ well. let D = g.D.Device in let b = g.J.Naming.base in let k = c.in-Stands.kernel in
+    let began = (stands_on D.seen D.may_leave b (dones c.self.inside.end.view.list) c.self.inside.standing k c.in-Stands.is c.self.invariant.4).0 in
+    idle_of D.seen D.may_leave b k began (c.has_ended.ensures c.if-has_ended.true well)

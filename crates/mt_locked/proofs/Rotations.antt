@@ -1,0 +1,75 @@
+-- A log that is turned over under the lock.
+use Rattle.std.proofs.Common.{◌≡◌, ◌≤◌, ℕ, Bool, true, false, List, length, Result, Ok, Err, refl, sym, subst, arith}
+use Rattle.std.specs.Prelude.{IfErr, IsErr, IsOk}
+use mathlib.Core.List.{IsPrefix}
+use Rattle.mt_base.specs.declared.refusal.Refusal.{Refusal}
+use Rattle.mt_disk.specs.declared.device.Device.{Ghosts}
+use Rattle.mt_model.specs.Model as model
+use Rattle.mt_model.specs.Views.{base_of}
+use Rattle.mt_model.specs.declared.history.Committed.{Committed}
+use Rattle.mt_model.specs.declared.tables.Base.{Base}
+use Rattle.mt_restart.proofs.Standings.{rotated_of, stands_over}
+use Rattle.mt_restart.specs.Rotated.{Rotates}
+use Rattle.mt_restart.specs.Standings.{device_at}
+use Rattle.mt_restart.specs.TurnFaults.{IsTurnFault}
+use Rattle.mt_restart.specs.declared.standing.Standing.{Standing}
+use Rattle.mt_restart.specs.declared.standing.Standing.TheVariants.{Stands, Ended}
+use Rattle.mt_txn.specs.Restarted.{FindsMeanwhile}
+use Rattle.mt_txn.specs.Shown.{Restarts}
+use Rattle.mt_txn.specs.declared.kernel.Kernel.{Kernel}
+use Rattle.mt_locked.specs.Standings.{LeavesBook, is_ended}
+use Rattle.mt_locked.specs.Turns.{IsRotation, IsTurn}
+use Rattle.mt_locked.proofs.Books.{whole_front}
+use Rattle.mt_locked.proofs.Keeping.{turned_began, turned_book}
+use Rattle.mt_locked.proofs.Standings.{found_with}
+
+-- a kernel that stands is not ended
+stands_here : {P : Type 0} → ◌≡◌ {A = Bool} false true → P
+stands_here wrong = absurd cc
+
+module _ {D : Type 0} (g : Ghosts D) where
+  -- what has not been turned over, and is refused or too early
+  pub not_turned : (commits : ℕ) (s : Standing D g) (outcome : Result Bool Refusal) → IfErr outcome IsTurnFault → (outcome ≡ Ok true → ⊥) → (is_ended s ≡ true → IsErr outcome) → IsRotation g commits s s outcome
+  not_turned commits s outcome why not gone = record { keeps = λ base history long keeps. (keeps, refl); why = why; did = λ did. absurd (not did); gone = gone }
+
+  -- the device that is left leaves the whole book
+  pub left_whole : (k : Kernel D g) (device : D) → ((t : ℕ) (c : List ℕ) → t ≤ g.moment device → g.may_leave device c → g.left_since device t c)
+      → ((first : model.Base) → Restarts g.seen g.may_leave first k → FindsMeanwhile g.moment g.left_since k.relations k.counters first k.core device)
+      → (base : Base) → Restarts g.seen g.may_leave (base_of base) k → LeavesBook g.may_leave base k.core.book.items device
+  left_whole k device counts found base restarts c leaves =
+      let f = found (base_of base) restarts in
+      found_with g.seen g.may_leave base k c (f.each c (counts (g.moment k.core.operations.store.device) c f.later leaves))
+
+  pub turned_so : (commits : ℕ) (k : Kernel D g) (new : Standing D g) (r : Result (Unit {0}) Refusal) (outcome : Result Bool Refusal)
+      → ((device : D) (t : ℕ) (c : List ℕ) → t ≤ g.moment device → g.may_leave device c → g.left_since device t c)
+      → ((first : model.Base) → Restarts g.seen g.may_leave first k → FindsMeanwhile g.moment g.left_since k.relations k.counters first k.core (device_at new))
+      → IfErr outcome IsTurnFault → (outcome ≡ Ok true → IsOk r) → IfErr r (λ why. IsTurnFault why → IsErr outcome) → length k.core.book.items ≡ commits
+      → Rotates g.seen g.may_leave g.moment g.left_since g.faults k new r → IsRotation g commits (Stands k) new outcome
+  turned_so commits k (Stands n) r outcome counts found why did fault just rotates =
+      let over = stands_over g.seen g.may_leave g.moment g.left_since g.faults k n r rotates in record {
+        keeps = λ base history long keeps. let same = turned_book g.seen g.may_leave base k n over.state keeps.0 in
+            ((turned_began g.seen g.may_leave base k n over.state over.restarts keeps.0, subst (IsPrefix history) (sym same) keeps.1), same);
+        why = why;
+        did = λ is base history keeps.
+            let x = rotated_of g.seen g.may_leave g.moment g.left_since g.faults k n r (did is) rotates in
+            let turn : IsTurn g base = record {
+              was = k;
+              began = keeps.0;
+              may = x.may;
+              now = n;
+              begins = turned_began g.seen g.may_leave base k n x.over.state x.over.restarts keeps.0;
+              shows = λ s shows. x.over.state (base_of base) s keeps.0.1 shows;
+              book = turned_book g.seen g.may_leave base k n x.over.state keeps.0;
+              images = x.begun;
+            } in ∣ turn ∣₁;
+        gone = stands_here;
+      }
+  turned_so commits k (Ended device) (Ok u) outcome counts found why did fault just rotates = absurd rotates
+  turned_so commits k (Ended device) (Err refusal) outcome counts found why did fault just rotates = record {
+    keeps = λ base history long keeps.
+        let whole : history ≡ k.core.book.items = whole_front history k.core.book.items keeps.1 (omega (arith, long, just)) in
+        (subst (λ (h : List Committed). LeavesBook g.may_leave base h device) (sym whole) (left_whole k device (counts device) found base keeps.0.1), whole);
+    why = why;
+    did = λ is. absurd (let no = did is in cc);
+    gone = λ left. fault (subst IsTurnFault (sym rotates.0) tt);
+  }

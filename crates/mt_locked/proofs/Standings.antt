@@ -1,0 +1,93 @@
+-- What stands under the lock keeps the history, and what a crash leaves of it has the book.
+use Rattle.std.proofs.Common.{◌≡◌, ◌∙◌, ◌+◌, ◌-◌, ◌++◌, ◌∷◌, [], ℕ, List, length, take, slice_get, Some, Result, false, refl, sym, ap, subst, arith}
+use Rattle.std.proofs.Math.Seq.{take-append-add}
+use mathlib.Core.List.{IsPrefix}
+use mathlib.Core.Logic.{∥∥₁_map}
+use Rattle.mt_base.specs.declared.refusal.Refusal.{Refusal}
+use Rattle.mt_disk.specs.declared.device.Device.{Ghosts}
+use Rattle.mt_core.specs.Booked.{txns_of}
+use Rattle.mt_core.specs.Consistent.{session_in}
+use Rattle.mt_live.specs.Laws.{in_turn}
+use Rattle.mt_live.specs.Machine.{State}
+use Rattle.mt_mark.specs.Legal.{IsLegal}
+use Rattle.mt_mark.specs.Rule.{dones}
+use Rattle.mt_mark.specs.declared.view.Entry.{Entry}
+use Rattle.mt_mark.proofs.Fronts.{prefix_self, prefix_trans}
+use Rattle.mt_model.specs.History.{after}
+use Rattle.mt_model.specs.Views.{base_of}
+use Rattle.mt_model.specs.declared.history.Committed.{Committed}
+use Rattle.mt_model.specs.declared.tables.Base.{Base}
+use Rattle.mt_replay.specs.Stands.{CanRestart}
+use Rattle.mt_restart.specs.declared.standing.Standing.{Standing}
+use Rattle.mt_restart.specs.declared.standing.Standing.TheVariants.{Stands, Ended}
+use Rattle.mt_txn.specs.Events.{HasForced}
+use Rattle.mt_txn.specs.Restarted.{all_commits, FindsCommits}
+use Rattle.mt_txn.specs.Shown.{Shows, StaysRestarting}
+use Rattle.mt_txn.specs.declared.answers.KernelForced.{KernelForced}
+use Rattle.mt_txn.specs.declared.kernel.Kernel.{Kernel}
+use Rattle.mt_locked.specs.Began.{BeganOn}
+use Rattle.mt_locked.specs.Standings.{HasBook, KeepsHistory, book_in, seen_in}
+use Rattle.mt_locked.proofs.Books.{dones-length, grown, none_behind}
+use Rattle.mt_locked.proofs.Keeping.{Goes, forced_began, forced_grows, legal_book, same_book, still_began}
+
+module _ {D : Type 0} {g : Ghosts D} (seen : D → List ℕ) (may_leave : D → List ℕ → Type 0) where
+  -- ---- a kernel that stands
+
+  pub stands_on : (b : Base) (h : List Committed) (s : Standing D g) (k : Kernel D g) → s ≡ Stands k → KeepsHistory seen may_leave b h s → BeganOn seen may_leave b k × IsPrefix h k.core.book.items
+  stands_on b h s k is keeps = subst (KeepsHistory seen may_leave b h) is keeps
+
+  -- the book begins with the history
+  pub front_of : (b : Base) (h : List Committed) (s : Standing D g) → KeepsHistory seen may_leave b h s → IsPrefix h (book_in s h)
+  front_of b h (Stands k) keeps = keeps.1
+  front_of b h (Ended device) keeps = prefix_self h
+
+  -- and it is legal
+  pub legal_in : (b : Base) (k : Kernel D g) (s : Standing D g) (h : List Committed) → s ≡ Stands k → KeepsHistory seen may_leave b h s → IsLegal b (book_in s h)
+  legal_in b k s h is keeps = subst (λ (x : Standing D g). IsLegal b (book_in x h)) (sym is) (legal_book seen may_leave b k (stands_on b h s k is keeps).0)
+
+  -- the history goes on by the book's next entry, which is there only if a kernel stands
+  pub entered_on : (b : Base) (list : List Entry) (e : Entry) (at : ℕ) (s : Standing D g) → at ≡ length list → slice_get (book_in s (dones list)) at ≡ Some e.done → KeepsHistory seen may_leave b (dones list) s
+      → KeepsHistory seen may_leave b (dones (list ++ e ∷ [])) s × (book_in s (dones (list ++ e ∷ [])) ≡ book_in s (dones list))
+  entered_on b list e at (Stands k) is there keeps =
+      ((keeps.0, grown list k.core.book.items e keeps.1 (ap (λ n. slice_get k.core.book.items n) (dones-length list ∙ sym is) ∙ there)), refl)
+  entered_on b list e at (Ended device) is there keeps = absurd (none_behind (dones list) list at e.done refl is there)
+
+  -- after a call that leaves its book the history is kept, and what is seen is the same
+  pub goes_on : (b : Base) (list : List Entry) (s : Standing D g) (k n : Kernel D g) → s ≡ Stands k → ((z : State) → Shows seen may_leave (base_of b) z k → Goes seen may_leave b z n) → StaysRestarting seen may_leave k n
+      → KeepsHistory seen may_leave b (dones list) s → KeepsHistory seen may_leave b (dones list) (Stands n) × (seen_in {g = g} (Stands n) list ≡ seen_in s list)
+  goes_on b list s k n is go again keeps =
+      let (began, front) = stands_on b (dones list) s k is keeps in
+      let same = same_book seen may_leave b k n go began in (
+        (still_began seen may_leave b k n go again began, subst (IsPrefix (dones list)) (sym same) front),
+        ap (λ (book : List Committed). record { book = book; list = list; is_left = false }) same ∙ ap (λ (x : Standing D g). seen_in x list) (sym is),
+      )
+
+  -- after a step of a force the history is kept, and the book has grown at its end
+  pub forces_on : (b : Base) (h : List Committed) (s : Standing D g) (k n : Kernel D g) (r : Result KernelForced Refusal) → s ≡ Stands k
+      → ((z : State) → Shows seen may_leave (base_of b) z k → HasForced seen may_leave (base_of b) z r n) → StaysRestarting seen may_leave k n
+      → KeepsHistory seen may_leave b h s → KeepsHistory seen may_leave b h (Stands n) × IsPrefix (book_in s h) n.core.book.items
+  forces_on b h s k n r is did again keeps =
+      let (began, front) = stands_on b h s k is keeps in
+      let more = forced_grows seen may_leave b k n r did began in (
+        (forced_began seen may_leave b k n r did again began, prefix_trans h k.core.book.items n.core.book.items front more),
+        subst (λ (x : Standing D g). IsPrefix (book_in x h) n.core.book.items) (sym is) more,
+      )
+
+  -- ---- what a crash leaves
+
+  -- a restart finds what the book leads to, or the book and some of the commits under way
+  pub found_with : (b : Base) (k : Kernel D g) (c : List ℕ) → ∥ FindsCommits k.relations k.counters (base_of b) k.core c ∥₁ → ∥ HasBook b k.core.book.items c ∥₁
+  found_with b k c finds = ∥∥₁_map finds (λ f.
+      let book = k.core.book.items in
+      let under_way = in_turn (session_in k.core.live.members) (txns_of k.core.commits.items) k.core.live.standing in
+      let over = f.count - length book in
+      let booked = f.acknowledged in
+      let count : length book + over ≡ f.count = omega (arith, booked) in
+      let is : take f.count (all_commits k.core) ≡ book ++ take over under_way =
+      subst (λ (i : ℕ). take i (all_commits k.core) ≡ book ++ take over under_way) count (take-append-add book under_way over) in
+      record {
+        relations = k.relations;
+        counters = k.counters;
+        further = take over under_way;
+        found = subst (CanRestart k.relations k.counters c) (f.is ∙ ap (after (base_of b)) is) f.found;
+      })

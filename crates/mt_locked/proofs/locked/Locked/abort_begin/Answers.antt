@@ -1,0 +1,18 @@
+use Rattle.std.proofs.Common.{◌∙◌}
+use Rattle.mt_locked.proofs.Keeping.{stays}
+use Rattle.mt_locked.proofs.Standings.{goes_on}
+use Rattle.mt_locked.proofs.locked.Locked.abort_begin.Goals as goal
+
+pub invariant_of-self-2 : goal.invariant_of-self-2
+invariant_of-self-2 g c =
+    let D = g.D.Device in let b = g.J.Naming.base in let i = c.self.invariant in
+    let list = c.self.inside.end.view.list in let k = c.in-Stands.kernel in let n = c.abort_begin.new.self in
+    let on = goes_on D.seen D.may_leave b list c.self.inside.standing k n c.in-Stands.is (stays D.seen D.may_leave b k n c.abort_begin.ensures.state) c.abort_begin.ensures.restarts i.4 in
+    (i.0, i.1, i.2, i.3, on.0)
+
+pub returns : goal.returns
+returns g c =
+    let D = g.D.Device in let b = g.J.Naming.base in let i = c.self.invariant in
+    let list = c.self.inside.end.view.list in let k = c.in-Stands.kernel in let n = c.abort_begin.new.self in
+    let on = goes_on D.seen D.may_leave b list c.self.inside.standing k n c.in-Stands.is (stays D.seen D.may_leave b k n c.abort_begin.ensures.state) c.abort_begin.ensures.restarts i.4 in
+    on.1 ∙ c.self.view_is

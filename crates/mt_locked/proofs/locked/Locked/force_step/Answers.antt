@@ -1,0 +1,21 @@
+use Rattle.std.proofs.Common.{subst}
+use mathlib.Core.List.{IsPrefix}
+use Rattle.mt_mark.specs.Rule.{dones}
+use Rattle.mt_model.specs.Views.{base_of}
+use Rattle.mt_locked.specs.Seen.{LockedSeen}
+use Rattle.mt_locked.proofs.Standings.{forces_on}
+use Rattle.mt_locked.proofs.locked.Locked.force_step.Goals as goal
+
+pub invariant_of-self-2 : goal.invariant_of-self-2
+invariant_of-self-2 g c =
+    let D = g.D.Device in let b = g.J.Naming.base in let i = c.self.invariant in
+    let h = dones c.self.inside.end.view.list in let k = c.in-Stands.kernel in let n = c.force_step.new.self in
+    let on = forces_on D.seen D.may_leave b h c.self.inside.standing k n c.force_step.result c.in-Stands.is (λ s shows. c.force_step.ensures.forced (base_of b) s shows) c.force_step.ensures.restarts i.4 in
+    (i.0, i.1, i.2, i.3, on.0)
+
+pub returns-clause-book : goal.returns-clause-book
+returns-clause-book g c =
+    let D = g.D.Device in let b = g.J.Naming.base in let i = c.self.invariant in
+    let h = dones c.self.inside.end.view.list in let k = c.in-Stands.kernel in let n = c.force_step.new.self in
+    let on = forces_on D.seen D.may_leave b h c.self.inside.standing k n c.force_step.result c.in-Stands.is (λ s shows. c.force_step.ensures.forced (base_of b) s shows) c.force_step.ensures.restarts i.4 in
+    subst (λ (l : LockedSeen). IsPrefix l.book n.core.book.items) c.self.view_is on.1

@@ -1,0 +1,55 @@
+use Rattle.std.proofs.Common.{◌≡◌, ◌∙◌, ap, subst, sym}
+use Rattle.mt_mark.specs.Held.{Held}
+use Rattle.mt_mark.specs.Rule.{IsConfirmed, dones}
+use Rattle.mt_locked.specs.Seen.{LockedSeen}
+use Rattle.mt_locked.specs.Standings.{KeepsHistory, book_in}
+use Rattle.mt_locked.proofs.Books.{dones-length}
+use Rattle.mt_locked.proofs.locked.Locked.rotate.Goals as goal
+
+pub invariant_of-self : goal.invariant_of-self
+invariant_of-self g c =
+    let D = g.D.Device in let b = g.J.Naming.base in let i = c.self.invariant in let s = c.check-entered.ensures in
+    let list = c.self.inside.end.view.list in let new = c.replace_with-outcome.new.dest in
+    let kept = c.replace_with-outcome.ensures.keeps b (dones list) (dones-length list ∙ sym s.stands) i.4 in
+    subst (λ (x : Held). (x.mark ≡ g.J.Naming.mark) × (x.view.base ≡ b) × (x.view.book ≡ g.J.Naming.book) × IsConfirmed x.view × KeepsHistory D.seen D.may_leave b (dones x.view.list) new)
+    (sym s.same) (i.0, i.1, i.2, i.3, kept.0)
+
+pub invariant_of-self-else-ne : goal.invariant_of-self-else-ne
+invariant_of-self-else-ne g c =
+    let D = g.D.Device in let b = g.J.Naming.base in let i = c.self.invariant in let s = c.check-entered.ensures in
+    let list = c.self.inside.end.view.list in let new = c.replace_with-outcome.new.dest in
+    let kept = c.replace_with-outcome.ensures.keeps b (dones list) (dones-length list ∙ sym s.stands) i.4 in
+    subst (λ (x : Held). (x.mark ≡ g.J.Naming.mark) × (x.view.base ≡ b) × (x.view.book ≡ g.J.Naming.book) × IsConfirmed x.view × KeepsHistory D.seen D.may_leave b (dones x.view.list) new)
+    (sym s.same) (i.0, i.1, i.2, i.3, kept.0)
+
+pub returns-then-ne-clause-why : goal.returns-then-ne-clause-why
+returns-then-ne-clause-why g c = c.replace_with-outcome.ensures.why
+
+pub returns-then-ne-clause-did : goal.returns-then-ne-clause-did
+returns-then-ne-clause-did g c = λ did. c.replace_with-outcome.ensures.did did g.J.Naming.base (dones c.self.inside.end.view.list) c.self.invariant.4
+
+pub returns-then-ne-clause-gone : goal.returns-then-ne-clause-gone
+returns-then-ne-clause-gone g c = λ left. c.replace_with-outcome.ensures.gone (sym (ap (λ (l : LockedSeen). l.is_left) c.settle.ensures) ∙ left)
+
+pub returns-then-ne-clause-book : goal.returns-then-ne-clause-book
+returns-then-ne-clause-book g c =
+    let D = g.D.Device in let b = g.J.Naming.base in let i = c.self.invariant in let s = c.check-entered.ensures in
+    let list = c.self.inside.end.view.list in let new = c.replace_with-outcome.new.dest in
+    let kept = c.replace_with-outcome.ensures.keeps b (dones list) (dones-length list ∙ sym s.stands) i.4 in
+    ap (λ (l : LockedSeen). l.book) c.settle.ensures ∙ (ap (λ (x : Held). book_in new (dones x.view.list)) s.same ∙ (kept.1 ∙ ap (λ (l : LockedSeen). l.book) c.self.view_is))
+
+pub returns-else-ne-clause-why : goal.returns-else-ne-clause-why
+returns-else-ne-clause-why g c = c.replace_with-outcome.ensures.why
+
+pub returns-else-ne-clause-did : goal.returns-else-ne-clause-did
+returns-else-ne-clause-did g c = λ did. c.replace_with-outcome.ensures.did did g.J.Naming.base (dones c.self.inside.end.view.list) c.self.invariant.4
+
+pub returns-else-ne-clause-gone : goal.returns-else-ne-clause-gone
+returns-else-ne-clause-gone g c = c.replace_with-outcome.ensures.gone
+
+pub returns-else-ne-clause-book : goal.returns-else-ne-clause-book
+returns-else-ne-clause-book g c =
+    let D = g.D.Device in let b = g.J.Naming.base in let i = c.self.invariant in let s = c.check-entered.ensures in
+    let list = c.self.inside.end.view.list in let new = c.replace_with-outcome.new.dest in
+    let kept = c.replace_with-outcome.ensures.keeps b (dones list) (dones-length list ∙ sym s.stands) i.4 in
+    ap (λ (x : Held). book_in new (dones x.view.list)) s.same ∙ (kept.1 ∙ ap (λ (l : LockedSeen). l.book) c.self.view_is)

@@ -1,0 +1,46 @@
+-- What stands under the lock: a kernel, or the device that a rotation left of it.
+use Rattle.std.specs.Prelude.{◌++◌, ℕ, Bool, true, false, List}
+use mathlib.Core.List.{IsPrefix}
+use Rattle.mt_disk.specs.declared.device.Device.{Ghosts}
+use Rattle.mt_model.specs.History.{after}
+use Rattle.mt_model.specs.Views.{base_of}
+use Rattle.mt_model.specs.declared.history.Committed.{Committed}
+use Rattle.mt_model.specs.declared.tables.Base.{Base}
+use Rattle.mt_replay.specs.Stands.{CanRestart}
+use Rattle.mt_restart.specs.declared.standing.Standing.{Standing}
+use Rattle.mt_restart.specs.declared.standing.Standing.TheVariants.{Stands, Ended}
+use Rattle.mt_mark.specs.Rule.{dones}
+use Rattle.mt_mark.specs.declared.view.Entry.{Entry}
+use Rattle.mt_locked.specs.Began.{BeganOn}
+use Rattle.mt_locked.specs.Seen.{LockedSeen}
+
+-- A restart finds in these bytes what this book leads to from this base, or the book and some further commits.
+pub record HasBook (base : Base) (book : List Committed) (c : List ℕ) : Type 0 where
+  pub relations : ℕ
+  pub counters : ℕ
+  pub further : List Committed
+  pub found : CanRestart relations counters c (after (base_of base) (book ++ further))
+
+-- and so whatever a crash leaves of a device
+abbrev pub LeavesBook : {D : Type 0} → (D → List ℕ → Type 0) → Base → List Committed → D → Type 0
+LeavesBook may_leave base book device = (c : List ℕ) → may_leave device c → ∥ HasBook base book c ∥₁
+
+-- A kernel began on this base, and its book begins with this history. Of a device that is left alone, a crash leaves
+-- the history.
+abbrev pub KeepsHistory : {D : Type 0} → {g : Ghosts D} → (D → List ℕ) → (D → List ℕ → Type 0) → Base
+    → List Committed → Standing D g → Type 0
+KeepsHistory seen may_leave base history (Stands k) = BeganOn seen may_leave base k × IsPrefix history k.core.book.items
+KeepsHistory seen may_leave base history (Ended device) = LeavesBook may_leave base history device
+
+-- the kernel's book; or the history, if none stands
+abbrev pub book_in : {D : Type 0} → {g : Ghosts D} → Standing D g → List Committed → List Committed
+book_in (Stands k) history = k.core.book.items
+book_in (Ended device) history = history
+
+abbrev pub is_ended : {D : Type 0} → {g : Ghosts D} → Standing D g → Bool
+is_ended (Stands k) = false
+is_ended (Ended device) = true
+
+-- what contracts see of it, with the history as it is at the mark
+abbrev pub seen_in : {D : Type 0} → {g : Ghosts D} → Standing D g → List Entry → LockedSeen
+seen_in standing list = record { book = book_in standing (dones list); list = list; is_left = is_ended standing }

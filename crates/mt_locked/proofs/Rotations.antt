@@ -17,7 +17,7 @@ use Rattle.mt_restart.specs.declared.standing.Standing.TheVariants.{Stands, Ende
 use Rattle.mt_txn.specs.Restarted.{FindsMeanwhile}
 use Rattle.mt_txn.specs.Shown.{Restarts}
 use Rattle.mt_txn.specs.declared.kernel.Kernel.{Kernel}
-use Rattle.mt_locked.specs.Standings.{KeepsHistory, LeavesBook, book_in, is_ended}
+use Rattle.mt_locked.specs.Standings.{LeavesBook, is_ended}
 use Rattle.mt_locked.specs.Turns.{IsRotation, IsTurn}
 use Rattle.mt_locked.proofs.Books.{whole_front}
 use Rattle.mt_locked.proofs.Keeping.{turned_began, turned_book}

@@ -1,5 +1,5 @@
 -- What stands under the lock keeps the history, and what a crash leaves of it has the book.
-use Rattle.std.proofs.Common.{◌≡◌, ◌∙◌, ◌≤◌, ◌+◌, ◌-◌, ◌++◌, ◌∷◌, [], ℕ, List, length, take, slice_get, Some, Result, true, false, refl, sym, ap, subst, arith}
+use Rattle.std.proofs.Common.{◌≡◌, ◌∙◌, ◌+◌, ◌-◌, ◌++◌, ◌∷◌, [], ℕ, List, length, take, slice_get, Some, Result, false, refl, sym, ap, subst, arith}
 use Rattle.std.proofs.Math.Seq.{take-append-add}
 use mathlib.Core.List.{IsPrefix}
 use mathlib.Core.Logic.{∥∥₁_map}
@@ -22,7 +22,7 @@ use Rattle.mt_restart.specs.declared.standing.Standing.{Standing}
 use Rattle.mt_restart.specs.declared.standing.Standing.TheVariants.{Stands, Ended}
 use Rattle.mt_txn.specs.Events.{HasForced}
 use Rattle.mt_txn.specs.Restarted.{all_commits, FindsCommits}
-use Rattle.mt_txn.specs.Shown.{Restarts, Shows, StaysRestarting}
+use Rattle.mt_txn.specs.Shown.{Shows, StaysRestarting}
 use Rattle.mt_txn.specs.declared.answers.KernelForced.{KernelForced}
 use Rattle.mt_txn.specs.declared.kernel.Kernel.{Kernel}
 use Rattle.mt_locked.specs.Began.{BeganOn}

@@ -1,5 +1,5 @@
 -- What stands under the lock: a kernel, or the device that a rotation left of it.
-use Rattle.std.specs.Prelude.{◌≡◌, ◌++◌, ℕ, Bool, true, false, List}
+use Rattle.std.specs.Prelude.{◌++◌, ℕ, Bool, true, false, List}
 use mathlib.Core.List.{IsPrefix}
 use Rattle.mt_disk.specs.declared.device.Device.{Ghosts}
 use Rattle.mt_model.specs.History.{after}

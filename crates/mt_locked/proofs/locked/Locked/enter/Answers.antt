@@ -1,6 +1,5 @@
 use Rattle.std.proofs.Common.{◌≡◌, ℕ, ◌+◌, ◌++◌, ◌∷◌, [], List, length, slice_get, Some, ap, sym, ◌∙◌, subst, refl, arith}
 use mathlib.Core.List.{IsPrefix}
-use Rattle.mt_model.specs.declared.history.Committed.{Committed}
 use Rattle.mt_model.specs.declared.tables.Base.{Base}
 use Rattle.mt_mark.specs.Legal.{IsLegal}
 use Rattle.mt_mark.specs.declared.view.Entry.{Entry}

@@ -25,17 +25,18 @@ pub record HasBook (base : Base) (book : List Committed) (c : List ℕ) : Type 0
 abbrev pub LeavesBook : {D : Type 0} → (D → List ℕ → Type 0) → Base → List Committed → D → Type 0
 LeavesBook may_leave base book device = (c : List ℕ) → may_leave device c → ∥ HasBook base book c ∥₁
 
--- A kernel began on this base, and its book begins with this history. Of a device that is left alone, a crash leaves
--- the history.
-abbrev pub KeepsHistory : {D : Type 0} → {g : Ghosts D} → (D → List ℕ) → (D → List ℕ → Type 0) → Base
-    → List Committed → Standing D g → Type 0
-KeepsHistory seen may_leave base history (Stands k) = BeganOn seen may_leave base k × IsPrefix history k.core.book.items
-KeepsHistory seen may_leave base history (Ended device) = LeavesBook may_leave base history device
-
 -- the kernel's book; or the history, if none stands
 abbrev pub book_in : {D : Type 0} → {g : Ghosts D} → Standing D g → List Committed → List Committed
 book_in (Stands k) history = k.core.book.items
 book_in (Ended device) history = history
+
+-- A kernel began on this base, and its book begins with this history. Of a device that is left alone, a crash leaves
+-- the history.
+abbrev pub KeepsHistory : {D : Type 0} → {g : Ghosts D} → (D → List ℕ) → (D → List ℕ → Type 0) → Base
+    → List Committed → Standing D g → Type 0
+KeepsHistory seen may_leave base history (Stands k) =
+    BeganOn seen may_leave base k × IsPrefix history (book_in (Stands k) history)
+KeepsHistory seen may_leave base history (Ended device) = LeavesBook may_leave base history device
 
 abbrev pub is_ended : {D : Type 0} → {g : Ghosts D} → Standing D g → Bool
 is_ended (Stands k) = false

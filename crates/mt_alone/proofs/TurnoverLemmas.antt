@@ -10,6 +10,8 @@ use Rattle.mt_model.specs.Model.{Base}
 use Rattle.mt_model.specs.declared.history.Committed.{Committed}
 use Rattle.mt_replay.specs.Stands.{CanRestart}
 use Rattle.mt_restart.specs.Rotated.{GoesOver}
+use Rattle.mt_restart.specs.declared.standing.Standing.{Standing}
+use Rattle.mt_restart.specs.declared.standing.Standing.TheVariants.{Stands, Ended}
 use Rattle.mt_script.specs.declared.answers.Answer.{Answer}
 use Rattle.mt_script.specs.declared.lines.Line.{Line}
 use Rattle.mt_alone.proofs.LeftLemmas.{book_of}
@@ -20,7 +22,7 @@ use Rattle.mt_alone.specs.Driven.{IsBeside}
 use Rattle.mt_alone.specs.Plays.{Play, Runs, starts, goes_on}
 use Rattle.mt_alone.specs.Runs.{BesideEach, HasRunLines, HasTurned, IsCut, IsCutAtEnd, IsCutShort, IsEnded, IsLeftFor, IsStopped, IsReportedFor}
 use Rattle.mt_alone.specs.Stops.{lines_to, why_stopped}
-use Rattle.mt_alone.specs.Turnovers.{BesideFrom, GoesThrough, HasRunOn, HasRunOut, IsCutOff, IsLeftBy, IsTurnedOut, StandsForPlay, with_device, with_kernel}
+use Rattle.mt_alone.specs.Turnovers.{BesideFrom, GoesThrough, HasRunOn, HasRunOut, IsCutOff, IsLeftBy, IsTurned, IsTurnedOut, StandsForPlay, with_device, with_kernel}
 use Rattle.mt_alone.specs.declared.rotation.NotServed.{NotServed}
 use Rattle.mt_alone.specs.declared.script_run.RunFault.{RunFault}
 use Rattle.mt_alone.specs.declared.script_run.RunFault.TheVariants as fault
@@ -128,6 +130,15 @@ module _ {D : Type 0} {g : Ghosts D} (seen : D → List ℕ) (may_leave : D → 
         → IsLeftBy {g = g} seen may_leave faults k.relations k.counters (with_device why device) p
     turned_left device was now fault.Output beside restarts out (is, front) = (out.failed, stands_play device beside (out.stands p.first restarts))
     turned_left device was now (fault.Refused why) beside restarts out (is, outcome) = (is, out.failed, stands_play device beside (out.stands p.first restarts))
+
+  -- ---- what stands after a turn
+
+  module _ (faults : D → ℕ) (k : Kernel D g) where
+    pub turned_on : (n : Kernel D g) (s : Standing D g) → s ≡ Stands n → IsTurned seen may_leave faults k s → GoesOver seen may_leave k n
+    turned_on n s is turned = subst (IsTurned seen may_leave faults k) is turned
+
+    pub turned_out : (device : D) (s : Standing D g) → s ≡ Ended device → IsTurned seen may_leave faults k s → IsTurnedOut seen may_leave faults k device
+    turned_out device s is turned = subst (IsTurned seen may_leave faults k) is turned
 
   -- ---- lines in a kernel that is held in place, whose log is turned over between them
 

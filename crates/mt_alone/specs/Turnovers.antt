@@ -86,6 +86,11 @@ module _ {D : Type 0} {g : Ghosts D} (seen : D → List ℕ) (may_leave : D → 
     pub failed : 0 < faults device
     pub stands : (first : Base) → Restarts seen may_leave first k → (c : List ℕ) → may_leave device c → ∥ CanRestart k.relations k.counters c (after first k.core.book.items) ∥₁
 
+  -- so, or a kernel goes on as this one
+  abbrev pub IsTurned : Kernel D g → Standing D g → Type 0
+  IsTurned k (Stands n) = GoesOver seen may_leave k n
+  IsTurned k (Ended device) = IsTurnedOut k device
+
   -- what is left after a play if serving ended early: the kernel, or the device alone
   abbrev pub IsLeftFrom : ℕ → ℕ → RunFault → Standing D g → Play → Type 0
   IsLeftFrom relations counters why (Stands n) q = IsLeftFor seen may_leave faults q n why × RestartsFor seen may_leave relations counters q n

@@ -42,8 +42,8 @@ fn run_each<D: Device + Drop, W: Write>(
     for (at, line) in lines.iter().enumerate() {
         if live.is_none() && is_due(&kernel) {
             match turned(alloc, kernel, frames) {
-                Ok(next) => kernel = next,
-                Err(device) => {
+                Standing::Stands(next) => kernel = next,
+                Standing::Ended(device) => {
                     let why = end_refused(writer, Refusal::DeviceFailed);
                     let left = Standing::Ended(device);
                     return Err(NotServed { why, left });

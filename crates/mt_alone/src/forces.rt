@@ -6,9 +6,7 @@ ghost use Rattle.mt_alone.specs.Driven.{Eases, Fails, HasCommitted, IsForcing, N
 
 use mt_base::{Refusal, TxnNo};
 use mt_disk::Device;
-use mt_log::FORCE_STEPS;
-use mt_pool::Flushed;
-use mt_txn::{Kernel, KernelForced};
+use mt_txn::{FORCE_STEPS, Flushed, Kernel, KernelForced};
 
 /// How often a step that found no memory, or no frame, is asked again.
 pub(crate) const ASKED_AGAIN: usize = 8;

@@ -19,5 +19,5 @@ mod turns;
 pub use alone::run_script;
 pub use rotation::NotServed;
 pub use script_run::{RunFault, run_alone};
-pub use sessions::run_sessions;
+pub use sessions::{run_sessions, write_session};
 pub use stops::Stop;

@@ -1,10 +1,9 @@
 // A kernel whose log is turned over between the transactions of one session.
-ghost use Rattle.std.specs.Prelude.{◌≡◌, ◌↔◌, ◌<◌, ◌/◌, ℕ, IfErr, IfOk, IsTrue};
+ghost use Rattle.std.specs.Prelude.{◌≡◌, ◌↔◌, ◌<◌, ◌/◌, ℕ, IsTrue};
 ghost use Rattle.mt_log.specs.Words.{area_size, used};
-ghost use Rattle.mt_restart.specs.Rotated.{GoesOver};
 ghost use Rattle.mt_restart.specs.Standings.{device_at};
 ghost use Rattle.mt_alone.specs.Plays.{Play};
-ghost use Rattle.mt_alone.specs.Turnovers.{IsLeftBy, IsTurnedOut, StandsForMore};
+ghost use Rattle.mt_alone.specs.Turnovers.{IsLeftBy, IsTurned, StandsForMore};
 
 use crate::script_run::RunFault;
 use mt_disk::Device;
@@ -34,13 +33,7 @@ impl<D: Device + Drop> NotServed<D> {
             → StandsForMore D.may_leave relations counters q result.1 }
     {
         let NotServed { why, left } = self;
-        match left {
-            Standing::Stands(kernel) => {
-                kernel.can_restart();
-                (why, kernel.into_device())
-            }
-            Standing::Ended(device) => (why, device),
-        }
+        (why, left.into_device())
     }
 }
 
@@ -51,20 +44,16 @@ pub(crate) fn is_due<D: Device>(kernel: &Kernel<D>) -> bool
     kernel.used() > kernel.area_size() / 2
 }
 
-/// Turns the log over. If that is refused, the kernel goes on over its log as it is: a transaction lives, memory is
-/// wanting, or its images have no room in the other area. There is an error only if the device failed and the kernel
-/// is gone.
+/// Turns the log over, and answers what stands then. If it is refused, the kernel goes on over its log as it is: a
+/// transaction lives, memory is wanting, or its images have no room in the other area. There is no kernel only if the
+/// device failed.
 pub(crate) fn turned<D: Device + Drop>(
     alloc: Global,
     kernel: Kernel<D>,
     frames: usize,
-) -> Result<Kernel<D>, D>
-    ensures over { IfOk result (GoesOver D.seen D.may_leave kernel) }
-    ensures out { IfErr result (IsTurnedOut D.seen D.may_leave D.faults kernel) }
+) -> Standing<D>
+    ensures { IsTurned D.seen D.may_leave D.faults kernel result }
 {
     let (standing, _outcome) = rotate(alloc, kernel, frames);
-    match standing {
-        Standing::Stands(kernel) => Ok(kernel),
-        Standing::Ended(device) => Err(device),
-    }
+    standing
 }

@@ -19,8 +19,9 @@ use mt_txn::Kernel;
 use std::alloc::Global;
 use std::io::Write;
 
-/// Writes the line before a session's transcript. If the writer fails, it has written a beginning of the line.
-fn write_session<W: Write>(writer: &mut W, session: u32) -> Result<(), Unheard>
+/// Writes the line before a session's transcript: `session` and its number. If the writer fails, it has written a
+/// beginning of the line.
+pub fn write_session<W: Write>(writer: &mut W, session: u64) -> Result<(), Unheard>
     ensures all { OnOk result (Appends (W.contents writer.old) (W.contents writer.new) (session_line session)) }
     ensures front { OnErr result (AppendsFront (W.contents writer.old) (W.contents writer.new)
         (session_line session)) }
@@ -50,7 +51,7 @@ fn run_session<D: Device + Drop, W: Write>(
     ensures schema { IfOk result (λ t. SameSchema kernel t.0) }
     ensures restarts { IfOk result (λ t. StaysRestarting D.seen D.may_leave kernel t.0) }
 {
-    match write_session(writer, session) {
+    match write_session(writer, u64::from(session)) {
         Ok(()) => run_script(alloc, kernel, frames, session, stop, script, writer),
         Err(_) => {
             let left = Standing::Stands(kernel);

@@ -20,7 +20,7 @@ command_at words (Check file pages wait) e = e
 command_at words (Format file numbers wait) e = e
 command_at words (Dump file wait) e = e
 command_at words (Explain file wait) e = e
-command_at words (Run frames file workers scripts wait stop) e = e
+command_at words (Run serving wait) e = e
 command_at words (Show text) e = absurd e
 
 -- what is misread of them is their fault

@@ -14,6 +14,7 @@ use Rattle.mt_args.specs.Spelling.{AreCounters, IsNoCount, IsNoCounter, IsNoneWi
 use Rattle.mt_args.specs.declared.command.Command.{Command}
 use Rattle.mt_args.specs.declared.command.Command.TheVariants.{Try, Schedule, Check, Format, Dump, Explain, Run, Show}
 use Rattle.mt_args.specs.declared.numbers.Numbers.{Numbers}
+use Rattle.mt_args.specs.declared.run_words.Serving.{Serving}
 use Rattle.mt_args.specs.declared.command.CliFault.{CliFault}
 use Rattle.mt_args.specs.declared.command.CliFault.TheVariants.{Usage, Refused}
 use Rattle.mt_args.specs.declared.waits.TheConstants.{MAX_WAIT}
@@ -183,14 +184,14 @@ abbrev pub scripts_at : List Row → List Text
 scripts_at rows = unwrap_or (all_of (codes "script") rows) []
 
 -- frames, workers and scripts
-pub record IsServingAt (rows : List Row) (n w : ℕ) (names : List Text) : Type 0 where
-  pub frames : AreFrames (first_of (codes "frames") rows) n
-  pub workers : SpellsWithin 1 MAX_WORKERS (text_at (codes "workers") rows) w
-  pub scripts : names ≡ scripts_at rows
+pub record IsServingAt (rows : List Row) (s : Serving) : Type 0 where
+  pub frames : AreFrames (first_of (codes "frames") rows) s.frames
+  pub workers : SpellsWithin 1 MAX_WORKERS (text_at (codes "workers") rows) s.workers
+  pub scripts : map string_bytes s.scripts.items ≡ scripts_at rows
 
-abbrev pub IsServingIn : Option (Text × List Row) → ℕ → ℕ → List Text → Type 0
-IsServingIn None n w names = ⊥
-IsServingIn (Some found) n w names = IsServingAt found.1 n w names
+abbrev pub IsServingIn : Option (Text × List Row) → Serving → Type 0
+IsServingIn None s = ⊥
+IsServingIn (Some found) s = IsServingAt found.1 s
 
 -- a run is to stop that has several workers
 abbrev pub AreManyToStop : List Row → Type 0
@@ -229,8 +230,9 @@ IsEntered entered (Dump file wait) = (string_bytes file ≡ device_in entered) �
     × (name_in entered ≡ Some (codes "dump"))
 IsEntered entered (Explain file wait) = (string_bytes file ≡ device_in entered) × AreSeconds (wait_in entered) wait
     × (name_in entered ≡ Some (codes "explain"))
-IsEntered entered (Run frames file workers scripts wait stop) = (string_bytes file ≡ device_in entered) × IsServingIn entered frames workers (map string_bytes scripts.items) × AreSeconds (wait_in entered) wait × IsFlag (stop_in entered) stop
-    × (stop ≡ true → workers ≤ 1) × (name_in entered ≡ Some (codes "run"))
+IsEntered entered (Run s wait) = (string_bytes s.file ≡ device_in entered) × IsServingIn entered s
+    × AreSeconds (wait_in entered) wait × IsFlag (stop_in entered) s.stop × (s.stop ≡ true → s.workers ≤ 1)
+    × (name_in entered ≡ Some (codes "run"))
 IsEntered entered (Show text) = ⊥
 
 -- why words that the parser takes are not read: they are misspelled so, or memory was wanting
@@ -265,8 +267,7 @@ IsCommandOf words (Format file numbers wait) =
     IsEntered (subcommand_of program words) (Format file numbers wait)
 IsCommandOf words (Dump file wait) = IsEntered (subcommand_of program words) (Dump file wait)
 IsCommandOf words (Explain file wait) = IsEntered (subcommand_of program words) (Explain file wait)
-IsCommandOf words (Run frames file workers scripts wait stop) =
-    IsEntered (subcommand_of program words) (Run frames file workers scripts wait stop)
+IsCommandOf words (Run s wait) = IsEntered (subcommand_of program words) (Run s wait)
 IsCommandOf words (Show text) = IsAsking words
 
 -- words that are a command are refused for want of memory alone, but for a number that they misspell

@@ -6,7 +6,7 @@ ghost use Rattle.mt_args.specs.Spelling.{AreCounters, IsNoCount, IsNoCounter, Sp
 
 use crate::numbers::{Numbers, count_of, counters_of};
 use crate::parsers::parser;
-use crate::run_words::serving_of;
+use crate::run_words::{Serving, serving_of};
 use crate::waits::wait_in;
 use clap::ArgMatches;
 use clap::error::ErrorKind;
@@ -51,15 +51,10 @@ pub enum Command {
         file: String,
         wait: usize,
     },
-    /// Opens the device in this file with so many frames, and serves the scripts of these names to it; `-` is standard
-    /// input. So many workers serve at once; one serves them one after the other.
+    /// Opens the device in a file, and serves scripts to it.
     Run {
-        frames: usize,
-        file: String,
-        workers: usize,
-        scripts: Vec<String>,
+        serving: Serving,
         wait: usize,
-        stop: bool,
     },
     /// Prints this text: the help or the version.
     Show {

@@ -9,3 +9,4 @@ mod waits;
 
 pub use command::{CliFault, Command, command_of};
 pub use numbers::Numbers;
+pub use run_words::Serving;

@@ -11,6 +11,21 @@ use clap::ArgMatches;
 use mt_base::limits::{MAX_FRAMES, MAX_WORKERS, MIN_FRAMES};
 use std::alloc::{AllocError, Global};
 
+/// What `run` is asked to serve: scripts, to the device in a file.
+#[derive(Debug, Drop)]
+pub struct Serving {
+    /// The file of the device.
+    pub file: String,
+    /// Pages that its kernel keeps in frames.
+    pub frames: usize,
+    /// How many workers serve at once. One serves the scripts one after the other.
+    pub workers: usize,
+    /// The names of the scripts; `-` is standard input.
+    pub scripts: Vec<String>,
+    /// Whether one worker is to stop at a line that is refused with anything but 9 and 14.
+    pub stop: bool,
+}
+
 /// Frames if none are asked for.
 const FRAMES: usize = 256;
 
@@ -108,12 +123,12 @@ pub(crate) fn serving_of(alloc: Global, found: &ArgMatches) -> Result<Command, C
     }
     let file = required_file(alloc, found)?;
     let scripts = scripts_in(alloc, found)?;
-    Ok(Command::Run {
-        frames,
+    let serving = Serving {
         file,
+        frames,
         workers,
         scripts,
-        wait,
         stop,
-    })
+    };
+    Ok(Command::Run { serving, wait })
 }

@@ -20,9 +20,10 @@ use Rattle.mt_txn.specs.Turned.{HasNobody}
 use Rattle.mt_txn.specs.declared.kernel.Kernel.{Kernel}
 use Rattle.mt_alone.proofs.LeftLemmas.{stands_more}
 use Rattle.mt_restart.proofs.Living.{stands_book}
-use Rattle.mt_cli.proofs.ServeLemmas.{held_before, put_back}
+use Rattle.mt_device_commands.proofs.HeldLemmas.{held_before}
+use Rattle.mt_cli.proofs.ServeLemmas.{put_back}
 use Rattle.mt_cli.specs.Serves.{AreServedAtOnce, AreServedAtOnceIn, AreServedBy, AreUnservedBy, IsServedAtOnce, IsServedIn, IsUnservedAtOnce, IsUnservedIn, failed_at_once, let_go, no_device_at_once, too_many_at_once, unheard_at_once, IsEndOf, texts_in_order}
-use Rattle.mt_cli.specs.declared.faults.Fault.{Fault}
+use Rattle.mt_report.specs.declared.faults.Fault.{Fault}
 
 -- ---- the kernel
 

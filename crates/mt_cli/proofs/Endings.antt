@@ -7,20 +7,21 @@ use Rattle.mt_script.specs.Answers.{AppendsFront}
 use Rattle.mt_script.proofs.TextLemmas.{appends_kept}
 use Rattle.mt_args.specs.declared.command.Command.{Command}
 use Rattle.mt_args.specs.declared.command.Command.TheVariants.{Try, Schedule, Check, Format, Dump, Explain, Run, Show}
-use Rattle.mt_cli.specs.declared.faults.Fault.{Fault}
-use Rattle.mt_cli.specs.declared.faults.Fault.TheVariants.{Output}
-use Rattle.mt_cli.specs.Performs.{Around, HaveRun, IsDone, IsGivenUp, IsScheduled, IsReportedOf, IsTried, IsUndone, IsUnscheduled, unheard}
-use Rattle.mt_cli.specs.Checks.{HasChecked}
-use Rattle.mt_cli.specs.Dumps.{HasDumped}
-use Rattle.mt_cli.specs.Explains.{HasExplained}
-use Rattle.mt_cli.specs.Events.{IsSchedule}
+use Rattle.mt_report.specs.declared.faults.Fault.{Fault}
+use Rattle.mt_report.specs.declared.faults.Fault.TheVariants.{Output}
+use Rattle.mt_cli.specs.Performs.{Around, HaveRun, IsDone, IsGivenUp, IsReported, IsScheduled, IsTried, IsUndone, IsUnscheduled, unheard}
+use Rattle.mt_report.specs.Advice.{IsReportedOf}
+use Rattle.mt_device_commands.specs.Checks.{HasChecked}
+use Rattle.mt_device_commands.specs.Dumps.{HasDumped}
+use Rattle.mt_device_commands.specs.Explains.{HasExplained}
+use Rattle.mt_report.specs.Events.{IsSchedule}
 use Rattle.mt_folder.specs.Folders.{Files}
 use Rattle.mt_folder.specs.declared.reason.Reason.{Reason}
 use Rattle.mt_alone.specs.declared.stops.Stop.{Stop}
 use Rattle.mt_cli.specs.Serves.{HasRunScripts, HaveServedOn, IsServedAtOnce, IsServedIn}
 use Rattle.mt_model.specs.Model.{Base}
 use Rattle.mt_script.specs.declared.lines.Line.{Line}
-use Rattle.mt_cli.specs.Tellings.{reported_lines}
+use Rattle.mt_report.specs.Tellings.{reported_lines}
 use Rattle.mt_world.specs.declared.events.Answer.{Answer as Reported}
 use Rattle.mt_world.specs.declared.events.Event.{Event}
 
@@ -95,7 +96,7 @@ module _ {D : Type 0} (g : Ghosts D) where
   done_kept (Format file numbers wait) a was mid now done kept = (done.0, keeps_kept was mid now done.1 kept)
   done_kept (Dump file wait) a was mid now done kept = (dumped_kept _ was mid now done.0 kept, done.1)
   done_kept (Explain file wait) a was mid now done kept = (explained_kept _ was mid now done.0 kept, done.1)
-  done_kept (Run frames file workers scripts wait stop) a was mid now done kept = run_kept stop workers _ _ _ _ _ was mid now done kept
+  done_kept (Run s wait) a was mid now done kept = run_kept s.stop s.workers _ _ _ _ _ was mid now done kept
   done_kept (Show text) a was mid now done kept = (appends_kept was mid now _ done.0 kept, done.1)
 
   -- the output failed within the answers of a run
@@ -108,3 +109,15 @@ module _ {D : Type 0} (g : Ghosts D) where
       → Keeps mid now → MatchResult r (λ u. IsReportedOf command reason Output old new) (λ fault. IsReportedOf command reason fault old new) → IsGivenUp g command reason a was now old new
   given_up_of command reason a was mid now old new (Ok u) done undone kept outcome = record { given_up = (Output, mid, inr (done, refl), kept, outcome) }
   given_up_of command reason a was mid now old new (Err fault) done undone kept outcome = record { given_up = (fault, mid, inl undone, kept, outcome) }
+
+-- ---- what is reported
+
+-- a fault is that of a command that did not end well, and else that of an output that was not flushed
+pub reported_as : (command : Command) (reason : Option Reason) (old new : Option (List ℕ)) (r : Result (Unit {0}) Fault) (fault : Fault) → MatchResult r (λ u. fault ≡ Output) (λ f. fault ≡ f) → IsReportedOf command reason fault old new
+    → MatchResult r (λ u. IsReportedOf command reason Output old new) (λ f. IsReportedOf command reason f old new)
+reported_as command reason old new (Ok u) fault is outcome = subst (λ (f : Fault). IsReportedOf command reason f old new) is outcome
+reported_as command reason old new (Err why) fault is outcome = subst (λ (f : Fault). IsReportedOf command reason f old new) is outcome
+
+pub is_reported : (command : Command) (reason : Option Reason) (old new : Option (List ℕ)) (r : Result (Unit {0}) Fault) → MatchResult r (λ u. IsReportedOf command reason Output old new) (λ f. IsReportedOf command reason f old new) → IsReported old new
+is_reported command reason old new (Ok u) outcome = (command, reason, Output, outcome)
+is_reported command reason old new (Err fault) outcome = (command, reason, fault, outcome)

@@ -1,11 +1,5 @@
-pub mod AdviceLemmas
 pub mod AtOnceLemmas
 pub mod Endings
-pub mod EventLemmas
-pub mod CheckLemmas
-pub mod DumpLemmas
-pub mod ExcessLemmas
-pub mod ExplainLemmas
 pub mod ReadLemmas
 pub mod ServeLemmas
 pub mod Trials

@@ -10,10 +10,11 @@ use Rattle.mt_script.specs.declared.reader.Script.{Script}
 use Rattle.mt_script.specs.declared.lines.Line.{Line}
 use Rattle.mt_folder.specs.Folders.{AreKept, Files, ReadsAll, known_in}
 use Rattle.mt_script.specs.declared.words.ScriptWord.{ScriptWord}
-use Rattle.mt_cli.specs.declared.read_faults.ReadFault.{ReadFault}
-use Rattle.mt_cli.specs.declared.read_faults.ReadFault.TheVariants.{Refused}
-use Rattle.mt_cli.specs.declared.read_faults.TheConstants.{MAX_TEXT_BYTES}
-use Rattle.mt_cli.specs.Reads.{AreRead, AreUnread, IsReadAt, IsUnreadScript, bytes_at, file_in, held_by, input_behind, is_fed, is_input, is_overlong, none_read, one_read, source_of}
+use Rattle.mt_report.specs.declared.read_faults.ReadFault.{ReadFault}
+use Rattle.mt_report.specs.declared.read_faults.ReadFault.TheVariants.{Refused}
+use Rattle.mt_cli.specs.declared.text_faults.TheConstants.{MAX_TEXT_BYTES}
+use Rattle.mt_cli.specs.Reads.{AreRead, AreUnread, IsReadAt, IsUnreadScript, bytes_at, file_in, held_by, input_behind, is_fed, is_overlong, none_read, one_read, source_of}
+use Rattle.mt_report.specs.ReadFaults.{is_input}
 
 -- the file that a name names has the bytes of its source
 pub held_by_file : (files : Files) (name input : Option (List ℕ)) → held_by files (file_in name) input ≡ source_of files name input

@@ -21,15 +21,16 @@ use Rattle.mt_script.specs.declared.lines.Line.{Line}
 use Rattle.mt_alone.specs.declared.rotation.NotServed.{NotServed}
 use Rattle.mt_alone.specs.declared.script_run.RunFault.{RunFault}
 use Rattle.mt_alone.specs.declared.script_run.RunFault.TheVariants as run
+use Rattle.mt_device_commands.proofs.HeldLemmas.{held_before}
 use Rattle.mt_folder.proofs.FolderLemmas.{kept_then, put_then}
 use Rattle.mt_alone.specs.Stops.{scripts_to}
 use Rattle.mt_alone.specs.declared.stops.Stop.{Stop}
 use Rattle.mt_cli.proofs.Trials.{ended_among, played}
-use Rattle.mt_folder.specs.Folders.{AreKept, Files, IsFileRefusal, IsHeld, IsLent, Puts}
+use Rattle.mt_folder.specs.Folders.{AreKept, Files, IsFileRefusal, IsLent, Puts}
 use Rattle.mt_cli.specs.Serves.{AreShortOn, AreUnserved, HasNotRun, HaveServedOn, IsOnBase, IsServedIn, IsShortOf, IsShortWithin, ServesFrom, unheard_session, short_session, IsUnservedIn, unserved, no_device, StandForAll, StandForMore, cut_among, end_of, first_on, stopped_among, unread_scripts}
 use Rattle.mt_cli.specs.Reads.{HasNoScript}
-use Rattle.mt_cli.specs.declared.faults.Fault.{Fault}
-use Rattle.mt_cli.specs.declared.faults.Fault.TheVariants.{Output, Refused, Stopped, Unread, Unscheduled}
+use Rattle.mt_report.specs.declared.faults.Fault.{Fault}
+use Rattle.mt_report.specs.declared.faults.Fault.TheVariants.{Output, Refused, Stopped, Unread, Unscheduled}
 use Rattle.std.specs.Io.KnownBytes.{Keeps}
 
 module _ {D : Type 0} {g : Ghosts D} (seen : D → List ℕ) (may_leave : D → List ℕ → Type 0) where
@@ -179,9 +180,6 @@ pub put_back : (old mid new : Files) (name d : List ℕ) → IsLent old mid name
 put_back old mid new name d lent put = record { outcome = put.outcome ∙ lent.outcome; held = put.held; others = λ other apart. put.others other apart ∙ lent.others other apart }
 
 -- behind reads that left each file as it was
-pub held_before : (old mid : Files) (name bytes : List ℕ) → AreKept old mid → IsHeld mid name bytes → IsHeld old name bytes
-held_before old mid name bytes kept held = λ is. sym (kept.all name) ∙ held (kept.outcome ∙ is)
-
 pub served_then : (stop : Bool) (old mid new : Files) (name : List ℕ) (scripts : List (List Line)) (was now : Option (List ℕ)) → AreKept old mid → IsServedIn stop mid new name scripts was now → IsServedIn stop old new name scripts was now
 served_then stop old mid new name scripts was now kept x = record {
   before = x.before;

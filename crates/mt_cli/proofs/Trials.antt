@@ -12,8 +12,8 @@ use Rattle.mt_model.specs.Views.{rows_of}
 use Rattle.mt_restart.specs.Rotated.{GoesOver}
 use Rattle.mt_txn.specs.Shown.{Restarts, Shows}
 use Rattle.mt_txn.specs.declared.kernel.Kernel.{Kernel}
-use Rattle.mt_restart.specs.Schemas.{counters_in, relations_in, schema_base}
-use Rattle.mt_restart.specs.declared.schema.Schema.{Schema}
+use Rattle.mt_format.specs.Schemas.{counters_in, relations_in, schema_base}
+use Rattle.mt_format.specs.declared.schema.Schema.{Schema}
 use Rattle.mt_script.specs.declared.lines.Line.{Line}
 use Rattle.mt_script.specs.declared.answers.Answer.{Answer}
 use Rattle.mt_alone.specs.declared.script_run.RunFault.{RunFault}

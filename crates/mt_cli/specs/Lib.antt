@@ -1,13 +1,3 @@
-pub mod Advice
-pub mod Checks
-pub mod Dumps
-pub mod EventWords
-pub mod Events
-pub mod Excess
-pub mod Explains
-pub mod Formattings
 pub mod Performs
 pub mod Reads
 pub mod Serves
-pub mod Tellings
-pub mod WholeEvents

@@ -8,37 +8,36 @@ use Rattle.mt_disk.specs.declared.device.Device.{Ghosts}
 use Rattle.mt_model.specs.Views.{rows_of}
 use Rattle.mt_txn.specs.Shown.{Restarts}
 use Rattle.mt_txn.specs.declared.kernel.Kernel.{Kernel}
-use Rattle.mt_restart.specs.Schemas.{counters_in, device_bytes, relations_in, schema_base}
-use Rattle.mt_restart.specs.declared.schema.Schema.{Schema}
+use Rattle.mt_format.specs.Schemas.{counters_in, device_bytes, relations_in, schema_base}
+use Rattle.mt_format.specs.declared.schema.Schema.{Schema}
 use Rattle.mt_script.specs.declared.answers.Answer.{Answer}
 use Rattle.mt_script.specs.declared.lines.Line.{Line}
 use Rattle.mt_script.specs.declared.words.ScriptWord.{ScriptWord}
 use Rattle.mt_args.specs.declared.command.Command.{Command}
 use Rattle.mt_args.specs.declared.command.Command.TheVariants.{Try, Schedule, Check, Format, Dump, Explain, Run, Show}
-use Rattle.mt_args.specs.declared.numbers.Numbers.{Numbers}
-use Rattle.mt_cli.specs.declared.faults.Fault.{Fault}
-use Rattle.mt_cli.specs.declared.faults.Fault.TheVariants.{Output, Refused, Stopped, Unread, Unscheduled}
+use Rattle.mt_report.specs.declared.faults.Fault.{Fault}
+use Rattle.mt_report.specs.declared.faults.Fault.TheVariants.{Output, Refused, Stopped, Unread, Unscheduled}
 use Rattle.mt_alone.specs.declared.script_run.RunFault.{RunFault}
 use Rattle.mt_alone.specs.declared.stops.Stop.{Stop}
 use Rattle.mt_script.specs.Answers.{AppendsFront, transcript_text}
 use Rattle.mt_alone.specs.Driven.{IsBeside}
 use Rattle.mt_alone.specs.Plays.{Play, Runs}
 use Rattle.mt_alone.specs.Stops.{Ends, IsStopIn, lines_to, why_stopped}
-use Rattle.mt_cli.specs.Advice.{reported_of, unread_text}
-use Rattle.mt_cli.specs.Checks.{HasChecked, IsUnchecked}
+use Rattle.mt_report.specs.Advice.{IsReportedOf, unread_text}
+use Rattle.mt_device_commands.specs.Checks.{HasChecked, IsUnchecked}
 use Rattle.mt_args.specs.CommandLines.{IsCommandOf}
-use Rattle.mt_cli.specs.Dumps.{AreLeftBy, HasDumped, IsUndumped, StandsOn}
-use Rattle.mt_cli.specs.Explains.{HasExplained, IsUnexplained}
-use Rattle.mt_cli.specs.Events.{IsEvent, IsSchedule, event_text}
+use Rattle.mt_device_commands.specs.Dumps.{AreLeftBy, HasDumped, IsUndumped, IsRestarted}
+use Rattle.mt_device_commands.specs.Explains.{HasExplained, IsUnexplained}
+use Rattle.mt_report.specs.Events.{IsEvent, IsSchedule, event_text}
 use Rattle.mt_folder.specs.Folders.{AreKept, Files, IsUnmade, known_in}
 use Rattle.mt_folder.specs.declared.reason.Reason.{Reason}
-use Rattle.mt_cli.specs.Formattings.{Formats, IsUnformed}
-use Rattle.mt_cli.specs.EventWords.{event_word}
+use Rattle.mt_device_commands.specs.Formattings.{Formats, IsFormatFault}
+use Rattle.mt_report.specs.EventWords.{event_word}
 use Rattle.mt_cli.specs.Reads.{IsUnread, IsUnreadScript, source_of}
-use Rattle.mt_cli.specs.declared.event_words.EventWord.{EventWord}
-use Rattle.mt_cli.specs.declared.read_faults.ReadFault.{ReadFault}
+use Rattle.mt_report.specs.declared.event_words.EventWord.{EventWord}
+use Rattle.mt_report.specs.declared.read_faults.ReadFault.{ReadFault}
 use Rattle.mt_cli.specs.Serves.{AreEndedBy, HasNotRun, HasRunScripts, fault_of}
-use Rattle.mt_cli.specs.Tellings.{reported_lines}
+use Rattle.mt_report.specs.Tellings.{reported_lines}
 use Rattle.mt_script.specs.Scripts.{IsScript}
 use Rattle.mt_alone.specs.Runs.{HasTurned, IsReportedFor, last_line}
 use Rattle.mt_world.specs.Schedules.{HasRunTo}
@@ -113,21 +112,16 @@ IsDone g (Try script stop) a was now = IsTried g stop (source_of a.before (optio
 IsDone g (Schedule file) a was now = IsScheduled g (source_of a.before (option_map string_bytes file) a.input) was now × AreKept a.before a.after
 IsDone g (Check file pages wait) a was now = HasChecked pages (known_in a.before (string_bytes file)) was now × AreKept a.before a.after
 IsDone g (Format file numbers wait) a was now = Formats numbers a.before a.after (string_bytes file) × Keeps was now
-IsDone g (Dump file wait) a was now = HasDumped (known_in a.before (string_bytes file)) was now × StandsOn a.before a.after (string_bytes file)
+IsDone g (Dump file wait) a was now = HasDumped (known_in a.before (string_bytes file)) was now × IsRestarted a.before a.after (string_bytes file)
 IsDone g (Explain file wait) a was now = HasExplained (known_in a.before (string_bytes file)) was now × AreKept a.before a.after
-IsDone g (Run frames file workers scripts wait stop) a was now = HasRunScripts stop workers a.before a.after (string_bytes file) (map string_bytes scripts.items) a.input was now
+IsDone g (Run s wait) a was now = HasRunScripts s.stop s.workers a.before a.after (string_bytes s.file) (map string_bytes s.scripts.items) a.input was now
 IsDone g (Show text) a was now = Appends was now (string_bytes text) × AreKept a.before a.after
 
 -- and what the command that words name leaves there
 abbrev pub IsWordsDone : {D : Type 0} → Ghosts D → List (List ℕ) → Around → Option (List ℕ) → Option (List ℕ) → Type 0
 IsWordsDone g words a was now = (command : Command) × IsCommandOf words command × IsDone g command a was now
 
--- the line of a fault of a command was written, and after it what it is about and what to do, or a beginning of that.
--- The folder's call failed for this reason, if one did.
-abbrev pub IsReportedOf : Command → Option Reason → Fault → Option (List ℕ) → Option (List ℕ) → Type 0
-IsReportedOf command reason fault was now = AppendsFront was now (reported_of command reason fault)
-
--- so of some fault
+-- a fault of some command was reported, for some reason
 abbrev pub IsReported : Option (List ℕ) → Option (List ℕ) → Type 0
 IsReported was now =
     (command : Command) × (reason : Option Reason) × (fault : Fault) × IsReportedOf command reason fault was now
@@ -173,14 +167,6 @@ pub data IsUnscheduled {D : Type 0} (g : Ghosts D) (bytes was now : Option (List
   unheard : (events : List Event) (answers : List Reported) → IfSome bytes (λ bs. IsSchedule bs events) → HaveRun g events answers
       → AppendsFront was now (reported_lines answers) → IsUnscheduled g bytes was now Output
 
--- why nothing was formatted of these numbers
-abbrev pub IsFormatFault : Numbers → Fault → Type 0
-IsFormatFault numbers Output = ⊥
-IsFormatFault numbers (Refused why) = IsUnformed numbers why
-IsFormatFault numbers (Stopped at) = ⊥
-IsFormatFault numbers (Unread why at) = ⊥
-IsFormatFault numbers (Unscheduled why) = ⊥
-
 -- what a command that ended with this fault left on the output, and of the files
 abbrev pub IsUndone : {D : Type 0} → Ghosts D → Command → Around → Option (List ℕ) → Option (List ℕ) → Fault → Type 0
 IsUndone g (Try script stop) a was now fault = IsUntried g stop (source_of a.before (option_map string_bytes script) a.input) was now fault × AreKept a.before a.after
@@ -189,7 +175,7 @@ IsUndone g (Check file pages wait) a was now fault = IsUnchecked pages (known_in
 IsUndone g (Format file numbers wait) a was now fault = IsFormatFault numbers fault × AreKept a.before a.after × Keeps was now
 IsUndone g (Dump file wait) a was now fault = IsUndumped (known_in a.before (string_bytes file)) was now fault × AreLeftBy a.before a.after (string_bytes file) fault
 IsUndone g (Explain file wait) a was now fault = IsUnexplained (known_in a.before (string_bytes file)) was now fault × AreKept a.before a.after
-IsUndone g (Run frames file workers scripts wait stop) a was now fault = HasNotRun stop workers a.before a.after (string_bytes file) (map string_bytes scripts.items) a.input was now fault
+IsUndone g (Run s wait) a was now fault = HasNotRun s.stop s.workers a.before a.after (string_bytes s.file) (map string_bytes s.scripts.items) a.input was now fault
 IsUndone g (Show text) a was now fault = (fault ≡ Output) × AppendsFront was now (string_bytes text) × AreKept a.before a.after
 
 -- A command ended with a fault, or it was done and the output could not be flushed. The error output reports it, and

@@ -1,8 +1,6 @@
 -- Scripts that are read by name: from files, and from the input if the name is a dash.
-use Rattle.std.specs.Prelude.{ℕ, ◌≡◌, Bool, cond, false, true, List, [], ◌∷◌, ◌++◌, Option, Some, None, IfSome, bytes_eq, codes, length, nat_eq, nat_lt}
+use Rattle.std.specs.Prelude.{ℕ, ◌≡◌, Bool, cond, false, true, List, [], ◌∷◌, ◌++◌, Option, Some, None, IfSome, codes, length, nat_eq, nat_lt}
 use Rattle.std.specs.List.{starts_with}
-use Rattle.mt_base.specs.declared.refusal.Refusal.{Refusal}
-use Rattle.mt_base.specs.declared.refusal.Refusal.TheVariants as refusal
 use Rattle.mt_frame.specs.declared.TheConstants.{OPEN_GATE}
 use Rattle.mt_script.specs.Grammars.{IsFirstBad}
 use Rattle.mt_script.specs.LineFaults.{fault_of_numbered, script_word}
@@ -11,17 +9,14 @@ use Rattle.mt_script.specs.Scripts.{IsScript}
 use Rattle.mt_script.specs.declared.lines.Line.{Line}
 use Rattle.mt_script.specs.declared.words.ScriptWord.{ScriptWord}
 use Rattle.mt_folder.specs.Folders.{Files, IsUnmade, known_in}
-use Rattle.mt_cli.specs.declared.faults.Fault.{Fault}
-use Rattle.mt_cli.specs.declared.faults.Fault.TheVariants as fault
-use Rattle.mt_cli.specs.declared.read_faults.TextFault.{TextFault}
-use Rattle.mt_cli.specs.declared.read_faults.TextFault.TheVariants.{Overlong, Device, Line as BadAt}
-use Rattle.mt_cli.specs.declared.read_faults.TheConstants.{MAX_TEXT_BYTES}
-use Rattle.mt_cli.specs.declared.read_faults.ReadFault.{ReadFault}
-use Rattle.mt_cli.specs.declared.read_faults.ReadFault.TheVariants.{Refused, BadLine}
-
--- the name represents the input
-abbrev pub is_input : List ℕ → Bool
-is_input name = bytes_eq name (codes "-")
+use Rattle.mt_report.specs.ReadFaults.{is_input}
+use Rattle.mt_report.specs.declared.faults.Fault.{Fault}
+use Rattle.mt_report.specs.declared.faults.Fault.TheVariants as fault
+use Rattle.mt_report.specs.declared.read_faults.TextFault.{TextFault}
+use Rattle.mt_report.specs.declared.read_faults.TextFault.TheVariants.{Overlong, Device, Line as BadAt}
+use Rattle.mt_cli.specs.declared.text_faults.TheConstants.{MAX_TEXT_BYTES}
+use Rattle.mt_report.specs.declared.read_faults.ReadFault.{ReadFault}
+use Rattle.mt_report.specs.declared.read_faults.ReadFault.TheVariants.{Refused, BadLine}
 
 -- the bytes of a script of this name, if they are known
 abbrev pub bytes_at : Files → List ℕ → Option (List ℕ) → Option (List ℕ)
@@ -50,11 +45,6 @@ held_by files (Some name) input = known_in files name
 -- the bytes begin as a device does: an open gate, and letters
 abbrev pub is_device : List ℕ → Bool
 is_device bytes = starts_with nat_eq bytes (OPEN_GATE ∷ codes "MTK1")
-
--- the refusal of what was not read
-abbrev pub refusal_in : {W : Type 0} → ReadFault W → Refusal
-refusal_in (Refused why) = why
-refusal_in (BadLine number fault) = refusal.BadLine number
 
 -- the bytes are more than any script or schedule has
 abbrev pub is_overlong : List ℕ → Bool

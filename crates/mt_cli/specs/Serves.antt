@@ -25,12 +25,12 @@ use Rattle.mt_alone.specs.declared.script_run.RunFault.{RunFault}
 use Rattle.mt_alone.specs.declared.script_run.RunFault.TheVariants as run
 use Rattle.mt_alone.specs.declared.stops.Stop.{Stop}
 use Rattle.mt_shared.specs.Opens.{IsBaseOf}
-use Rattle.mt_cli.specs.Dumps.{IsBarred, IsEarly, StandAs}
+use Rattle.mt_device_commands.specs.Dumps.{IsUnsurveyed, IsEarly, StandAs}
 use Rattle.mt_folder.specs.Folders.{AreKept, Files, IsFileRefusal, IsHeld, IsLent, IsUnmade, Puts, known_in}
 use Rattle.mt_cli.specs.Reads.{AreUnread, HaveBeenRead}
-use Rattle.mt_cli.specs.declared.faults.Fault.{Fault}
-use Rattle.mt_cli.specs.declared.read_faults.ReadFault.{ReadFault}
-use Rattle.mt_cli.specs.declared.faults.Fault.TheVariants.{Output, Refused, Stopped, Unread}
+use Rattle.mt_report.specs.declared.faults.Fault.{Fault}
+use Rattle.mt_report.specs.declared.read_faults.ReadFault.{ReadFault}
+use Rattle.mt_report.specs.declared.faults.Fault.TheVariants.{Output, Refused, Stopped, Unread}
 
 -- ---- how a run ends
 
@@ -125,7 +125,7 @@ ServesFrom stop ending c scripts was now d =
 pub data AreUnserved (stop : Bool) (c : List ℕ) (scripts : List (List Line)) (was now : Option (List ℕ)) (d : List ℕ) : Fault → Type 0 where
   too_many : MAX_SESSIONS < length scripts → d ≡ c → Keeps was now
       → AreUnserved stop c scripts was now d (Refused refusal.BadLength)
-  not_begun : (why : Refusal) → IsBarred c why → StandAs c d → (IsEarly why → d ≡ c) → Keeps was now → AreUnserved stop c scripts was now d (Refused why)
+  not_begun : (why : Refusal) → IsUnsurveyed c why → StandAs c d → (IsEarly why → d ≡ c) → Keeps was now → AreUnserved stop c scripts was now d (Refused why)
   stopped_among : (at : Stop) → ServesFrom stop (Some at) c scripts was now d
       → AreUnserved stop c scripts was now d (Stopped at)
   cut_among : (why : RunFault) (fault : Fault) → IsOnBase c (λ relations counters b. AreShortOn relations counters b scripts was now d why) → fault ≡ fault_of why

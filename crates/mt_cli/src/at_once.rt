@@ -1,5 +1,5 @@
 // `run` by several workers: scripts, served at once to the device in a file.
-ghost use Rattle.std.specs.Prelude.{◌≡◌, ℕ, IfErr, IfOk, List, OnErr, OnOk, false, length, map};
+ghost use Rattle.std.specs.Prelude.{◌≡◌, ℕ, IfErr, IfOk, List, OnErr, OnOk, false, length, map, string_bytes};
 ghost use Rattle.std.specs.Io.KnownBytes.{Appends};
 ghost use Rattle.mt_script.specs.Answers.{AppendsFront};
 ghost use Rattle.mt_script.specs.declared.lines.Line.{Line};
@@ -10,14 +10,15 @@ ghost use Rattle.mt_txn.specs.Shown.{is_failed};
 ghost use Rattle.mt_txn.specs.Turned.{HasNobody};
 ghost use Rattle.mt_cli.specs.Serves.{AreServedAtOnce, IsEndOf, IsServedAtOnce, IsUnservedAtOnce, session_text, texts_in_order};
 
-use crate::faults::Fault;
-use crate::waits::Patience;
-use itoa::Buffer;
+use mt_alone::write_session;
+use mt_args::Serving;
 use mt_base::Refusal;
 use mt_base::limits::MAX_SESSIONS;
+use mt_device_commands::Patience;
 use mt_disk::Device;
 use mt_folder::Folder;
-use mt_script::{Script, Unheard, put_all};
+use mt_report::Fault;
+use mt_script::{Script, Unheard, put};
 use mt_server::{Served, Transcript, serve};
 use mt_shared::Gate;
 use mt_txn::Kernel;
@@ -26,16 +27,6 @@ use std::io::Write;
 use std::sync::Wait;
 use std::thread::Threads;
 use std::time::Clock;
-
-/// Which device is served: the name of its file, the pages in frames, how many workers serve it, and whether one worker
-/// is to stop at a refusal.
-#[derive(Clone, Copy)]
-pub(crate) struct Service<'a> {
-    pub name: &'a str,
-    pub frames: usize,
-    pub workers: usize,
-    pub stop: bool,
-}
 
 /// What scripts that were served at once leave: their transcripts, the device, and whether it failed meanwhile.
 struct Behind<D: Device> {
@@ -57,7 +48,6 @@ fn left_behind<D: Device + Drop>(kernel: Kernel<D>, transcripts: Vec<Transcript>
         → AreReported (is_failed kernel) scripts transcripts.items kernel.core.book.items
         → AreServedAtOnce result.has_failed c scripts result.transcripts.items (D.seen result.device) }
 {
-    kernel.can_restart();
     let has_failed = is_cut_off(&kernel);
     Behind {
         transcripts,
@@ -91,10 +81,10 @@ fn serve_over_at_once<
     Ok(left_behind(kernel, transcripts))
 }
 
-/// Writes the line of a session, and its transcript. If the writer fails, it has written a beginning of them.
-fn write_session<W: Write>(
+/// Writes a transcript after the line of its session. If the writer fails, it has written a beginning of them.
+fn write_transcript<W: Write>(
     writer: &mut W,
-    session: usize,
+    session: u64,
     transcript: &Transcript,
 ) -> Result<(), Unheard>
     ensures all { OnOk result (Appends (W.contents writer.old) (W.contents writer.new)
@@ -102,12 +92,8 @@ fn write_session<W: Write>(
     ensures front { OnErr result (AppendsFront (W.contents writer.old) (W.contents writer.new)
         (session_text session transcript.now)) }
 {
-    let mut digits = Buffer::new();
-    let digits = digits.format(session);
-    put_all(
-        writer,
-        &[b"session ", digits.as_bytes(), b"\n", transcript.as_bytes()],
-    )
+    write_session(writer, session)?;
+    put(writer, transcript.as_bytes())
 }
 
 /// Writes transcripts in order, as sessions from 1 on. If the writer fails, it has written a beginning of them.
@@ -118,7 +104,7 @@ fn write_sessions<W: Write>(writer: &mut W, transcripts: &[Transcript]) -> Resul
         (texts_in_order transcripts.now)) }
 {
     for (place, transcript) in transcripts.iter().enumerate() {
-        write_session(writer, place + 1, transcript)?;
+        write_transcript(writer, place as u64 + 1, transcript)?;
     }
     Ok(())
 }
@@ -146,8 +132,8 @@ fn tell_sessions<O: Write>(
     }
 }
 
-/// Serves scripts by several workers to the device in the file of this name, and writes their transcripts. The gate
-/// is called at what it wants to see meanwhile.
+/// Serves these scripts, which were read, by several workers to the device in its file, and writes their transcripts.
+/// The gate is called at what it wants to see meanwhile.
 pub(crate) fn serve_file_at_once<
     F: Folder,
     O: Write,
@@ -158,31 +144,32 @@ pub(crate) fn serve_file_at_once<
     alloc: Global,
     patience: &Patience<'_, R>,
     folder: &mut F,
-    service: Service,
+    serving: &Serving,
     scripts: Vec<Script>,
     out: &mut O,
     gate: G,
 ) -> Result<(), Fault>
-    ensures served { OnOk result (IsServedAtOnce (F.files folder.old) (F.files folder.new) service.entry.name.now
-        (map lines_in scripts.items) (O.contents out.old) (O.contents out.new)) }
-    ensures unserved { IfErr result (IsUnservedAtOnce (F.files folder.old) (F.files folder.new) service.entry.name.now
-        (map lines_in scripts.items) (O.contents out.old) (O.contents out.new)) }
+    ensures served { OnOk result (IsServedAtOnce (F.files folder.old) (F.files folder.new)
+        (string_bytes serving.now.file) (map lines_in scripts.items) (O.contents out.old) (O.contents out.new)) }
+    ensures unserved { IfErr result (IsUnservedAtOnce (F.files folder.old) (F.files folder.new)
+        (string_bytes serving.now.file) (map lines_in scripts.items) (O.contents out.old) (O.contents out.new)) }
 {
-    let device = match patience.device(folder, service.name) {
+    let name = serving.file.as_str();
+    let device = match patience.device(folder, name) {
         Ok(device) => device,
         Err(refusal) => return Err(Fault::Refused(refusal)),
     };
     if scripts.len() > MAX_SESSIONS {
-        folder.back(service.name, device);
+        folder.back(name, device);
         return Err(Fault::Refused(Refusal::BadLength));
     }
     match serve_over_at_once(
         rt,
         alloc,
         device,
-        service.frames,
+        serving.frames,
         scripts,
-        service.workers,
+        serving.workers,
         gate,
     ) {
         Ok(behind) => {
@@ -191,7 +178,7 @@ pub(crate) fn serve_file_at_once<
                 device,
                 has_failed,
             } = behind;
-            folder.back(service.name, device);
+            folder.back(name, device);
             tell_sessions(out, transcripts.as_slice(), has_failed)
         }
         Err(refusal) => Err(Fault::Refused(refusal)),

@@ -4,30 +4,24 @@ ghost use Rattle.mt_disk.specs.Memory.{content};
 ghost use Rattle.mt_script.specs.Answers.{AppendsFront};
 ghost use Rattle.mt_args.specs.CommandLines.{IsMistaken};
 ghost use Rattle.mt_folder.specs.Folders.{AreKept, IsUnmade};
-ghost use Rattle.mt_cli.specs.declared.faults.Fault.{Fault};
-ghost use Rattle.mt_cli.specs.Performs.{IsFirstSchema, StandsFirst, HasTried, HaveRun, IsTried, IsScheduled, IsCutTrial, IsUntried, IsUnscheduled, IsDone, IsUndone, IsWordsDone, IsGivenUp, IsWordsGivenUp, IsReported, IsReportedOf, IsWordsReported, Around};
+ghost use Rattle.mt_report.specs.declared.faults.Fault.{Fault};
+ghost use Rattle.mt_cli.specs.Performs.{IsFirstSchema, StandsFirst, HasTried, HaveRun, IsTried, IsScheduled, IsCutTrial, IsUntried, IsUnscheduled, IsDone, IsUndone, IsWordsDone, IsGivenUp, IsWordsGivenUp, IsReported, IsWordsReported, Around};
+ghost use Rattle.mt_report.specs.Advice.{IsReportedOf};
 ghost use Rattle.mt_cli.specs.Reads.{source_of};
 ghost use Rattle.std.specs.Io.KnownBytes.{Appends, Keeps};
 ghost use Rattle.mt_cli.specs.declared.commands.TheConstants.{AREA_MIB, PAGES};
 ghost use Rattle.mt_base.specs.Limits.{device_bytes_of};
 
-use crate::answer_lines::write_all_reported;
-use crate::at_once::Service;
-use crate::check_command::perform_check;
-use crate::dump_command::perform_dump;
-use crate::explain_command::perform_explain;
-use crate::faults::{Fault, tell, tell_unread};
-use crate::format_command::perform_format;
 use crate::named_inputs::lines_of;
 use crate::run_command::{ended, perform_run};
-use crate::schedules::ScheduleGrammar;
-use crate::waits::Patience;
 use mt_alone::run_script;
 use mt_args::{CliFault, Command, command_of};
 use mt_base::Refusal;
 use mt_base::limits::device_bytes;
+use mt_device_commands::{Patience, perform_check, perform_dump, perform_explain, perform_format};
 use mt_disk::{Device, MemDevice};
 use mt_folder::{Folder, Reason};
+use mt_report::{Fault, ScheduleGrammar, tell, tell_unread, write_all_reported};
 use mt_restart::{Schema, fresh};
 use mt_script::{Script, ScriptGrammar, put};
 use mt_shared::Gate;
@@ -314,31 +308,8 @@ fn do_command<
         Command::Explain { file, .. } => {
             perform_explain(alloc, &patience, folder, file.as_str(), out)
         }
-        Command::Run {
-            frames,
-            file,
-            workers,
-            scripts,
-            stop,
-            ..
-        } => {
-            let service = Service {
-                name: file.as_str(),
-                frames: *frames,
-                workers: *workers,
-                stop: *stop,
-            };
-            perform_run(
-                rt,
-                alloc,
-                &patience,
-                folder,
-                service,
-                scripts.as_slice(),
-                input,
-                out,
-                gate,
-            )
+        Command::Run { serving, .. } => {
+            perform_run(rt, alloc, &patience, folder, serving, input, out, gate)
         }
         Command::Show { text } => show(text.as_str(), out),
     }

@@ -5,10 +5,10 @@ ghost use Rattle.mt_alone.specs.Sessions.{lines_in};
 ghost use Rattle.mt_folder.specs.Folders.{AreKept, IsUnmade, known_in};
 ghost use Rattle.mt_cli.specs.Reads.{AreUnreadFor, HasNoScript, HaveBeenRead, IsFront, IsReadAt, IsUnread, IsUnreadScript, bytes_at, file_in, held_by, is_fed, source_of};
 
-use crate::faults::Fault;
-use crate::read_faults::{MAX_TEXT_BYTES, ReadFault, TextFault, text_fault};
+use crate::text_faults::{MAX_TEXT_BYTES, text_fault};
 use mt_base::Refusal;
 use mt_folder::Folder;
+use mt_report::{Fault, ReadFault, TextFault};
 use mt_script::{Grammar, Script, ScriptFault, ScriptGrammar, ScriptWord, read_lines};
 use std::alloc::{AllocError, Global};
 use std::io::{Chain, Read};

@@ -7,15 +7,16 @@ ghost use Rattle.mt_restart.specs.Resumed.{IsOpened};
 ghost use Rattle.mt_alone.specs.Sessions.{lines_in};
 ghost use Rattle.mt_cli.specs.Serves.{AreShortOn, AreUnserved, HasNotRun, HasRunScripts, HaveServedOn, IsServedIn, IsUnservedIn, ServesFrom, end_of};
 
-use crate::at_once::{Service, serve_file_at_once};
-use crate::faults::Fault;
+use crate::at_once::serve_file_at_once;
 use crate::named_inputs::scripts_of;
-use crate::waits::Patience;
 use mt_alone::{RunFault, Stop, run_sessions};
+use mt_args::Serving;
 use mt_base::Refusal;
 use mt_base::limits::MAX_SESSIONS;
+use mt_device_commands::Patience;
 use mt_disk::Device;
 use mt_folder::Folder;
+use mt_report::Fault;
 use mt_restart::open;
 use mt_script::Script;
 use mt_shared::Gate;
@@ -44,10 +45,7 @@ fn serve_opened<D: Device + Drop, O: Write>(
         (map lines_in scripts.now) (O.contents out.old) (O.contents out.new) (D.seen result.1) why) }
 {
     match run_sessions(alloc, kernel, frames, stop, scripts, out) {
-        Ok((kernel, stopped)) => {
-            kernel.can_restart();
-            (Ok(stopped), kernel.into_device())
-        }
+        Ok((kernel, stopped)) => (Ok(stopped), kernel.into_device()),
         Err(left) => {
             let (why, device) = left.into_device();
             (Err(why), device)
@@ -94,34 +92,35 @@ fn serve_over<D: Device + Drop, O: Write>(
     }
 }
 
-/// Serves scripts to the device in the file of this name, one after the other.
+/// Serves these scripts, which were read, to the device in its file, one after the other.
 fn serve_file<F: Folder, O: Write, R: Clock>(
     alloc: Global,
     patience: &Patience<'_, R>,
     folder: &mut F,
-    service: Service,
+    serving: &Serving,
     scripts: &[Script],
     out: &mut O,
 ) -> Result<(), Fault>
-    ensures served { OnOk result (IsServedIn service.entry.stop (F.files folder.old) (F.files folder.new)
-        service.entry.name.now (map lines_in scripts.now) (O.contents out.old) (O.contents out.new)) }
-    ensures unserved { IfErr result (IsUnservedIn service.entry.stop (F.files folder.old) (F.files folder.new)
-        service.entry.name.now (map lines_in scripts.now) (O.contents out.old) (O.contents out.new)) }
+    ensures served { OnOk result (IsServedIn serving.now.stop (F.files folder.old) (F.files folder.new)
+        (string_bytes serving.now.file) (map lines_in scripts.now) (O.contents out.old) (O.contents out.new)) }
+    ensures unserved { IfErr result (IsUnservedIn serving.now.stop (F.files folder.old) (F.files folder.new)
+        (string_bytes serving.now.file) (map lines_in scripts.now) (O.contents out.old) (O.contents out.new)) }
 {
-    let device = match patience.device(folder, service.name) {
+    let name = serving.file.as_str();
+    let device = match patience.device(folder, name) {
         Ok(device) => device,
         Err(refusal) => return Err(Fault::Refused(refusal)),
     };
-    let served = serve_over(alloc, device, service.frames, service.stop, scripts, out);
+    let served = serve_over(alloc, device, serving.frames, serving.stop, scripts, out);
     let (outcome, device) = served;
-    folder.back(service.name, device);
+    folder.back(name, device);
     outcome
 }
 
-/// Does `run`: reads all scripts, then opens the device in the file of this name with so many frames, and serves the
-/// scripts to it. It serves them one after the other if there is one worker, and else at once. The device is then
-/// back in its file, and each other file is as it was. By one worker nothing is written to the output before the
-/// device is opened, and by several not before all scripts are served.
+/// Does `run`: reads all scripts, then opens the device in its file with so many frames, and serves the scripts to it.
+/// It serves them one after the other if there is one worker, and else at once. The device is then back in its file,
+/// and each other file is as it was. By one worker nothing is written to the output before the device is opened, and
+/// by several not before all scripts are served.
 ///
 /// Refused for the first script that is not read, and for a file that cannot be opened. Refused by `BadLength` if
 /// there are more than 64 scripts, and for what keeps the device from being opened.
@@ -145,27 +144,27 @@ pub(crate) fn perform_run<
     alloc: Global,
     patience: &Patience<'_, R>,
     folder: &mut F,
-    service: Service,
-    scripts: &[String],
+    serving: &Serving,
     input: &mut I,
     out: &mut O,
     gate: G,
 ) -> Result<(), Fault>
-    ensures ran { OnOk result (HasRunScripts service.entry.stop service.entry.workers
-        (F.files folder.old) (F.files folder.new) service.entry.name.now (map string_bytes scripts.now)
-        (I.remaining input.old)
+    ensures ran { OnOk result (HasRunScripts serving.now.stop serving.now.workers
+        (F.files folder.old) (F.files folder.new) (string_bytes serving.now.file)
+        (map string_bytes serving.now.scripts.items) (I.remaining input.old)
         (O.contents out.old) (O.contents out.new)) }
-    ensures not_run { IfErr result (HasNotRun service.entry.stop service.entry.workers
-        (F.files folder.old) (F.files folder.new) service.entry.name.now (map string_bytes scripts.now)
-        (I.remaining input.old)
+    ensures not_run { IfErr result (HasNotRun serving.now.stop serving.now.workers
+        (F.files folder.old) (F.files folder.new) (string_bytes serving.now.file)
+        (map string_bytes serving.now.scripts.items) (I.remaining input.old)
         (O.contents out.old) (O.contents out.new)) }
 {
-    let scripts = match scripts_of(alloc, folder, scripts, input) {
+    let names = serving.scripts.as_slice();
+    let scripts = match scripts_of(alloc, folder, names, input) {
         Ok(scripts) => scripts,
         Err(fault) => return Err(fault),
     };
-    if service.workers > 1 {
-        return serve_file_at_once(rt, alloc, patience, folder, service, scripts, out, gate);
+    if serving.workers > 1 {
+        return serve_file_at_once(rt, alloc, patience, folder, serving, scripts, out, gate);
     }
-    serve_file(alloc, patience, folder, service, scripts.as_slice(), out)
+    serve_file(alloc, patience, folder, serving, scripts.as_slice(), out)
 }

@@ -22,7 +22,7 @@ use Rattle.mt_model.specs.declared.operations.Op.{Op}
 use Rattle.mt_model.specs.declared.operations.Reply.{Reply}
 use Rattle.mt_model.specs.declared.counters.Count.{Count}
 use Rattle.mt_model.specs.Tables.{count_at}
-use Rattle.mt_model.specs.Model.{Base, reply_of, base_after, inverse_of, IsWithin}
+use Rattle.mt_model.specs.Model.{Base, reply_of, base_after, inverse_of}
 use Rattle.mt_op.proofs.Driving.{world_same}
 use Rattle.mt_op.specs.Operations.{world, IsRight, claimed}
 use Rattle.mt_op.specs.Records.{end_of}

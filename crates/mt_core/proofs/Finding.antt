@@ -18,8 +18,9 @@ use Rattle.mt_model.specs.History.{run}
 use Rattle.mt_model.specs.Model.{Base, IsBase, reply_of, base_after, inverse_of}
 use Rattle.mt_model.specs.Pending.{steps_at}
 use Rattle.mt_model.specs.declared.operations.Op.{Op}
+use Rattle.mt_replay.proofs.Inverses.{inverse_is}
 use Rattle.mt_replay.proofs.Undone.{reply_after}
-use Rattle.mt_replay.specs.Recorded.{op_of, reply_in, undo_of, reply_back}
+use Rattle.mt_replay.specs.Recorded.{op_of, undo_of, reply_back}
 use Rattle.mt_steps.specs.Logged.{logged_of}
 use Rattle.mt_core.proofs.Did.{calls_did}
 use Rattle.mt_core.proofs.Leads.{logged_did, logged_is}
@@ -81,15 +82,6 @@ undo_logged (logged.Update r k v old) = refl
 undo_logged (logged.Delete r k old) = refl
 undo_logged (logged.Add c s) = refl
 
-undo_same : (d : LoggedOp) → inverse_of (op_of d) (reply_in d) ≡ Some (undo_of d)
-undo_same (logged.Insert r k v) = refl
-undo_same (logged.Update r k v old) = refl
-undo_same (logged.Delete r k old) = refl
-undo_same (logged.Add c s) = refl
-
-some_same : (a b : Op) → Some a ≡ Some b → a ≡ b
-some_same a b is = cc
-
 pub inverse_logged : (e : Entry) (i : Op) (base : Base) → inverse_of e.op e.reply ≡ Some i → ActedLast e base → is_some (logged_of i (reply_of base i)) ≡ true
 inverse_logged e i base inverse a = go (logged_of e.op e.reply) refl
   where
@@ -97,7 +89,7 @@ inverse_logged e i base inverse a = go (logged_of e.op e.reply) refl
     go None is = let some : is_some (inverse_of e.op e.reply) ≡ true = ap is_some inverse in let none : is_some (inverse_of e.op e.reply) ≡ false = logged_did e.op e.reply ∙ ap is_some is in absurd cc
     go (Some d) is =
         let tells = logged_is e.op e.reply d is in
-        let same : i ≡ undo_of d = some_same i (undo_of d) (sym inverse ∙ (λ j. inverse_of (sym tells.0 j) (sym tells.1 j)) ∙ undo_same d) in
+        let same : i ≡ undo_of d = inverse_is d e.op e.reply i (sym tells.0) (sym tells.1) inverse in
         let found : reply_of (base_after a.before (op_of d)) (undo_of d) ≡ reply_back d = reply_after d a.before a.bounds (ap (reply_of a.before) tells.0 ∙ a.reply ∙ sym tells.1) in
         let here : reply_of base i ≡ reply_back d = (λ j. reply_of ((a.is ∙ ap (base_after a.before) (sym tells.0)) j) (same j)) ∙ found in
         (λ j. is_some (logged_of (same j) (here j))) ∙ undo_logged d

@@ -27,7 +27,6 @@ use Rattle.mt_model.proofs.Undo.{base_effectless}
 use Rattle.mt_model.specs.History.{Call, run, after, IsActed}
 use Rattle.mt_model.specs.Model.{Base, reply_of, base_after, inverse_of, IsBase}
 use Rattle.mt_model.specs.declared.history.Committed.{Committed}
-use Rattle.mt_model.specs.declared.operations.Op.{Op}
 use Rattle.mt_model.specs.declared.operations.Reply.{Reply}
 use Rattle.mt_op.specs.Begun.{AreImages}
 use Rattle.mt_op.specs.Moves.{Rests}

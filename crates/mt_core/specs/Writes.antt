@@ -10,13 +10,13 @@ use Rattle.mt_core.specs.declared.steps.Stepping.{Stepping}
 use Rattle.mt_core.specs.declared.steps.Stepping.TheVariants.{Going, Ended}
 
 -- nothing more, or records of one page
-abbrev pub HasPageMore : List Record → List Record → Type 0
-HasPageMore old new = (page : ℕ) × (more : List Record) × (new ≡ old ++ more) × All (λ (r : Record). is_of_page page r ≡ true) more
+abbrev pub AddsOnePage : List Record → List Record → Type 0
+AddsOnePage old new = (page : ℕ) × (more : List Record) × (new ≡ old ++ more) × All (λ (r : Record). is_of_page page r ≡ true) more
 
 -- A step that goes on appends the records of one page at most, and one that ends a record at most. One that waits,
 -- begins anew or is refused appends none.
 abbrev pub WritesOnce : List Record → List Record → Result Stepped Refusal → Type 0
-WritesOnce old new (Ok stepped.Went) = HasPageMore old new
+WritesOnce old new (Ok stepped.Went) = AddsOnePage old new
 WritesOnce old new (Ok (stepped.Wait holder)) = new ≡ old
 WritesOnce old new (Ok (stepped.Again holder)) = new ≡ old
 WritesOnce old new (Ok stepped.Flush) = new ≡ old

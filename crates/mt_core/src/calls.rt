@@ -20,12 +20,12 @@ ghost use Rattle.mt_core.specs.Advancing.{AdmitsCall, AsksLeave, LocksObject, St
 
 use crate::ends::let_go;
 use crate::parts::Core;
-use crate::reservations::{bytes_to_undo, left_in};
+use crate::reservations::left_in;
 use mt_base::{OpNo, Refusal, TxnNo};
 use mt_disk::Device;
 use mt_escrow::Escrow;
 use mt_model::{Object, Op};
-use mt_op::OpScope;
+use mt_op::{OpScope, log_bytes_for};
 use mt_slock::Asked;
 use mt_steps::{pages_for, pages_to_undo};
 use std::alloc::Global;
@@ -144,7 +144,7 @@ impl<D: Device> Core<D> {
         ensures { StartsCall D.seen D.may_leave self.old self.new txn op split result }
     {
         let pages = pages_for(&op, split) + pages_to_undo(&op);
-        let bytes = bytes_to_undo(&op);
+        let bytes = log_bytes_for(&op);
         let takes = self.log_takes(2 * bytes);
         match self.operations.claim(pages) {
             Ok(()) => {}

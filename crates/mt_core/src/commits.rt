@@ -1,21 +1,25 @@
 // Transactions that begin, commit and leave, and the writes that make commits durable.
-ghost use Rattle.std.specs.Prelude.{◌≡◌, ◌≢◌, ◌⊎◌, ◌<◌, ◌≤◌, ◌+◌, ℕ, List, ◌∷◌, ◌++◌, [], length, drop, get_or, false, true, All, Some, Ok, Err, IsOk, IsErr, IfOk, IfErr, OnOk, OnErr};
+ghost use Rattle.std.specs.Prelude.{◌≡◌, ◌≢◌, ◌⊎◌, ◌<◌, ◌≤◌, ◌+◌, ℕ, List, ◌∷◌, ◌++◌, [], length, drop, true, All, Some, Ok, IfOk, IfErr, OnOk, OnErr};
 ghost use Rattle.mt_live.specs.Lives.{member_of};
 ghost use Rattle.mt_live.specs.Machine.{begun};
 ghost use Rattle.mt_live.specs.declared.transactions.TxnState.TheVariants.{Open, Committing, Aborting};
 ghost use Rattle.mt_disk.specs.Disk.{HasCause};
-ghost use Rattle.mt_log.specs.Words.{appended, durable, in_flight, waiting, calls_left, has_failed, area_size, IsStep};
+ghost use Rattle.mt_log.specs.Forcing.{ReportsFault};
+ghost use Rattle.mt_log.specs.Steps.{ForceSteps};
+ghost use Rattle.mt_log.specs.Words.{appended, durable, in_flight, waiting, calls_left, area_size, seen_of};
 ghost use Rattle.mt_frame.specs.declared.records.Record.TheVariants as record_of;
 ghost use Rattle.mt_model.specs.Model.{Base};
 ghost use Rattle.mt_op.specs.Operations.{world};
 ghost use Rattle.mt_op.specs.Surveyed.{IsSurvey};
 ghost use Rattle.mt_op.specs.World.{held_in};
-ghost use Rattle.mt_pool.specs.Views.{IsWaiting, Cleans, pages, to_flush};
+ghost use Rattle.mt_pool.specs.FlushSteps.{FlushSteps};
+ghost use Rattle.mt_pool.specs.Views.{pages};
 ghost use Rattle.mt_pool.specs.declared.flushes.Flushed.TheVariants as flushed;
 ghost use Rattle.mt_base.specs.declared.refusal.Refusal.{Refusal};
 ghost use Rattle.mt_core.specs.Consistent.{log_kept, SameCommits, SameRunning, SameStates, SameUncommitted, SetsState, IsSound, StaysIn, OnlyOperations, Origin, state_of, state_in, IsConsistent, IsIn};
 ghost use Rattle.mt_core.specs.Restartable.{StaysRestartable};
 ghost use Rattle.mt_core.specs.Steps.{LeavesExplained};
+ghost use Rattle.mt_core.specs.Turned.{core_log};
 ghost use Rattle.mt_core.specs.Booked.{booked_each, durable_count, durable_txns};
 ghost use Rattle.mt_core.specs.Runs.{is_open};
 ghost use Rattle.mt_core.specs.Work.{LeavesUndo, most_steps, undo_steps};
@@ -119,6 +123,7 @@ impl<D: Device> Core<D> {
         ensures durable { durable self.new.operations.store.log ≡ durable self.old.operations.store.log }
         ensures in_flight { in_flight self.new.operations.store.log ≡ in_flight self.old.operations.store.log }
         ensures calls { calls_left self.new.operations.store.log ≡ calls_left self.old.operations.store.log }
+        ensures err_appended { OnErr result (appended (core_log self.new) ≡ appended (core_log self.old)) }
         ensures commits { OnOk result (SetsState self.old self.new txn (Some Committing)) }
         ensures err { OnErr result (SameStates self.old self.new × SameCommits self.old self.new) }
         ensures same_running { SameRunning self.old self.new }
@@ -191,15 +196,9 @@ impl<D: Device> Core<D> {
         ensures rest { OnlyOperations self.old self.new }
         ensures pool { self.new.operations.store.pool ≡ self.old.operations.store.pool }
         ensures ruling { self.new.operations.store.ruling ≡ self.old.operations.store.ruling }
-        ensures appended { appended self.new.operations.store.log ≡ appended self.old.operations.store.log }
-        ensures step { IfOk result (λ forced.
-            IsStep self.old.operations.store.log forced self.new.operations.store.log) }
-        ensures only_device { IfErr result (λ why. why ≡ Refusal.DeviceFailed) }
-        ensures cause { IsErr result → (D.faults self.old.operations.store.device
-            < D.faults self.new.operations.store.device ⊎ (has_failed self.old.operations.store.log ≡ true)) }
-        ensures well { IsOk result → has_failed self.new.operations.store.log ≡ false }
-        ensures quiet { IsOk result
-            → D.faults self.new.operations.store.device ≡ D.faults self.old.operations.store.device }
+        ensures steps { ForceSteps (seen_of (core_log self.old)) (seen_of (core_log self.new)) result }
+        ensures cause { ReportsFault D.Device (seen_of (core_log self.old)) self.old.operations.store.device
+            self.new.operations.store.device result }
         ensures moments { LeavesExplained D.seen D.may_leave D.moment D.left_since self.old self.new }
         ensures once { D.moment self.new.operations.store.device ≤ D.moment self.old.operations.store.device + 1 }
         ensures restartable { StaysRestartable D.seen D.may_leave self.old self.new }
@@ -213,17 +212,10 @@ impl<D: Device> Core<D> {
         ensures state { StaysIn D.seen D.may_leave self.old self.new }
         ensures rest { OnlyOperations self.old self.new }
         ensures log { self.new.operations.store.log ≡ self.old.operations.store.log }
-        ensures there { self.new.operations.store.pool.of_page ≡ self.old.operations.store.pool.of_page }
-        ensures written { (p : ℕ) → result ≡ Ok (flushed.Page p) → Cleans self.old.operations.store.pool
-            self.new.operations.store.pool (length (durable self.old.operations.store.log)) p }
-        ensures barred { result ≡ Ok flushed.Force
-            → IsWaiting self.old.operations.store.pool (length (durable self.old.operations.store.log)) }
-        ensures fewer { (p : ℕ) → result ≡ Ok (flushed.Page p)
-            → to_flush self.new.operations.store.pool + 1 ≡ to_flush self.old.operations.store.pool }
-        ensures forced { result ≡ Ok flushed.Force → length (durable self.old.operations.store.log)
-            < length (appended self.old.operations.store.log) }
-        ensures nothing { result ≡ Ok flushed.Clean
-            → (f : ℕ) → get_or self.new.operations.store.pool.dirty.items f false ≡ false }
+        ensures steps { FlushSteps (length (durable (core_log self.old))) self.old.operations.store.pool
+            self.new.operations.store.pool result }
+        ensures forced { result ≡ Ok flushed.Force
+            → length (durable (core_log self.old)) < length (appended (core_log self.old)) }
         ensures cause { HasCause (D.faults self.old.operations.store.device)
             (D.faults self.new.operations.store.device) result }
         ensures moments { LeavesExplained D.seen D.may_leave D.moment D.left_since self.old self.new }

@@ -16,10 +16,9 @@ ghost use Rattle.mt_core.specs.PageLocks.{GivesLocksBack};
 
 use crate::ends::let_go;
 use crate::parts::Core;
-use crate::reservations::bytes_to_undo;
 use mt_base::Refusal;
 use mt_disk::Device;
-use mt_op::TakenBack;
+use mt_op::{TakenBack, log_bytes_for};
 use mt_steps::{pages_for, pages_to_undo};
 
 impl<D: Device> Core<D> {
@@ -50,7 +49,7 @@ impl<D: Device> Core<D> {
         let pages = pages_for(scope.op(), scope.split()) + pages_to_undo(scope.op());
         let op = self.operations.drop_out(scope);
         self.operations.give_back(pages);
-        self.reserved -= bytes_to_undo(&op);
+        self.reserved -= log_bytes_for(&op);
         let_go(&mut self.escrow, txn, &op);
     }
 

@@ -12,11 +12,12 @@ ghost use Rattle.mt_op.specs.declared.scope.OpScope.{OpScope};
 ghost use Rattle.mt_core.specs.Advancing.{EndsInverse, EndsReady};
 
 use crate::parts::Core;
-use crate::reservations::{bytes_kept, bytes_to_undo, pages_kept};
+use crate::reservations::{bytes_kept, pages_kept};
 use mt_base::TxnNo;
 use mt_disk::Device;
 use mt_escrow::Escrow;
 use mt_model::{Op, Reply};
+use mt_op::log_bytes_for;
 use mt_steps::pages_to_undo;
 
 // If the operation is an add, the last such add of the transaction is pending no more.
@@ -59,7 +60,7 @@ impl<D: Device> Core<D> {
         let op = self.operations.end(scope);
         self.operations
             .give_back(pages_to_undo(&op) - pages_kept(&op, &reply));
-        self.reserved -= bytes_to_undo(&op) - bytes_kept(&op, &reply);
+        self.reserved -= log_bytes_for(&op) - bytes_kept(&op, &reply);
         self.live.note(txn, number, op, reply);
     }
 

@@ -8,7 +8,7 @@ use mt_disk::Device;
 use mt_escrow::Escrow;
 use mt_live::Live;
 use mt_model::Committed;
-use mt_op::{OpScope, Operations};
+use mt_op::Operations;
 use mt_slock::LockTable;
 
 /// What a kernel has beside its operations and its escrow: the book, and the numbers of transactions and operations.
@@ -40,17 +40,7 @@ impl<D: Device + Drop> Core<D> {
             last,
             reserved,
         } = self;
-        let alloc = *running.allocator();
-        let mut running = running;
-        let mut operations = operations;
-        while let Some(one) = running.pop() {
-            operations.give_up(one);
-        }
-        match <[OpScope; 0]>::try_from(running) {
-            Ok([]) => {}
-            Err(_rest) => unreachable!(),
-        }
-        let device = operations.into_device(Vec::new(alloc));
+        let device = operations.into_device(running);
         let rest = Rest {
             live,
             locks,

@@ -1,23 +1,12 @@
 // What is kept for the inverses of operations: free pages, and bytes of the log.
 ghost use Rattle.std.specs.Prelude.{◌≡◌, ◌<◌, ◌+◌, ◌^◌};
 ghost use Rattle.std.specs.List.{sum_by};
-ghost use Rattle.mt_core.specs.Runs.{undo_bytes, call_pages, call_bytes, left_of};
+ghost use Rattle.mt_core.specs.Runs.{call_pages, call_bytes, left_of};
 
-use mt_base::limits::OPERATION_LOG_BYTES;
 use mt_inverse::has_effect;
 use mt_model::{Op, Reply};
-use mt_op::OpScope;
+use mt_op::{OpScope, log_bytes_for};
 use mt_steps::pages_to_undo;
-
-// Bytes of the log that the operation's inverse may append.
-pub(crate) fn bytes_to_undo(op: &Op) -> u64
-    ensures { result ≡ undo_bytes op.now }
-{
-    match op {
-        Op::Get(_, _) | Op::Read(_) => 0,
-        _ => OPERATION_LOG_BYTES,
-    }
-}
 
 // Free pages that stay claimed for the inverse of an operation that replied this.
 pub(crate) fn pages_kept(op: &Op, reply: &Reply) -> u16
@@ -35,7 +24,7 @@ pub(crate) fn bytes_kept(op: &Op, reply: &Reply) -> u64
     ensures { result ≡ call_bytes (op.now, reply.now) }
 {
     if has_effect(op, reply) {
-        bytes_to_undo(op)
+        log_bytes_for(op)
     } else {
         0
     }

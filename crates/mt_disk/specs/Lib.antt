@@ -1,3 +1,4 @@
+pub mod Calls
 pub mod Crash
 pub mod Disk
 pub mod Fault

@@ -5,11 +5,14 @@
 //! to is a law of the model, `inverses_take_back` of `mt_model`.
 #![tactic(auto)]
 
+mod effect;
+
 ghost use Rattle.std.specs.Prelude.{◌≡◌, IfOk, IfErr, is_some};
 ghost use Rattle.mt_base.specs.declared.refusal.Refusal.{Refusal};
 ghost use Rattle.mt_model.specs.Model.{inverse_of as inverse};
 ghost use Rattle.mt_inverse.specs.Steps.{IsWithinSteps};
 
+pub use effect::Effect;
 use mt_base::Refusal;
 use mt_model::{Op, Reply};
 
@@ -17,13 +20,7 @@ use mt_model::{Op, Reply};
 pub fn has_effect(op: &Op, reply: &Reply) -> bool
     ensures { result ≡ is_some (inverse op.now reply.now) }
 {
-    match (op, reply) {
-        (Op::Insert(_, _, _), Reply::Done) => true,
-        (Op::Update(_, _, _), Reply::Was(_)) => true,
-        (Op::Delete(_, _), Reply::Was(_)) => true,
-        (Op::Add(_, _), Reply::Done) => true,
-        _ => false,
-    }
+    Effect::of(op, reply).is_some()
 }
 
 /// The operation that takes back what this one did, if it replied this. It takes an insert back by a delete, an
@@ -36,20 +33,8 @@ pub fn inverse_of(op: &Op, reply: &Reply) -> Result<Option<Op>, Refusal>
     ensures inverse { IfOk result (λ inverse_op. inverse_op ≡ inverse op.now reply.now) }
     ensures only_memory { IfErr result (λ why. why ≡ Refusal.NoMemory) }
 {
-    match (op, reply) {
-        (Op::Insert(relation, key, _), Reply::Done) => Ok(Some(Op::Delete(
-            *relation,
-            key.try_clone()?,
-        ))),
-        (Op::Update(relation, key, _), Reply::Was(old)) => {
-            let key = key.try_clone()?;
-            Ok(Some(Op::Update(*relation, key, old.try_clone()?)))
-        }
-        (Op::Delete(relation, key), Reply::Was(old)) => {
-            let key = key.try_clone()?;
-            Ok(Some(Op::Insert(*relation, key, old.try_clone()?)))
-        }
-        (Op::Add(counter, step), Reply::Done) => Ok(Some(Op::Add(*counter, -*step))),
-        _ => Ok(None),
+    match Effect::of(op, reply) {
+        Some(effect) => Ok(Some(effect.inverse()?)),
+        None => Ok(None),
     }
 }

@@ -4,7 +4,7 @@ use mathlib.Core.List.{IsPrefix}
 use Rattle.mt_model.specs.declared.tables.Base.{Base}
 use Rattle.mt_model.specs.declared.history.Committed.{Committed}
 use Rattle.mt_mark.specs.Legal.{IsLegal}
-use Rattle.mt_mark.proofs.Fronts.{IsLegal-front}
+use Rattle.mt_mark.proofs.Fronts.{IsLegal-front, prefix_self}
 use Rattle.mt_mark.specs.declared.view.Entry.{Entry}
 use Rattle.mt_mark.specs.Rule.{dones, Holds}
 use Rattle.mt_mark.proofs.Fronts.{dones-append}
@@ -45,7 +45,7 @@ grown list book e p at = subst (λ l. IsPrefix l book) (sym (dones-append list (
 pub front_legal : (b : Base) (ts us : List Committed) → IsPrefix ts us → IsLegal b us → IsLegal b ts
 front_legal b ts us p h = IsLegal-front b ts p.0 (subst (IsLegal b) (sym p.1) h)
 
-pub entered : (b : Base) (locked : LockedSeen) (place : ℕ) (old new : PassSeen) (e : Entry) → Holds old.number old.seen locked.list → new.number ≡ old.number → new.seen ≡ locked.list ++ e ∷ []
+pub entered : {D : Type 0} → (b : Base) (locked : LockedSeen D) (place : ℕ) (old new : PassSeen) (e : Entry) → Holds old.number old.seen locked.list → new.number ≡ old.number → new.seen ≡ locked.list ++ e ∷ []
     → IsPrefix (dones (locked.list ++ e ∷ [])) locked.book → IsLegal b locked.book → length locked.list + 1 ≡ place → Entered b locked place old e new
 entered b locked place old new e held number seen front legal long =
     let all = dones (locked.list ++ e ∷ []) in
@@ -71,3 +71,10 @@ whole_front (x ∷ ts) (u ∷ us) p long = let r = whole_front ts us (p.0, cc (p
 
 pub begins_book : (seen list : List Entry) (p : ℕ) (book : List Committed) → Holds p seen list → dones list ≡ book → IsPrefix (dones seen) book
 begins_book seen list p book held is = (dones held.0, sym (dones-append seen held.0) ∙ (ap dones held.1 ∙ is))
+
+-- a book that is the same begins with itself, and so does one that is longer
+pub same_front : {A : Type 0} (old new : List A) → new ≡ old → IsPrefix old new
+same_front old new is = subst (IsPrefix old) (sym is) (prefix_self old)
+
+pub more_front : {A : Type 0} (old mid new : List A) → mid ≡ old → IsPrefix mid new → IsPrefix old new
+more_front old mid new is more = subst (λ x. IsPrefix x new) is more

@@ -1,5 +1,5 @@
 -- A log that is turned over under the lock.
-use Rattle.std.proofs.Common.{◌≡◌, ◌≤◌, ℕ, Bool, true, false, List, length, Result, Ok, Err, refl, sym, subst, arith}
+use Rattle.std.proofs.Common.{◌≡◌, ◌≤◌, ℕ, Bool, true, List, length, Option, Some, None, Result, Ok, Err, refl, sym, subst, arith}
 use Rattle.std.specs.Prelude.{IfErr, IsErr, IsOk}
 use mathlib.Core.List.{IsPrefix}
 use Rattle.mt_base.specs.declared.refusal.Refusal.{Refusal}
@@ -15,21 +15,22 @@ use Rattle.mt_restart.specs.TurnFaults.{IsTurnFault}
 use Rattle.mt_restart.specs.declared.standing.Standing.{Standing}
 use Rattle.mt_restart.specs.declared.standing.Standing.TheVariants.{Stands, Ended}
 use Rattle.mt_txn.specs.Restarted.{FindsMeanwhile}
+use Rattle.mt_txn.specs.Seen.{KernelSeen, seen_of}
 use Rattle.mt_txn.specs.Shown.{Restarts}
 use Rattle.mt_txn.specs.declared.kernel.Kernel.{Kernel}
-use Rattle.mt_locked.specs.Standings.{LeavesBook, is_ended}
+use Rattle.mt_locked.specs.Standings.{LeavesBook, kernel_in}
 use Rattle.mt_locked.specs.Turns.{IsRotation, IsTurn}
 use Rattle.mt_locked.proofs.Books.{whole_front}
 use Rattle.mt_locked.proofs.Keeping.{turned_began, turned_book}
 use Rattle.mt_locked.proofs.Standings.{found_with}
 
--- a kernel that stands is not ended
-stands_here : {P : Type 0} → ◌≡◌ {A = Bool} false true → P
-stands_here wrong = absurd cc
+-- a kernel that stands is there
+stands_here : {D P : Type 0} (k : KernelSeen D) → ◌≡◌ {A = Option (KernelSeen D)} (Some k) None → P
+stands_here k wrong = absurd cc
 
 module _ {D : Type 0} (g : Ghosts D) where
   -- what has not been turned over, and is refused or too early
-  pub not_turned : (commits : ℕ) (s : Standing D g) (outcome : Result Bool Refusal) → IfErr outcome IsTurnFault → (outcome ≡ Ok true → ⊥) → (is_ended s ≡ true → IsErr outcome) → IsRotation g commits s s outcome
+  pub not_turned : (commits : ℕ) (s : Standing D g) (outcome : Result Bool Refusal) → IfErr outcome IsTurnFault → (outcome ≡ Ok true → ⊥) → (kernel_in s ≡ None → IsErr outcome) → IsRotation g commits s s outcome
   not_turned commits s outcome why not gone = record { keeps = λ base history long keeps. (keeps, refl); why = why; did = λ did. absurd (not did); gone = gone }
 
   -- the device that is left leaves the whole book
@@ -62,7 +63,7 @@ module _ {D : Type 0} (g : Ghosts D) where
               book = turned_book g.seen g.may_leave base k n x.over.state keeps.0;
               images = x.begun;
             } in ∣ turn ∣₁;
-        gone = stands_here;
+        gone = stands_here (seen_of n);
       }
   turned_so commits k (Ended device) (Ok u) outcome counts found why did fault just rotates = absurd rotates
   turned_so commits k (Ended device) (Err refusal) outcome counts found why did fault just rotates = record {

@@ -1,9 +1,11 @@
 -- What stands under the lock keeps the history, and what a crash leaves of it has the book.
-use Rattle.std.proofs.Common.{◌≡◌, ◌∙◌, ◌+◌, ◌-◌, ◌++◌, ◌∷◌, [], ℕ, List, length, take, slice_get, Some, Result, false, refl, sym, ap, subst, arith}
+use Rattle.std.proofs.Common.{◌≡◌, ◌∙◌, ◌+◌, ◌-◌, ◌++◌, ◌∷◌, [], ℕ, List, length, take, slice_get, Option, Some, None, Result, Ok, Err, refl, sym, ap, subst, arith}
 use Rattle.std.proofs.Math.Seq.{take-append-add}
+use Rattle.std.specs.Prelude.{OnErr}
 use mathlib.Core.List.{IsPrefix}
 use mathlib.Core.Logic.{∥∥₁_map}
 use Rattle.mt_base.specs.declared.refusal.Refusal.{Refusal}
+use Rattle.mt_base.specs.declared.refusal.Refusal.TheVariants.{DeviceFailed}
 use Rattle.mt_disk.specs.declared.device.Device.{Ghosts}
 use Rattle.mt_core.specs.Booked.{txns_of}
 use Rattle.mt_core.specs.Consistent.{session_in}
@@ -18,17 +20,25 @@ use Rattle.mt_model.specs.Views.{base_of}
 use Rattle.mt_model.specs.declared.history.Committed.{Committed}
 use Rattle.mt_model.specs.declared.tables.Base.{Base}
 use Rattle.mt_replay.specs.Stands.{CanRestart}
+use Rattle.mt_restart.specs.Standings.{IsFoundAfter, device_at}
 use Rattle.mt_restart.specs.declared.standing.Standing.{Standing}
 use Rattle.mt_restart.specs.declared.standing.Standing.TheVariants.{Stands, Ended}
 use Rattle.mt_txn.specs.Events.{HasForced}
 use Rattle.mt_txn.specs.Restarted.{all_commits, FindsCommits}
+use Rattle.mt_txn.specs.Seen.{KernelSeen, seen_of}
 use Rattle.mt_txn.specs.Shown.{Shows, StaysRestarting}
 use Rattle.mt_txn.specs.declared.answers.KernelForced.{KernelForced}
 use Rattle.mt_txn.specs.declared.kernel.Kernel.{Kernel}
 use Rattle.mt_locked.specs.Began.{BeganOn}
-use Rattle.mt_locked.specs.Standings.{HasBook, KeepsHistory, book_in, seen_in}
+use Rattle.mt_locked.specs.Seen.{IsAskedOf, LockedSeen}
+use Rattle.mt_locked.specs.Standings.{HasBook, KeepsHistory, LeavesBook, book_in, kernel_in, seen_in}
 use Rattle.mt_locked.proofs.Books.{dones-length, grown, none_behind}
 use Rattle.mt_locked.proofs.Keeping.{Goes, forced_began, forced_grows, legal_book, same_book, still_began}
+
+-- a fact of a refused call that follows from another
+pub on_err_led : {T : Type 0} {P Q : Type 0} → (r : Result T Refusal) → (P → Q) → OnErr r P → OnErr r Q
+on_err_led (Ok x) leads did = did
+on_err_led (Err why) leads did = leads did
 
 module _ {D : Type 0} {g : Ghosts D} (seen : D → List ℕ) (may_leave : D → List ℕ → Type 0) where
   -- ---- a kernel that stands
@@ -52,14 +62,14 @@ module _ {D : Type 0} {g : Ghosts D} (seen : D → List ℕ) (may_leave : D → 
       ((keeps.0, grown list k.core.book.items e keeps.1 (ap (λ n. slice_get k.core.book.items n) (dones-length list ∙ sym is) ∙ there)), refl)
   entered_on b list e at (Ended device) is there keeps = absurd (none_behind (dones list) list at e.done refl is there)
 
-  -- after a call that leaves its book the history is kept, and what is seen is the same
+  -- after a call that leaves its book the history is kept, and the book is the same
   pub goes_on : (b : Base) (list : List Entry) (s : Standing D g) (k n : Kernel D g) → s ≡ Stands k → ((z : State) → Shows seen may_leave (base_of b) z k → Goes seen may_leave b z n) → StaysRestarting seen may_leave k n
-      → KeepsHistory seen may_leave b (dones list) s → KeepsHistory seen may_leave b (dones list) (Stands n) × (seen_in {g = g} (Stands n) list ≡ seen_in s list)
+      → KeepsHistory seen may_leave b (dones list) s → KeepsHistory seen may_leave b (dones list) (Stands n) × (n.core.book.items ≡ book_in s (dones list))
   goes_on b list s k n is go again keeps =
       let (began, front) = stands_on b (dones list) s k is keeps in
       let same = same_book seen may_leave b k n go began in (
         (still_began seen may_leave b k n go again began, subst (IsPrefix (dones list)) (sym same) front),
-        ap (λ (book : List Committed). record { book = book; list = list; is_left = false }) same ∙ ap (λ (x : Standing D g). seen_in x list) (sym is),
+        same ∙ ap (λ (x : Standing D g). book_in x (dones list)) (sym is),
       )
 
   -- after a step of a force the history is kept, and the book has grown at its end
@@ -72,6 +82,23 @@ module _ {D : Type 0} {g : Ghosts D} (seen : D → List ℕ) (may_leave : D → 
         (forced_began seen may_leave b k n r did again began, prefix_trans h k.core.book.items n.core.book.items front more),
         subst (λ (x : Standing D g). IsPrefix (book_in x h) n.core.book.items) (sym is) more,
       )
+
+  -- ---- what a call does
+
+  -- the kernel that stood was asked, and did this
+  pub asked : {T : Type 0} → (s : Standing D g) (k n : Kernel D g) (list : List Entry) (old : LockedSeen D) (r : Result T Refusal) (Did : KernelSeen D → KernelSeen D → Type 0)
+      → s ≡ Stands k → seen_in s list ≡ old → Did (seen_of k) (seen_of n) → IsAskedOf old.kernel r (Some (seen_of n)) Did
+  asked s k n list old r Did is seen did =
+      let was : Some (seen_of k) ≡ old.kernel = ap (λ (x : Standing D g). kernel_in x) (sym is) ∙ ap (λ (l : LockedSeen D). l.kernel) seen in
+      subst (λ (o : Option (KernelSeen D)). IsAskedOf o r (Some (seen_of n)) Did) was (seen_of n, refl, did)
+
+  -- none stood
+  pub unasked : {T : Type 0} → (s : Standing D g) (device : D) (list : List Entry) (old : LockedSeen D) (r : Result T Refusal) (Did : KernelSeen D → KernelSeen D → Type 0)
+      → s ≡ Ended device → seen_in s list ≡ old → r ≡ Err DeviceFailed → IsAskedOf old.kernel r (kernel_in s) Did
+  unasked s device list old r Did is seen refused =
+      let none : kernel_in s ≡ None = ap (λ (x : Standing D g). kernel_in x) is in
+      let was : None ≡ old.kernel = sym none ∙ ap (λ (l : LockedSeen D). l.kernel) seen in
+      subst (λ (o : Option (KernelSeen D)). IsAskedOf o r (kernel_in s) Did) was (refused, none)
 
   -- ---- what a crash leaves
 
@@ -91,3 +118,8 @@ module _ {D : Type 0} {g : Ghosts D} (seen : D → List ℕ) (may_leave : D → 
         further = take over under_way;
         found = subst (CanRestart k.relations k.counters c) (f.is ∙ ap (after (base_of b)) is) f.found;
       })
+
+  -- and so it does of the device of what stands
+  pub leaves_book : (b : Base) (h : List Committed) (s : Standing D g) (device : D) → device ≡ device_at s → IsFoundAfter seen may_leave s device → KeepsHistory seen may_leave b h s → LeavesBook may_leave b (book_in s h) device
+  leaves_book b h (Stands k) device is finds keeps = λ c leaves. found_with b k c (finds (base_of b) c keeps.0.1 leaves)
+  leaves_book b h (Ended alone) device is finds keeps = subst (LeavesBook may_leave b h) (sym is) keeps

@@ -1,5 +1,7 @@
 -- What contracts see of a pass and of the locked kernel.
-use Rattle.std.specs.Prelude.{◌≡◌, ◌≢◌, ◌≤◌, ◌⊎◌, Bool, ℕ, ◌+◌, List, [], ◌∷◌, ◌++◌, length, take, slice_get, Some}
+use Rattle.std.specs.Prelude.{◌≡◌, ◌≢◌, ◌≤◌, ◌⊎◌, ℕ, ◌+◌, List, [], ◌∷◌, ◌++◌, length, take, slice_get, Option, Some, None, Result, Err}
+use Rattle.mt_base.specs.declared.refusal.Refusal.{Refusal}
+use Rattle.mt_base.specs.declared.refusal.Refusal.TheVariants.{DeviceFailed}
 use Rattle.mt_mark.specs.Held.{Held}
 use Rattle.mt_mark.specs.Legal.{IsLegal}
 use Rattle.mt_mark.specs.Rule.{dones, NoneBy}
@@ -8,17 +10,28 @@ use Rattle.mt_model.specs.declared.history.Committed.{Committed}
 use Rattle.mt_model.specs.declared.operations.Op.{Op}
 use Rattle.mt_model.specs.declared.operations.Reply.{Reply}
 use Rattle.mt_model.specs.declared.tables.Base.{Base}
+use Rattle.mt_txn.specs.Seen.{KernelSeen}
 
 -- the pass's number, and its beginning of the history
 pub record PassSeen : Type 0 where
   pub number : ℕ
   pub seen : List Entry
 
--- the durable book, the history at the mark, and whether a rotation left no more of the kernel
-pub record LockedSeen : Type 0 where
+-- the kernel, if one stands; the durable book; and the history at the mark
+pub record LockedSeen (D : Type 0) : Type 0 where
+  pub kernel : Option (KernelSeen D)
   pub book : List Committed
   pub list : List Entry
-  pub is_left : Bool
+
+-- The kernel was asked, and did this. If none stands, the call is refused with 2.
+abbrev pub IsAskedOf : {D T : Type 0} → Option (KernelSeen D) → Result T Refusal → Option (KernelSeen D)
+    → (KernelSeen D → KernelSeen D → Type 0) → Type 0
+IsAskedOf None result new Did = (result ≡ Err DeviceFailed) × (new ≡ None)
+IsAskedOf {D} (Some k) result new Did = (n : KernelSeen D) × (new ≡ Some n) × Did k n
+
+abbrev pub IsAsked : {D T : Type 0} → LockedSeen D → Result T Refusal → LockedSeen D
+    → (KernelSeen D → KernelSeen D → Type 0) → Type 0
+IsAsked old result new Did = IsAskedOf old.kernel result new.kernel Did
 
 -- The pass's new list is legal, begins with all that it had seen, has this length, and ends with the entry. No other
 -- entry past the old list is this pass's.
@@ -31,12 +44,12 @@ pub record Extends (b : Base) (old : PassSeen) (entry : Entry) (place : ℕ) (ne
   pub long : length new.seen ≡ place
 
 -- and it is the first entries of the book, passes aside
-pub record Entered (b : Base) (locked : LockedSeen) (place : ℕ) (old : PassSeen) (entry : Entry) (new : PassSeen) : Type 0 where
+pub record Entered {D : Type 0} (b : Base) (locked : LockedSeen D) (place : ℕ) (old : PassSeen) (entry : Entry) (new : PassSeen) : Type 0 where
   pub extends : Extends b old entry place new
   pub durable : dones new.seen ≡ take place locked.book
 
 -- the mark is not one below the place, or the book has no such entry there
-abbrev pub CannotEnter : LockedSeen → ℕ → Entry → Type 0
+abbrev pub CannotEnter : {D : Type 0} → LockedSeen D → ℕ → Entry → Type 0
 CannotEnter locked place entry = (length locked.list + 1 ≢ place) ⊎ (slice_get locked.book (length locked.list) ≢ Some entry.done)
 
 -- The pass's new list is legal, begins with all that it had seen, has this length, and no further entry of its own.

@@ -1,5 +1,5 @@
 -- What stands under the lock: a kernel, or the device that a rotation left of it.
-use Rattle.std.specs.Prelude.{◌++◌, ℕ, Bool, true, false, List}
+use Rattle.std.specs.Prelude.{◌++◌, ℕ, List, Option, Some, None}
 use mathlib.Core.List.{IsPrefix}
 use Rattle.mt_disk.specs.declared.device.Device.{Ghosts}
 use Rattle.mt_model.specs.History.{after}
@@ -12,6 +12,7 @@ use Rattle.mt_restart.specs.declared.standing.Standing.TheVariants.{Stands, Ende
 use Rattle.mt_mark.specs.Rule.{dones}
 use Rattle.mt_mark.specs.declared.view.Entry.{Entry}
 use Rattle.mt_locked.specs.Began.{BeganOn}
+use Rattle.mt_txn.specs.Seen.{KernelSeen, seen_of}
 use Rattle.mt_locked.specs.Seen.{LockedSeen}
 
 -- A restart finds in these bytes what this book leads to from this base, or the book and some further commits.
@@ -38,10 +39,11 @@ KeepsHistory seen may_leave base history (Stands k) =
     BeganOn seen may_leave base k × IsPrefix history (book_in (Stands k) history)
 KeepsHistory seen may_leave base history (Ended device) = LeavesBook may_leave base history device
 
-abbrev pub is_ended : {D : Type 0} → {g : Ghosts D} → Standing D g → Bool
-is_ended (Stands k) = false
-is_ended (Ended device) = true
+-- the kernel as it is seen, if one stands
+abbrev pub kernel_in : {D : Type 0} → {g : Ghosts D} → Standing D g → Option (KernelSeen D)
+kernel_in (Stands k) = Some (seen_of k)
+kernel_in (Ended device) = None
 
 -- what contracts see of it, with the history as it is at the mark
-abbrev pub seen_in : {D : Type 0} → {g : Ghosts D} → Standing D g → List Entry → LockedSeen
-seen_in standing list = record { book = book_in standing (dones list); list = list; is_left = is_ended standing }
+abbrev pub seen_in : {D : Type 0} → {g : Ghosts D} → Standing D g → List Entry → LockedSeen D
+seen_in standing list = record { kernel = kernel_in standing; book = book_in standing (dones list); list = list }

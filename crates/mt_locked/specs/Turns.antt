@@ -12,7 +12,7 @@ use Rattle.mt_restart.specs.Rotated.{early_cause}
 use Rattle.mt_locked.specs.Began.{BeganOn}
 use Rattle.mt_restart.specs.TurnFaults.{IsTurnFault}
 use Rattle.mt_restart.specs.declared.standing.Standing.{Standing}
-use Rattle.mt_locked.specs.Standings.{KeepsHistory, book_in, is_ended}
+use Rattle.mt_locked.specs.Standings.{KeepsHistory, book_in, kernel_in}
 use Rattle.mt_locked.specs.declared.log_use.LogUse.{LogUse}
 use Rattle.mt_txn.specs.Shown.{Shows}
 use Rattle.mt_txn.specs.declared.kernel.Kernel.{Kernel}
@@ -52,4 +52,4 @@ pub record IsRotation {D : Type 0} (g : Ghosts D) (commits : ℕ) (old new : Sta
   pub did : outcome ≡ Ok true → (base : Base) (history : List Committed)
       → KeepsHistory g.seen g.may_leave base history old → HasTurned g base
   -- if no more than the device is left, it is refused
-  pub gone : is_ended new ≡ true → IsErr outcome
+  pub gone : kernel_in new ≡ None → IsErr outcome

@@ -1,13 +1,13 @@
 -- What is closed, and what a pass begins with.
-use Rattle.std.specs.Prelude.{◌≡◌, ◌⊎◌, ℕ, ◌+◌, ◌≤◌, false, List, [], ◌∷◌, length, All}
+use Rattle.std.specs.Prelude.{◌≡◌, ◌⊎◌, ℕ, ◌+◌, ◌≤◌, IsSome, List, [], ◌∷◌, length, All}
 use Rattle.mt_mark.specs.Rule.{dones, labelled, own, Holds, IsFrom}
 use Rattle.mt_mark.specs.declared.view.Entry.{Entry}
 use Rattle.mt_model.specs.declared.history.Committed.{Committed}
 use Rattle.mt_locked.specs.Seen.{LockedSeen, PassSeen}
 
 -- a kernel is there, and the history is its whole book
-pub record IsWhole (l : LockedSeen) : Type 0 where
-  pub here : l.is_left ≡ false
+pub record IsWhole {D : Type 0} (l : LockedSeen D) : Type 0 where
+  pub here : IsSome l.kernel
   pub all : dones l.list ≡ l.book
 
 -- One list, passes aside the book, begins with what each pass has seen, and has no further entry of that pass.

@@ -1,6 +1,6 @@
 // What the lock of a shared kernel guards, and what is done under it. mt_shared calls it with the lock taken;
 // nothing here waits or wakes a thread.
-ghost use Rattle.std.specs.Prelude.{◌≡◌, ◌+◌, ◌++◌, ◌∷◌, [], ◌≤◌, false, length, OnOk, IfOk, IfErr, IsErr, IfNone, IfSome, Ok, IsTrue, ◌↔◌, slice_get, Some, All, true};
+ghost use Rattle.std.specs.Prelude.{◌≡◌, ◌+◌, ◌++◌, ◌∷◌, [], ◌≤◌, false, length, OnOk, IfOk, IfErr, IsErr, IfNone, IfSome, Ok, IsTrue, ◌↔◌, slice_get, Some, None, All, true};
 ghost use mathlib.Core.List.{IsPrefix};
 ghost use Rattle.mt_mark.specs.Legal.{IsLegal};
 ghost use Rattle.mt_mark.specs.Rule.{dones, Holds, IsConfirmed};
@@ -8,8 +8,10 @@ ghost use Rattle.mt_locked.specs.Began.{BeganOn, IsIdle};
 ghost use Rattle.mt_locked.specs.Standings.{LeavesBook};
 ghost use Rattle.mt_locked.specs.Refusals.{IsCloseRefusal};
 ghost use Rattle.mt_restart.specs.TurnFaults.{IsTurnFault};
-ghost use Rattle.mt_locked.specs.Seen.{PassSeen, Entered, CannotEnter};
+ghost use Rattle.mt_locked.specs.Seen.{PassSeen, Entered, CannotEnter, IsAsked};
 ghost use Rattle.mt_locked.specs.Turns.{HasTurned, IsUseOn};
+ghost use Rattle.mt_txn.specs.Answered.{AnswersAbort, AnswersAbortStep, AnswersBegin, AnswersCall, AnswersCommit, AnswersFlush, AnswersForce, AnswersStep};
+ghost use Rattle.mt_txn.specs.Seen.{seen_of};
 ghost use Rattle.mt_txn.specs.Shown.{is_failed};
 ghost use Rattle.mt_txn.specs.Turned.{HasNobody};
 ghost use Rattle.mt_locked.specs.Whole.{HasAllOf, IsOfAll, IsWhole, all_own};
@@ -25,9 +27,8 @@ use mt_base::{Refusal, TxnNo};
 use mt_disk::Device;
 use mt_mark::{End, Entry};
 use mt_model::{Committed, Op};
-use mt_pool::Flushed;
 use mt_restart::Standing;
-use mt_txn::{AbortStepped, Called, Kernel, KernelForced, Stepped};
+use mt_txn::{AbortStepped, Called, Flushed, Kernel, KernelForced, Stepped};
 use std::alloc::Global;
 use std::marker::{Model, PhantomData};
 
@@ -69,7 +70,7 @@ impl<D: Device, J: Naming> Model for Locked<D, J> {
     ghost use Rattle.mt_locked.specs.Seen.{LockedSeen};
     ghost use Rattle.mt_locked.specs.Standings.{KeepsHistory, seen_in};
 
-    ghost Value = { LockedSeen };
+    ghost Value = { LockedSeen D };
 
     ghost view = { λ l. seen_in l.standing l.end.view.list };
 
@@ -87,7 +88,7 @@ impl<D: Device, J: Naming> Locked<D, J> {
         requires front { IsPrefix (dones end.view.list) kernel.core.book.items }
         ensures book { result.book ≡ kernel.core.book.items }
         ensures list { result.list ≡ end.view.list }
-        ensures here { result.is_left ≡ false }
+        ensures kernel { result.kernel ≡ Some (seen_of kernel) }
     {
         Locked {
             standing: Standing::Stands(kernel),
@@ -108,6 +109,7 @@ impl<D: Device, J: Naming> Locked<D, J> {
         requires own { txn.pass ≡ pass.old.number }
         ensures entered { OnOk result (Entered J.base self.old place pass.old txn pass.new) }
         ensures back { IfErr result (λ t. (t ≡ txn) × (pass.new ≡ pass.old) × CannotEnter self.old place txn) }
+        ensures kernel { self.new.kernel ≡ self.old.kernel }
         ensures book { self.new.book ≡ self.old.book }
         ensures list { IfErr result (λ _. self.new.list ≡ self.old.list) }
     {
@@ -181,7 +183,9 @@ impl<D: Device, J: Naming> Locked<D, J> {
 
     /// Begins a transaction, as [`Kernel::begin`]; the book and the history stay.
     pub fn begin(&mut self, session: u32) -> Result<TxnNo, Refusal>
-        ensures { self.new ≡ self.old }
+        ensures kernel { IsAsked self.old result self.new (λ k n. AnswersBegin k result n) }
+        ensures book { self.new.book ≡ self.old.book }
+        ensures list { self.new.list ≡ self.old.list }
     {
         let Standing::Stands(kernel) = &mut self.standing else {
             return Err(Refusal::DeviceFailed);
@@ -191,7 +195,10 @@ impl<D: Device, J: Naming> Locked<D, J> {
 
     /// Begins an operation, as [`Kernel::call`]; the book and the history stay.
     pub fn call(&mut self, txn: TxnNo, op: &Op) -> Result<Called, Refusal>
-        ensures { self.new ≡ self.old }
+        ensures kernel { IsAsked self.old result self.new
+            (λ k n. AnswersCall D.seen D.may_leave k txn op.now result n) }
+        ensures book { self.new.book ≡ self.old.book }
+        ensures list { self.new.list ≡ self.old.list }
     {
         let Standing::Stands(kernel) = &mut self.standing else {
             return Err(Refusal::DeviceFailed);
@@ -201,7 +208,10 @@ impl<D: Device, J: Naming> Locked<D, J> {
 
     /// Makes a step of an operation, as [`Kernel::step`]; the book and the history stay.
     pub fn step(&mut self, txn: TxnNo) -> Result<Stepped, Refusal>
-        ensures { self.new ≡ self.old }
+        ensures kernel { IsAsked self.old result self.new
+            (λ k n. AnswersStep D.seen D.may_leave D.faults k txn result n) }
+        ensures book { self.new.book ≡ self.old.book }
+        ensures list { self.new.list ≡ self.old.list }
     {
         let Standing::Stands(kernel) = &mut self.standing else {
             return Err(Refusal::DeviceFailed);
@@ -211,19 +221,25 @@ impl<D: Device, J: Naming> Locked<D, J> {
 
     /// Appends a commit, and answers its place, as [`Kernel::commit_begin`]; the book and the history stay.
     pub fn commit_begin(&mut self, txn: TxnNo) -> Result<u64, Refusal>
-        ensures { self.new ≡ self.old }
+        ensures kernel { IsAsked self.old result self.new (λ k n. AnswersCommit k txn result n) }
+        ensures book { self.new.book ≡ self.old.book }
+        ensures list { self.new.list ≡ self.old.list }
     {
         let Standing::Stands(kernel) = &mut self.standing else {
             return Err(Refusal::DeviceFailed);
         };
-        let place = kernel.commit_begin(txn)?;
-        self.appended = place;
-        Ok(place)
+        let outcome = kernel.commit_begin(txn);
+        if let Ok(place) = &outcome {
+            self.appended = *place;
+        }
+        outcome
     }
 
     /// Begins an abort, as [`Kernel::abort_begin`]; the book and the history stay.
     pub fn abort_begin(&mut self, txn: TxnNo) -> Result<(), Refusal>
-        ensures { self.new ≡ self.old }
+        ensures kernel { IsAsked self.old result self.new (λ k n. AnswersAbort k txn result n) }
+        ensures book { self.new.book ≡ self.old.book }
+        ensures list { self.new.list ≡ self.old.list }
     {
         let Standing::Stands(kernel) = &mut self.standing else {
             return Err(Refusal::DeviceFailed);
@@ -233,7 +249,10 @@ impl<D: Device, J: Naming> Locked<D, J> {
 
     /// Makes a step of an abort, as [`Kernel::abort_step`]; the book and the history stay.
     pub fn abort_step(&mut self, txn: TxnNo) -> Result<AbortStepped, Refusal>
-        ensures { self.new ≡ self.old }
+        ensures kernel { IsAsked self.old result self.new
+            (λ k n. AnswersAbortStep D.seen D.may_leave D.faults k txn result n) }
+        ensures book { self.new.book ≡ self.old.book }
+        ensures list { self.new.list ≡ self.old.list }
     {
         let Standing::Stands(kernel) = &mut self.standing else {
             return Err(Refusal::DeviceFailed);
@@ -243,7 +262,9 @@ impl<D: Device, J: Naming> Locked<D, J> {
 
     /// Flushes a page, as [`Kernel::flush_step`]; the book and the history stay.
     pub fn flush_step(&mut self) -> Result<Flushed, Refusal>
-        ensures { self.new ≡ self.old }
+        ensures kernel { IsAsked self.old result self.new (λ k n. AnswersFlush D.faults k result n) }
+        ensures book { self.new.book ≡ self.old.book }
+        ensures list { self.new.list ≡ self.old.list }
     {
         let Standing::Stands(kernel) = &mut self.standing else {
             return Err(Refusal::DeviceFailed);
@@ -253,6 +274,7 @@ impl<D: Device, J: Naming> Locked<D, J> {
 
     /// One force step. The book grows at its end.
     pub fn force_step(&mut self) -> Result<KernelForced, Refusal>
+        ensures kernel { IsAsked self.old result self.new (λ k n. AnswersForce D.faults k result n) }
         ensures book { IsPrefix self.old.book self.new.book }
         ensures list { self.new.list ≡ self.old.list }
     {
@@ -442,7 +464,7 @@ impl<D: Device + Drop, J: Naming> Locked<D, J> {
     pub fn rotate(&mut self, alloc: Global, frames: usize) -> Result<bool, Refusal>
         ensures why { IfErr result IsTurnFault }
         ensures did { result ≡ Ok true → HasTurned ⟦<D as Device>⟧ J.base }
-        ensures gone { self.new.is_left ≡ true → IsErr result }
+        ensures gone { self.new.kernel ≡ None → IsErr result }
         ensures book { self.new.book ≡ self.old.book }
         ensures list { self.new.list ≡ self.old.list }
     {
@@ -467,13 +489,7 @@ impl<D: Device + Drop, J: Naming> Locked<D, J> {
             due: _,
             of: _,
         } = self;
-        match standing {
-            Standing::Stands(kernel) => {
-                kernel.can_restart();
-                kernel.into_device()
-            }
-            Standing::Ended(device) => device,
-        }
+        standing.into_device()
     }
 }
 

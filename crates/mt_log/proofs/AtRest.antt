@@ -5,7 +5,7 @@ use Rattle.mt_disk.proofs.Frame.{runs_both, leaves_more}
 use Rattle.mt_frame.specs.declared.records.Record.{Record}
 use Rattle.mt_log.specs.Batch.{Scans}
 use Rattle.mt_log.specs.Area.{Area, ScansWithOrWithout, TornFrom, AreaBegins}
-use Rattle.mt_log.specs.Words.{durable_batches, in_flight, area_start, area_end, area_size, calls_left, calls_after, has_failed, is_failed, coming, batch_of, IsOn}
+use Rattle.mt_log.specs.Words.{seen_of, durable_batches, in_flight, area_start, area_end, area_size, calls_left, calls_after, has_failed, is_failed, coming, batch_of, IsOn}
 use Rattle.mt_log.specs.declared.log.Log.{Log}
 use Rattle.mt_log.specs.declared.stage.Step.{Step}
 use Rattle.mt_log.specs.declared.stage.Step.TheVariants.{WriteBody, SyncBody, WriteGate, SyncGate}
@@ -17,12 +17,12 @@ use Rattle.mt_log.proofs.Settled.{leaves_coming, batches_in}
 module _ {D : Type 0} (seen : D → List ℕ) (may_leave : D → List ℕ → Type 0) (log : Log) (device : D) where
   -- the durable batches, with the one that comes or without
   pub scans_coming : IsOn seen may_leave log device → (c : List ℕ) → may_leave device c → ScansWithOrWithout (area_start log) (area_end log) (durable_batches log) (coming log) c
-  unfolding IsOn area_start area_end durable_batches coming
+  unfolding IsOn seen_of
   scans_coming on c left = leaves_coming (seen device) (may_leave device) log.place.start log.place.end log.next (batches_in log) log.in_flight.items log.waiting.items log.stage on c left
 
   -- the durable batches, with the one that is being forced or without
   pub scans_forced : IsOn seen may_leave log device → (c : List ℕ) → may_leave device c → ScansWithOrWithout (area_start log) (area_end log) (durable_batches log) (in_flight log) c
-  unfolding IsOn area_start area_end durable_batches in_flight
+  unfolding IsOn seen_of
   scans_forced on c left = leaves (seen device) (may_leave device) log.place.start log.place.end log.next (batches_in log) log.in_flight.items log.stage on c left
 
 no_calls : (step : Step) → calls_after (Forcing step) ≡ 0 → ⊥
@@ -39,7 +39,7 @@ idle_scans seen may start end next bs b Failed a none well c left = absurd (cc)
 -- where nothing is being forced, the durable batches
 pub scans_at_rest : {D : Type 0} (seen : D → List ℕ) (may_leave : D → List ℕ → Type 0) (log : Log) (device : D) → IsOn seen may_leave log device → calls_left log ≡ 0 → has_failed log ≡ false
     → (c : List ℕ) → may_leave device c → Scans c (area_start log) (area_end log) (durable_batches log)
-unfolding IsOn area_start area_end durable_batches calls_left has_failed
+unfolding IsOn seen_of
 scans_at_rest seen may_leave log device on none well c left = idle_scans (seen device) (may_leave device) log.place.start log.place.end log.next (batches_in log) log.in_flight.items log.stage on none well c left
 
 coming_forced : (stage : Stage) (wait flight : List Record) → 0 < calls_after stage → batch_of stage wait flight ≡ flight
@@ -49,7 +49,7 @@ coming_forced Failed wait flight some = refl
 
 -- what comes is what is being forced
 pub coming-in_flight : (log : Log) → 0 < calls_left log → coming log ≡ in_flight log
-unfolding coming in_flight calls_left
+unfolding seen_of
 coming-in_flight log some = coming_forced log.stage log.waiting.items log.in_flight.items some
 
 -- a step more of a force
@@ -77,5 +77,5 @@ area_begins moment left_since old mid new contents start end s e images b bs s_i
 
 -- the area's size is from where it begins to where it ends
 pub size_of : (log : Log) → area_size log ≡ area_end log - area_start log
-unfolding area_size area_start area_end
+unfolding seen_of
 size_of log = refl

@@ -9,7 +9,7 @@ use Rattle.mt_log.specs.Area.{Area, Body, Outcome, Present, gate_behind}
 use Rattle.mt_log.specs.declared.stage.Step.TheVariants.{WriteBody, SyncBody, WriteGate, SyncGate}
 use Rattle.mt_log.specs.declared.stage.Stage.{Stage}
 use Rattle.mt_log.specs.declared.stage.Stage.TheVariants.{Idle, Forcing, Failed}
-use Rattle.mt_log.specs.Words.{IsOn, area_start, area_size, stands_at}
+use Rattle.mt_log.specs.Words.{seen_of, IsOn, area_start, area_size, stands_at}
 use Rattle.mt_log.specs.declared.log.Log.{Log}
 use Rattle.mt_log.proofs.Steps.{stands_le, length-framed, length-closed}
 
@@ -69,12 +69,12 @@ area_elsewhere at n seen seen2 may may2 start end next bs batch stage a apart t 
 -- the same, of a log and its device
 pub on_elsewhere : {D : Type 0} (seen : D → List ℕ) (may_leave : D → List ℕ → Type 0) (log : Log) (old new : D) (at n : ℕ) → IsOn seen may_leave log old → Apart at n (area_start log) (area_size log)
     → Torn at n (seen old) (seen new) → Follows (Torn at n) (may_leave old) (may_leave new) → IsOn seen may_leave log new
-unfolding IsOn area_start area_size
+unfolding IsOn seen_of
 on_elsewhere seen may_leave log old new at n on apart torn follows =
     area_elsewhere at n (seen old) (seen new) (may_leave old) (may_leave new) log.place.start log.place.end log.next _ log.in_flight.items log.stage on apart torn follows
 
 -- a log of which the same is known, as after an append, is on the device as well
 pub on_same : {D : Type 0} (seen : D → List ℕ) (may_leave : D → List ℕ → Type 0) (old new : Log) (device : D) → stands_at new ≡ stands_at old → IsOn seen may_leave old device → IsOn seen may_leave new device
-unfolding IsOn stands_at
+unfolding IsOn seen_of
 on_same seen may_leave old new device same on =
     subst (λ (s : ℕ × ℕ × ℕ × List (List Record) × List Record × Stage). Area (seen device) (may_leave device) s.0 s.1 s.2 s.3 s.4 s.5) (sym same) on

@@ -1,4 +1,6 @@
 pub mod AtRest
+pub mod Begun
+pub mod Bytes
 pub mod Calls
 pub mod Elsewhere
 pub mod Frames
@@ -8,5 +10,6 @@ pub mod Prefix
 pub mod ReadOn
 pub mod Ruling
 pub mod Settled
+pub mod Stepped
 pub mod Steps
 pub mod Turns

@@ -7,8 +7,9 @@ use Rattle.mt_frame.specs.History.{may_stand, MayFollow, BatchesMayFollow, IsHis
 use Rattle.mt_log.specs.Batch.{joined}
 use Rattle.mt_log.specs.Area.{ScansWithOrWithout}
 use Rattle.mt_log.specs.Holds.{HasItsPage, AreRecords, AreBatches}
+use Rattle.mt_log.specs.Seen.{LogSeen, with_record}
 use Rattle.mt_log.specs.Sound.{IsSound, HoldsBeginning}
-use Rattle.mt_log.specs.Words.{durable_batches, durable, in_flight, waiting, appended, area_start, area_end, coming, batch_of}
+use Rattle.mt_log.specs.Words.{seen_of, durable_batches, durable, in_flight, waiting, appended, area_start, area_end, coming, batch_of}
 use Rattle.mt_log.specs.declared.log.Log.{Log}
 use Rattle.mt_log.specs.declared.stage.Stage.{Stage}
 use Rattle.mt_log.specs.declared.stage.Stage.TheVariants.{Idle, Forcing, Failed}
@@ -85,11 +86,11 @@ coming_first (Forcing step) flight wait none = (wait, refl)
 coming_first Failed flight wait none = (wait, refl)
 
 pub coming_begins : (log : Log) → (rest : List Record) × (coming log ++ rest ≡ in_flight log ++ waiting log)
-unfolding in_flight waiting coming
+unfolding seen_of
 coming_begins log = coming_first log.stage log.in_flight.items log.waiting.items (λ is. nothing log.in_flight.items (log.at_rest is).none)
 
 pub durable-joined : (log : Log) → durable log ≡ joined (durable_batches log)
-unfolding durable durable_batches
+unfolding seen_of
 durable-joined log = refl
 
 pub beginning_found : (pages : ℕ) (log : Log) (c : List ℕ) → IsSound pages log → ScansWithOrWithout (area_start log) (area_end log) (durable_batches log) (coming log) c → HoldsBeginning pages log c
@@ -193,6 +194,10 @@ sound_appended pages old new r batches flights waits grammar page may sound =
       each = subst (AreRecords pages) (sym all) (each_both IsRecord (durable old ++ behind) (r ∷ []) sound.each.0 (grammar, tt), each_both (HasItsPage pages) (durable old ++ behind) (r ∷ []) sound.each.1 (page, tt));
       rules = subst IsHistory (sym rows) (history_push bs (behind ++ r ∷ []) sound.begun parts.0 last);
     }
+
+-- the same, of what the log is seen as
+pub sound_with_record : (pages : ℕ) (old new : Log) (r : Record) → seen_of new ≡ with_record (seen_of old) r → IsRecord r → HasItsPage pages r → may_stand false (appended old) r ≡ true → IsSound pages old → IsSound pages new
+sound_with_record pages old new r is = sound_appended pages old new r (ap (λ (x : LogSeen). x.batches) is) (ap (λ (x : LogSeen). x.flight) is) (ap (λ (x : LogSeen). x.waits) is)
 
 -- whatever a step did
 pub sound_moved : (pages : ℕ) (old new : Log) → ((durable_batches new ≡ durable_batches old) × (in_flight new ++ waiting new ≡ in_flight old ++ waiting old)) ⊎ ((durable_batches new ≡ durable_batches old ++ in_flight old ∷ []) × (in_flight new ≡ []) × (waiting new ≡ waiting old))

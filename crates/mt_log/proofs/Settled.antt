@@ -1,12 +1,12 @@
 -- What a force has come to after a device call, and what it has kept.
-use Rattle.std.proofs.Common.{◌≡◌, ◌⊎◌, true, inl, inr, ℕ, ◌+◌, ◌-◌, ◌*◌, ◌<◌, List, vec_len, [], ◌∷◌, ◌++◌, length, refl, sym, ◌∙◌, ap, subst, arith, map, length-append, append_assoc, append-nil, Result, Ok, Err, OnOk, OnErr, IsErr, IfOk}
+use Rattle.std.proofs.Common.{◌≡◌, inl, inr, ℕ, ◌+◌, ◌<◌, List, [], ◌∷◌, ◌++◌, length, refl, sym, ◌∙◌, ap, subst, arith, map, append_assoc, append-nil, Result, Ok, Err, OnOk, OnErr, IsErr}
 use Rattle.mt_base.specs.declared.refusal.Refusal.{Refusal}
 use Rattle.mt_frame.specs.declared.records.Record.{Record}
 use Rattle.mt_frame.specs.Grammar.{body_text}
 use Rattle.mt_log.specs.Batch.{joined}
 use Rattle.mt_log.specs.Area.{Area, AreaAfter, ScansWithOrWithout, step_behind}
 use Rattle.mt_log.specs.Forcing.{IsCall}
-use Rattle.mt_log.specs.Words.{has_failed, is_failed, Moves, durable_batches, batches_after, durable, in_flight, waiting, used, calls_left, calls_after, IsStep, AreaOf, batch_of}
+use Rattle.mt_log.specs.Words.{calls_after, AreaOf, batch_of}
 use Rattle.mt_log.specs.declared.log.Log.{Log}
 use Rattle.mt_log.specs.declared.log.Forced.{Forced}
 use Rattle.mt_log.specs.declared.log.Forced.TheVariants.{More, Durable, Idle as Nothing}
@@ -95,108 +95,14 @@ pub joined_push : (bs : List (List Record)) (b : List Record) → joined (bs ++ 
 joined_push [] b = append-nil b
 joined_push (x ∷ bs) b = ap (λ (l : List Record). x ++ l) (joined_push bs b) ∙ sym (append_assoc x (joined bs) b)
 
-more_left : (step : Step) → calls_after (Forcing step) ≡ 0 → ⊥
+pub more_left : (step : Step) → calls_after (Forcing step) ≡ 0 → ⊥
 more_left WriteBody is = cc
 more_left SyncBody is = cc
 more_left WriteGate is = cc
 more_left SyncGate is = cc
 
-step_fewer : (step : Step) → (step ≡ SyncGate → ⊥) → (calls_after (Forcing (step_behind step)) + 1 ≡ calls_after (Forcing step)) × (0 < calls_after (Forcing (step_behind step)))
+pub step_fewer : (step : Step) → (step ≡ SyncGate → ⊥) → (calls_after (Forcing (step_behind step)) + 1 ≡ calls_after (Forcing step)) × (0 < calls_after (Forcing (step_behind step)))
 step_fewer WriteBody not = (refl, omega arith)
 step_fewer SyncBody not = (refl, omega arith)
 step_fewer WriteGate not = (refl, omega arith)
 step_fewer SyncGate not = absurd (not refl)
-
-one_fewer : (step : Step) → (step ≡ SyncGate → ⊥) → (old new : Stage) → old ≡ Forcing step → new ≡ Forcing (step_behind step) → calls_after new + 1 ≡ calls_after old
-one_fewer step not old new o n = ap (λ (s : Stage). calls_after s + 1) n ∙ (step_fewer step not).0 ∙ ap calls_after (sym o)
-
-some_after : (step : Step) → (step ≡ SyncGate → ⊥) → (new : Stage) → new ≡ Forcing (step_behind step) → 0 < calls_after new
-some_after step not new n = subst (λ (s : Stage). 0 < calls_after s) (sym n) (step_fewer step not).1
-
-module _ (old new : Log) (step : Step) where
-  pub appended_kept : (result : Result Forced Refusal) → IsCall old step result new → durable new ++ (in_flight new ++ waiting new) ≡ durable old ++ (in_flight old ++ waiting old)
-  unfolding durable in_flight waiting
-  appended_kept (Ok More) call = let w = call.came in
-      ap (λ h. joined (map (λ batch. batch.items) h.items) ++ (new.in_flight.items ++ new.waiting.items)) w.batches
-      ∙ ap (λ h. joined (batches_in old) ++ (h.items ++ new.waiting.items)) w.in_flight
-      ∙ ap (λ h. joined (batches_in old) ++ (old.in_flight.items ++ h.items)) call.waiting
-  appended_kept (Ok (Durable pos)) call = let w = call.came in
-      let more : joined (batches_in new) ≡ joined (batches_in old) ++ old.in_flight.items = ap (λ l. joined (map (λ batch. batch.items) l)) w.batches ∙ ap joined (batches_push old.batches.items old.in_flight) ∙ joined_push (batches_in old) old.in_flight.items in
-      ap (λ (l : List Record). l ++ (new.in_flight.items ++ new.waiting.items)) more
-      ∙ ap (λ (l : List Record). (joined (batches_in old) ++ old.in_flight.items) ++ (l ++ new.waiting.items)) w.in_flight
-      ∙ ap (λ h. (joined (batches_in old) ++ old.in_flight.items) ++ h.items) call.waiting
-      ∙ append_assoc (joined (batches_in old)) old.in_flight.items old.waiting.items
-  appended_kept (Ok Nothing) call = absurd call.came
-  appended_kept (Err e) call = let w = call.came in
-      ap (λ h. joined (map (λ batch. batch.items) h.items) ++ (new.in_flight.items ++ new.waiting.items)) w.batches
-      ∙ ap (λ h. joined (batches_in old) ++ (h.items ++ new.waiting.items)) w.in_flight
-      ∙ ap (λ h. joined (batches_in old) ++ (old.in_flight.items ++ h.items)) call.waiting
-
-  -- the bytes in use are the same
-  pub used_kept : (result : Result Forced Refusal) → IsCall old step result new → used new ≡ used old
-  unfolding used
-  used_kept result call =
-      ap (λ p. (new.behind - p.start) + 5 * new.waiting_count + (vec_len new.pending - 4)) call.place
-      ∙ ap (λ (k : ℕ). (k - old.place.start) + 5 * new.waiting_count + (vec_len new.pending - 4)) call.behind
-      ∙ ap (λ (k : ℕ). (old.behind - old.place.start) + 5 * k + (vec_len new.pending - 4)) call.count
-      ∙ ap (λ v. (old.behind - old.place.start) + 5 * old.waiting_count + (vec_len v - 4)) call.pending
-
-  -- what the step did, in the words of callers
-  pub step_taken : (result : Result Forced Refusal) → IsCall old step result new → old.stage ≡ Forcing step → IfOk result (λ forced. IsStep old forced new)
-  unfolding durable in_flight waiting calls_left
-  step_taken (Ok More) call stage = let w = call.came in (
-    ap (λ h. joined (map (λ batch. batch.items) h.items)) w.batches,
-    (λ zero_left. absurd (more_left step (ap calls_after (sym stage) ∙ zero_left))),
-    (λ some_left. (ap (λ h. h.items) w.in_flight, ap (λ h. h.items) call.waiting, one_fewer step w.not_last old.stage new.stage stage w.stage, some_after step w.not_last new.stage w.stage, used_kept (Ok More) call)),
-  )
-  step_taken (Ok (Durable pos)) call stage = let w = call.came in
-      let more : joined (batches_in new) ≡ joined (batches_in old) ++ old.in_flight.items = ap (λ l. joined (map (λ batch. batch.items) l)) w.batches ∙ ap joined (batches_push old.batches.items old.in_flight) ∙ joined_push (batches_in old) old.in_flight.items in (
-        ap calls_after (stage ∙ ap Forcing w.last),
-        ap calls_after w.stage,
-        more,
-        w.in_flight,
-        ap (λ h. h.items) call.waiting,
-        used_kept (Ok (Durable pos)) call,
-        w.place ∙ old.counted_batched ∙ sym (ap length more ∙ length-append (joined (batches_in old)) old.in_flight.items),
-      )
-  step_taken (Ok Nothing) call stage = absurd call.came
-  step_taken (Err e) call stage = tt
-
-  pub batches_kept : (result : Result Forced Refusal) → IsCall old step result new → IfOk result (λ forced. durable_batches new ≡ batches_after old forced)
-  unfolding durable_batches in_flight
-  batches_kept (Ok More) call = ap (λ h. map (λ batch. batch.items) h.items) call.came.batches
-  batches_kept (Ok (Durable pos)) call = ap (λ l. map (λ batch. batch.items) l) call.came.batches ∙ batches_push old.batches.items old.in_flight
-  batches_kept (Ok Nothing) call = absurd call.came
-  batches_kept (Err e) call = tt
-
-  -- where the records went
-  pub moved : (result : Result Forced Refusal) → IsCall old step result new → old.stage ≡ Forcing step → Moves old new
-  unfolding durable in_flight waiting calls_left has_failed
-  moved (Ok More) call stage = let w = call.came in inl (
-    ap (λ h. joined (map (λ batch. batch.items) h.items)) w.batches,
-    ap (λ h. h.items) w.in_flight,
-    ap (λ h. h.items) call.waiting,
-    (λ zero_left well. absurd (let s = some_after step w.not_last new.stage w.stage in omega arith)),
-  )
-  moved (Ok (Durable pos)) call stage = let w = call.came in
-      let more : joined (batches_in new) ≡ joined (batches_in old) ++ old.in_flight.items = ap (λ l. joined (map (λ batch. batch.items) l)) w.batches ∙ ap joined (batches_push old.batches.items old.in_flight) ∙ joined_push (batches_in old) old.in_flight.items in
-      inr (inr (ap calls_after w.stage, more, w.in_flight, ap (λ h. h.items) call.waiting))
-  moved (Ok Nothing) call stage = absurd call.came
-  moved (Err e) call stage = let w = call.came in inl (
-    ap (λ h. joined (map (λ batch. batch.items) h.items)) w.batches,
-    ap (λ h. h.items) w.in_flight,
-    ap (λ h. h.items) call.waiting,
-    (λ zero_left well. let broken : is_failed new.stage ≡ true = ap is_failed w.stage in absurd (cc)),
-  )
-
-  -- the same, of the durable batches
-  pub moved_batches : (result : Result Forced Refusal) → IsCall old step result new
-      → ((durable_batches new ≡ durable_batches old) × (in_flight new ++ waiting new ≡ in_flight old ++ waiting old)) ⊎ ((durable_batches new ≡ durable_batches old ++ in_flight old ∷ []) × (in_flight new ≡ []) × (waiting new ≡ waiting old))
-  unfolding durable_batches in_flight waiting
-  moved_batches (Ok More) call = let w = call.came in
-      inl (ap (λ h. map (λ batch. batch.items) h.items) w.batches, ap (λ h. h.items ++ new.waiting.items) w.in_flight ∙ ap (λ h. old.in_flight.items ++ h.items) call.waiting)
-  moved_batches (Ok (Durable pos)) call = let w = call.came in
-      inr (ap (λ l. map (λ batch. batch.items) l) w.batches ∙ batches_push old.batches.items old.in_flight, w.in_flight, ap (λ h. h.items) call.waiting)
-  moved_batches (Ok Nothing) call = absurd call.came
-  moved_batches (Err e) call = let w = call.came in
-      inl (ap (λ h. map (λ batch. batch.items) h.items) w.batches, ap (λ h. h.items ++ new.waiting.items) w.in_flight ∙ ap (λ h. old.in_flight.items ++ h.items) call.waiting)

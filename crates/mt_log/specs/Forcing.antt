@@ -1,5 +1,5 @@
 -- What one device call of a batch's force does to the log.
-use Rattle.std.specs.Prelude.{ℕ, ◌≡◌, List, [], ◌∷◌, ◌++◌, Result, Ok, Err, vec_len, ◌+◌, map, ◌-◌, IfOk, OnErr, OnOk}
+use Rattle.std.specs.Prelude.{ℕ, ◌≡◌, ◌⊎◌, true, IsErr, IsOk, List, [], ◌∷◌, ◌++◌, Result, Ok, Err, vec_len, ◌+◌, map, ◌-◌, IfOk, OnErr, OnOk}
 use Rattle.mt_base.specs.declared.refusal.Refusal.{Refusal}
 use Rattle.mt_log.specs.Area.{Area, AreaAfter, step_behind, ScansWithOrWithout}
 use Rattle.mt_log.specs.declared.stage.Step.{Step}
@@ -9,6 +9,9 @@ use Rattle.mt_log.specs.declared.log.Log.{Log}
 use Rattle.mt_log.specs.declared.log.Forced.{Forced}
 use Rattle.mt_log.specs.declared.log.Forced.TheVariants.{More, Durable, Idle as Nothing}
 use Rattle.mt_log.specs.Words.{AreaOf, IsLast}
+use Rattle.mt_disk.specs.Calls.{HasFailedSince}
+use Rattle.mt_disk.specs.declared.device.Device.{Ghosts}
+use Rattle.mt_log.specs.Seen.{LogSeen, is_failed}
 use Rattle.mt_disk.specs.Disk.{Elapses, Follows, HasCause, Only, Torn, LeavesOnly}
 
 -- the call went well, and another comes after it
@@ -84,3 +87,8 @@ pub record MakesCall {D : Type 0} (seen : D → List ℕ) (may_leave : D → Lis
   pub rest : Torn old.place.start (old.place.end - old.place.start) (seen d) (seen e)
   pub alone : IfOk r (λ forced. IsLast forced → Only (seen e) (may_leave e))
   pub cause : HasCause (failures d) (failures e) r
+
+-- A step of a force fails if and only if the device failed in it or before.
+pub record ReportsFault {D T F : Type 0} (g : Ghosts D) (was : LogSeen) (d e : D) (r : Result T F) : Type 0 where
+  pub cause : IsErr r → HasFailedSince g d e ⊎ (is_failed was.stage ≡ true)
+  pub quiet : IsOk r → g.faults e ≡ g.faults d

@@ -14,6 +14,9 @@ pub mod NextSlot
 pub mod Quiet
 pub mod Reading
 pub mod Same
+pub mod Seen
 pub mod Sound
+pub mod Stepped
+pub mod Steps
 pub mod Texts
 pub mod Words

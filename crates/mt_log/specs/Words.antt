@@ -1,83 +1,76 @@
--- What a log is seen as.
-use Rattle.std.specs.Prelude.{ℕ, ◌≡◌, ◌⊎◌, ◌<◌, ◌+◌, ◌-◌, ◌*◌, Bool, true, false, List, [], ◌∷◌, ◌++◌, length, map, vec_len, vec_capacity}
+-- What a log shows, as functions of what it is seen as.
+use Rattle.std.specs.Prelude.{ℕ, ◌≡◌, ◌⊎◌, ◌<◌, ◌+◌, ◌-◌, Bool, true, false, List, [], ◌∷◌, ◌++◌, length, map, vec_len, vec_capacity}
+use Rattle.mt_disk.specs.declared.device.Device.{Ghosts}
 use Rattle.mt_frame.specs.declared.records.Record.{Record}
 use Rattle.mt_log.specs.Batch.{joined}
 use Rattle.mt_log.specs.Area.{Area}
-use Rattle.mt_log.specs.declared.stage.Step.TheVariants.{WriteBody, SyncBody, WriteGate, SyncGate}
+pub use Rattle.mt_log.specs.Seen.{LogSeen, calls_after, is_failed, batch_of}
+use Rattle.mt_log.specs.Seen.{AreaIn, bytes_in, coming_in}
 use Rattle.mt_log.specs.declared.stage.Stage.{Stage}
-use Rattle.mt_log.specs.declared.stage.Stage.TheVariants.{Idle, Forcing, Failed}
 use Rattle.mt_log.specs.declared.log.Log.{Log}
 use Rattle.mt_log.specs.declared.log.Forced.{Forced}
 use Rattle.mt_log.specs.declared.log.Forced.TheVariants.{More, Durable, Idle as Nothing}
 
+unfoldable pub seen_of : Log → LogSeen
+seen_of log = record {
+  start = log.place.start;
+  end = log.place.end;
+  gate = log.next;
+  batches = map (λ batch. batch.items) log.batches.items;
+  flight = log.in_flight.items;
+  waits = log.waiting.items;
+  stage = log.stage;
+}
+
+-- bytes of text that can be appended without memory: `seen_of` leaves them out, since `reserve` changes nothing else
+unfoldable pub room : Log → ℕ
+room log = vec_capacity log.pending - (vec_len log.pending + 1)
+
 -- the batches that no crash takes away, the area's first one included
-unfoldable pub durable_batches : Log → List (List Record)
-durable_batches log = map (λ batch. batch.items) log.batches.items
+abbrev pub durable_batches : Log → List (List Record)
+durable_batches log = (seen_of log).batches
 
 -- the records that no crash takes away, those in the batch being forced, and those for the next
-unfoldable pub durable : Log → List Record
-durable log = joined (map (λ batch. batch.items) log.batches.items)
+abbrev pub durable : Log → List Record
+durable log = joined (seen_of log).batches
 
-unfoldable pub in_flight : Log → List Record
-in_flight log = log.in_flight.items
+abbrev pub in_flight : Log → List Record
+in_flight log = (seen_of log).flight
 
-unfoldable pub waiting : Log → List Record
-waiting log = log.waiting.items
+abbrev pub waiting : Log → List Record
+waiting log = (seen_of log).waits
 
 abbrev pub appended : Log → List Record
 appended log = durable log ++ (in_flight log ++ waiting log)
 
 -- where the area begins and where it ends
-unfoldable pub area_start : Log → ℕ
-area_start log = log.place.start
+abbrev pub area_start : Log → ℕ
+area_start log = (seen_of log).start
 
-unfoldable pub area_end : Log → ℕ
-area_end log = log.place.end
+abbrev pub area_end : Log → ℕ
+area_end log = (seen_of log).end
 
 -- bytes of the area in use, and in all
-unfoldable pub used : Log → ℕ
-used log = (log.behind - log.place.start) + 5 * log.waiting_count + (vec_len log.pending - 4)
+abbrev pub used : Log → ℕ
+used log = bytes_in (seen_of log)
 
-unfoldable pub area_size : Log → ℕ
-area_size log = log.place.end - log.place.start
-
--- bytes of text that can be appended without memory
-unfoldable pub room : Log → ℕ
-room log = vec_capacity log.pending - (vec_len log.pending + 1)
-
-abbrev pub calls_after : Stage → ℕ
-calls_after Idle = 0
-calls_after (Forcing WriteBody) = 4
-calls_after (Forcing SyncBody) = 3
-calls_after (Forcing WriteGate) = 2
-calls_after (Forcing SyncGate) = 1
-calls_after Failed = 0
+abbrev pub area_size : Log → ℕ
+area_size log = (seen_of log).end - (seen_of log).start
 
 -- device calls until what is being forced is durable; 0 if nothing is being forced
-unfoldable pub calls_left : Log → ℕ
-calls_left log = calls_after log.stage
+abbrev pub calls_left : Log → ℕ
+calls_left log = calls_after (seen_of log).stage
 
-abbrev pub is_failed : Stage → Bool
-is_failed Idle = false
-is_failed (Forcing step) = false
-is_failed Failed = true
+abbrev pub has_failed : Log → Bool
+has_failed log = is_failed (seen_of log).stage
 
-unfoldable pub has_failed : Log → Bool
-has_failed log = is_failed log.stage
-
--- the batch that is being forced, or the one that a force would write
-abbrev pub batch_of : Stage → List Record → List Record → List Record
-batch_of Idle waiting in_flight = waiting
-batch_of (Forcing step) waiting in_flight = in_flight
-batch_of Failed waiting in_flight = in_flight
-
-unfoldable pub coming : Log → List Record
-coming log = batch_of log.stage log.waiting.items log.in_flight.items
+abbrev pub coming : Log → List Record
+coming log = coming_in (seen_of log)
 
 -- what is known of the log's area: where it begins and ends, the gate of the next batch, the durable
 -- batches, the one that is being forced, and how far its force has come
-unfoldable pub stands_at : Log → ℕ × ℕ × ℕ × List (List Record) × List Record × Stage
-stands_at log = (log.place.start, log.place.end, log.next, map (λ batch. batch.items) log.batches.items, log.in_flight.items, log.stage)
+abbrev pub stands_at : Log → ℕ × ℕ × ℕ × List (List Record) × List Record × Stage
+stands_at log = let it = seen_of log in (it.start, it.end, it.gate, it.batches, it.flight, it.stage)
 
 -- what a step that gave this answer did
 abbrev pub IsStep : Log → Forced → Log → Type 0
@@ -111,4 +104,8 @@ AreaOf seen may_leave log = Area seen may_leave log.place.start log.place.end lo
 
 -- The log is on this device: its durable batches stand in its area, whatever a crash leaves.
 unfoldable pub IsOn : {D : Type 0} → (D → List ℕ) → (D → List ℕ → Type 0) → Log → D → Type 0
-IsOn seen may_leave log device = AreaOf (seen device) (may_leave device) log
+IsOn seen may_leave log device = AreaIn (seen device) (may_leave device) (seen_of log)
+
+-- the same, of all the ghosts of the device as one
+abbrev pub LiesOn : {D : Type 0} → Ghosts D → Log → D → Type 0
+LiesOn g log device = IsOn g.seen g.may_leave log device

@@ -2,16 +2,17 @@
 ghost use Rattle.std.specs.Prelude.{◌≡◌, ◌⊎◌, ◌+◌, ◌-◌, ◌<◌, ◌≤◌, ◌^◌, ◌++◌, ◌∷◌, [], ℕ, List, false, length, vec_capacity, IfOk, IfErr, IsErrOf, OnOk};
 ghost use Rattle.std.specs.List.{AllByRecursion};
 ghost use Rattle.mt_base.specs.declared.refusal.Refusal.{Refusal};
-ghost use Rattle.mt_disk.specs.Disk.{Torn, Follows, LeavesOnly, Only};
+ghost use Rattle.mt_disk.specs.Calls.{IsSynced, Meanwhile};
+ghost use Rattle.mt_disk.specs.Disk.{Torn, Follows};
 ghost use Rattle.mt_frame.specs.Grammar.{IsRecord, body_text};
 ghost use Rattle.mt_log.specs.Area.{TornFrom, AreaBegins};
 ghost use Rattle.mt_log.specs.Batch.{framed, Scans};
 ghost use Rattle.mt_frame.specs.declared.records.Record.{Record};
 ghost use Rattle.mt_log.specs.declared.area.AreaPlace.{AreaPlace};
 ghost use Rattle.mt_log.specs.Ends.{EndsForce};
-ghost use Rattle.mt_log.specs.First.{IsBegun, IsFirst};
-ghost use Rattle.mt_log.specs.Sound.{IsSound};
-ghost use Rattle.mt_log.specs.Words.{durable_batches, durable, in_flight, waiting, area_start, area_end, area_size, used, calls_left, has_failed, IsOn};
+ghost use Rattle.mt_log.specs.First.{IsFirst};
+ghost use Rattle.mt_log.specs.Seen.{landed, new_log};
+ghost use Rattle.mt_log.specs.Words.{seen_of, area_end, calls_left, has_failed, LiesOn};
 
 use crate::area::AreaPlace;
 use crate::forces::close_text;
@@ -71,10 +72,10 @@ pub fn prepare_area(alloc: Global, place: AreaPlace, images: &[Record]) -> Resul
 
 // Forces the batch that is on its way, to the end.
 fn force_all<D: Device>(log: &mut Log, device: &mut D) -> Result<(), Refusal>
-    requires on { IsOn D.seen D.may_leave log.old device.old }
+    requires on { LiesOn D.Device log.old device.old }
     requires under_way { 0 < calls_left log.old }
     requires well { has_failed log.old ≡ false }
-    ensures { EndsForce D.seen D.may_leave D.faults D.moment D.left_since log.old log.new device.old device.new result }
+    ensures { EndsForce D.Device log.old log.new device.old device.new result }
 {
     while let Forced::More = log.force_step(device)? {}
     Ok(())
@@ -90,18 +91,16 @@ fn force_all<D: Device>(log: &mut Log, device: &mut D) -> Result<(), Refusal>
 pub fn begin_prepared<D: Device>(device: &mut D, prepared: Log) -> Result<Log, Refusal>
     requires prepared { (place : AreaPlace) × (images : List Record) × IsFirst place images prepared }
     requires within { area_end prepared ≤ length (D.seen device.old) }
-    ensures on { IfOk result (λ log. IsOn D.seen D.may_leave log device.new) }
-    ensures log { (place : AreaPlace) (images : List Record) → IsFirst place images prepared
-        → IfOk result (IsBegun place images) }
+    ensures on { IfOk result (λ log. LiesOn D.Device log device.new) }
+    ensures log { IfOk result (λ log. seen_of log ≡ landed (seen_of prepared)) }
     // Whenever a crash comes in this call, and what it leaves once the call has gone well.
     ensures begins { (place : AreaPlace) (images : List Record) → IsFirst place images prepared
-        → LeavesOnly D.moment D.left_since device.old device.new
-        (AreaBegins (D.may_leave device.old) place.start place.end images) }
+        → Meanwhile D.Device device.old device.new (AreaBegins (D.may_leave device.old) place.start place.end images) }
     ensures begun { (place : AreaPlace) (images : List Record) → IsFirst place images prepared
         → OnOk result ((c : List ℕ) → D.may_leave device.new c → Scans c place.start place.end (images ∷ [])) }
-    ensures alone { OnOk result (Only (D.seen device.new) (D.may_leave device.new)) }
+    ensures alone { OnOk result (IsSynced D.Device device.new) }
     ensures moments { (place : AreaPlace) (images : List Record) → IsFirst place images prepared
-        → LeavesOnly D.moment D.left_since device.old device.new
+        → Meanwhile D.Device device.old device.new
         (TornFrom (D.may_leave device.old) place.start (place.end - place.start)) }
     ensures elsewhere { (place : AreaPlace) (images : List Record) → IsFirst place images prepared
         → Follows (Torn place.start (place.end - place.start)) (D.may_leave device.old) (D.may_leave device.new) }
@@ -121,29 +120,18 @@ pub fn begin_prepared<D: Device>(device: &mut D, prepared: Log) -> Result<Log, R
 ///
 /// Refusals are [`Refusal::NoMemory`], before any device call, and [`Refusal::DeviceFailed`]. Nothing outside of the
 /// area is touched in any case.
-#[tactic(auto, unfolding(crate::specs::Words::durable))]
 pub fn begin_area<D: Device>(
     alloc: Global,
     device: &mut D,
     place: AreaPlace,
 ) -> Result<Log, Refusal>
     requires { place.end ≤ length (D.seen device.old) }
-    ensures on { IfOk result (λ log. IsOn D.seen D.may_leave log device.new) }
-    ensures start { IfOk result (λ log. area_start log ≡ place.start) }
-    ensures end { IfOk result (λ log. area_end log ≡ place.end) }
-    ensures size { IfOk result (λ log. area_size log ≡ place.end - place.start) }
-    ensures batches { IfOk result (λ log. durable_batches log ≡ [] ∷ []) }
-    ensures durable { IfOk result (λ log. durable log ≡ []) }
-    ensures in_flight { IfOk result (λ log. in_flight log ≡ []) }
-    ensures waiting { IfOk result (λ log. waiting log ≡ []) }
-    ensures used { IfOk result (λ log. used log ≡ 5) }
-    ensures calls { IfOk result (λ log. calls_left log ≡ 0) }
-    ensures failed { IfOk result (λ log. has_failed log ≡ false) }
-    ensures sound { IfOk result (λ log. (pages : ℕ) → IsSound pages log) }
-    ensures begins { LeavesOnly D.moment D.left_since device.old device.new
+    ensures on { IfOk result (λ log. LiesOn D.Device log device.new) }
+    ensures log { IfOk result (λ log. seen_of log ≡ new_log place) }
+    ensures begins { Meanwhile D.Device device.old device.new
         (AreaBegins (D.may_leave device.old) place.start place.end []) }
     ensures begun { OnOk result ((c : List ℕ) → D.may_leave device.new c → Scans c place.start place.end ([] ∷ [])) }
-    ensures moments { LeavesOnly D.moment D.left_since device.old device.new
+    ensures moments { Meanwhile D.Device device.old device.new
         (TornFrom (D.may_leave device.old) place.start (place.end - place.start)) }
     ensures elsewhere { Follows (Torn place.start (place.end - place.start)) (D.may_leave device.old)
         (D.may_leave device.new) }
@@ -151,7 +139,7 @@ pub fn begin_area<D: Device>(
     ensures cause { IfErr result (λ why. (why ≡ Refusal.NoMemory) ⊎ (why ≡ Refusal.DeviceFailed)
         × (D.faults device.old < D.faults device.new)) }
     ensures memory { IsErrOf result Refusal.NoMemory → device.new ≡ device.old }
-    ensures alone { OnOk result (Only (D.seen device.new) (D.may_leave device.new)) }
+    ensures alone { OnOk result (IsSynced D.Device device.new) }
     ensures quiet { OnOk result (D.faults device.new ≡ D.faults device.old) }
 {
     let prepared = prepare_area(alloc, place, &[])?;

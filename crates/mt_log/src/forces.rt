@@ -1,11 +1,11 @@
 // A force makes four device calls: the batch's length, its body and a closed gate after it; a sync;
 // the open gate; a sync. So no open gate ever stands before a body that a crash may take away.
-ghost use Rattle.std.specs.Prelude.{◌≡◌, ◌⊎◌, ◌+◌, ◌*◌, ◌<◌, ◌≤◌, ◌^◌, ◌++◌, ◌∷◌, [], ◌↔◌, ℕ, true, false, length, drop, vec_len, vec_capacity, IfOk, IfErr, OnErr, IsOk, IsErr};
+ghost use Rattle.std.specs.Prelude.{◌≡◌, ◌<◌, ◌≤◌, ◌^◌, ◌++◌, ◌∷◌, [], ◌↔◌, true, length, drop, vec_len, vec_capacity, IfOk, IsErr};
 ghost use Rattle.std.specs.Int.{w32, to_be_bytes};
-ghost use Rattle.mt_base.specs.declared.refusal.Refusal.{Refusal};
-ghost use Rattle.mt_disk.specs.Disk.{Torn, Follows, Elapses, LeavesOnly, Only};
-ghost use Rattle.mt_log.specs.Area.{ScansWithOrWithout};
-ghost use Rattle.mt_log.specs.Forcing.{CallsDevice, IsCall, MakesCall, Seals};
+ghost use Rattle.mt_disk.specs.Calls.{CallsWithin, IsSynced, Meanwhile};
+ghost use Rattle.mt_log.specs.Forcing.{CallsDevice, IsCall, MakesCall, Seals, ReportsFault};
+ghost use Rattle.mt_log.specs.Seen.{HasItsBatches, is_still};
+ghost use Rattle.mt_log.specs.Steps.{ForceSteps};
 ghost use Rattle.mt_log.specs.declared.stage.Stage.TheVariants.{Idle, Forcing};
 
 use crate::log::{Forced, Log};
@@ -36,8 +36,7 @@ pub(crate) fn close_text(text: &mut Vec<u8>)
 }
 
 impl Log {
-    ghost use Rattle.mt_log.specs.Words.{durable_batches, durable, waiting, appended, area_start, area_end, used, area_size, calls_left, has_failed, coming, AreaOf, IsLast, IsOn, IsStep, Moves, batches_after};
-    ghost use Rattle.mt_log.specs.Sound.{IsSound, HoldsBeginning};
+    ghost use Rattle.mt_log.specs.Words.{seen_of, area_start, area_size, AreaOf, IsLast, LiesOn};
 
     // The batch of the records that wait becomes the one that is forced.
     fn seal(&mut self)
@@ -112,52 +111,21 @@ impl Log {
     ///
     /// The only refusal is [`Refusal::DeviceFailed`], if the device failed in this call or in an earlier one. What
     /// is durable stays, and each later call is refused.
-    #[tactic(auto, unfolding(crate::specs::Words::durable_batches, crate::specs::Words::durable, crate::specs::Words::in_flight, crate::specs::Words::waiting, crate::specs::Words::area_start, crate::specs::Words::area_end, crate::specs::Words::used, crate::specs::Words::area_size, crate::specs::Words::calls_left, crate::specs::Words::has_failed, crate::specs::Words::coming, crate::specs::Words::IsOn))]
+    #[tactic(auto, unfolding(crate::specs::Words::seen_of, crate::specs::Words::IsOn))]
     pub fn force_step<D: Device>(&mut self, device: &mut D) -> Result<Forced, Refusal>
-        requires on { IsOn D.seen D.may_leave self.old device.old }
-        ensures on { IsOn D.seen D.may_leave self.new device.new }
+        requires on { LiesOn D.Device self.old device.old }
+        ensures on { LiesOn D.Device self.new device.new }
+        ensures steps { ForceSteps (seen_of self.old) (seen_of self.new) result }
         // Whenever a crash comes in this call, reading the area finds the durable batches, or these and
         // the one that is being forced.
-        ensures moments { LeavesOnly D.moment D.left_since device.old device.new
-            (ScansWithOrWithout (area_start self.old) (area_end self.old) (durable_batches self.old)
-            (coming self.old)) }
-        ensures step { IfOk result (λ forced. IsStep self.old forced self.new) }
-        ensures batches { IfOk result (λ forced. durable_batches self.new ≡ batches_after self.old forced) }
-        ensures err_batches { OnErr result (durable_batches self.new ≡ durable_batches self.old) }
-        ensures appended { appended self.new ≡ appended self.old }
-        ensures used { used self.new ≤ used self.old }
-        // Only the first call of a force changes the bytes in use.
-        ensures used_less { 0 < calls_left self.old → used self.new ≡ used self.old }
-        // That call puts the records that wait under one head of 5 bytes; each was counted with one of its own.
-        ensures used_shared { calls_left self.old ≡ 0 → has_failed self.old ≡ false → 0 < length (waiting self.old)
-            → used self.new + 5 * length (waiting self.old) ≡ used self.old + 5 }
-        ensures moves { Moves self.old self.new }
-        // That is while the appended records break no rule. Whenever a crash comes in this call, the area holds
-        // batches whose records are a beginning of them with all durable ones. `scan` finds just those.
-        ensures holds { (pages : ℕ) → IsSound pages self.old
-            → LeavesOnly D.moment D.left_since device.old device.new (HoldsBeginning pages self.old) }
-        ensures sound { (pages : ℕ) → IsSound pages self.old → IsSound pages self.new }
-        ensures start { area_start self.new ≡ area_start self.old }
-        ensures end { area_end self.new ≡ area_end self.old }
-        ensures area { area_size self.new ≡ area_size self.old }
-        ensures failed { has_failed self.old ≡ true → IsErr result }
-        ensures now_failed { IsErr result → has_failed self.new ≡ true }
-        ensures well { IsOk result → has_failed self.new ≡ false }
-        ensures cause { IsErr result → (D.faults device.old < D.faults device.new ⊎ (has_failed self.old ≡ true)) }
-        ensures quiet { IsOk result → D.faults device.new ≡ D.faults device.old }
-        ensures only_device { IfErr result (λ why. why ≡ Refusal.DeviceFailed) }
-        ensures err_durable { OnErr result (durable self.new ≡ durable self.old) }
-        // No call at all if the device has failed before, nor if every record is durable.
-        ensures failed_still { has_failed self.old ≡ true → device.new ≡ device.old }
-        ensures idle_still { calls_left self.old ≡ 0 → waiting self.old ≡ [] → device.new ≡ device.old }
-        // The last call of a force is a sync: a crash after it leaves what is there.
-        ensures alone { IfOk result (λ forced. IsLast forced → Only (D.seen device.new) (D.may_leave device.new)) }
+        ensures moments { Meanwhile D.Device device.old device.new (HasItsBatches (seen_of self.old)) }
         // At most one device call, within the area, for what others keep on the device.
-        ensures time { Elapses (D.moment device.old) (D.moment device.new) (D.left_since device.old)
-            (D.left_since device.new) (D.may_leave device.new) }
-        ensures elsewhere { Follows (Torn (area_start self.old) (area_size self.old)) (D.may_leave device.old)
-            (D.may_leave device.new) }
-        ensures rest { Torn (area_start self.old) (area_size self.old) (D.seen device.old) (D.seen device.new) }
+        ensures within { CallsWithin D.Device (area_start self.old) (area_size self.old) device.old device.new }
+        // No call at all if the device has failed before, nor if every record is durable.
+        ensures still { is_still (seen_of self.old) ≡ true → device.new ≡ device.old }
+        // The last call of a force is a sync: a crash after it leaves what is there.
+        ensures alone { IfOk result (λ forced. IsLast forced → IsSynced D.Device device.new) }
+        ensures cause { ReportsFault D.Device (seen_of self.old) device.old device.new result }
     {
         match self.stage {
             Stage::Failed => Err(Refusal::DeviceFailed),

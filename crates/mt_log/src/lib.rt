@@ -20,7 +20,10 @@ pub use area::AreaPlace;
 pub use batch::Batch;
 pub use first_batch::{begin_area, begin_prepared, prepare_area};
 pub use forces::FORCE_STEPS;
-pub use laws::{a_crash_leaves_a_beginning, areas_are_read_one_way};
+pub use laws::{
+    a_crash_leaves_a_beginning, a_step_leaves_a_beginning, areas_are_read_one_way,
+    calls_say_all_of_the_log,
+};
 pub use log::{Forced, Log};
 pub use masters::{FIRST_SLOT, SECOND_SLOT, ruling_slot};
 pub use scanner::scan;

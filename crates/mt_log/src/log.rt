@@ -5,10 +5,9 @@ ghost use Rattle.mt_base.specs.declared.limits.TheConstants.{MAX_AREA_MIB, MIB_B
 ghost use Rattle.mt_base.specs.declared.refusal.Refusal.{Refusal};
 ghost use Rattle.mt_frame.specs.Grammar.{IsRecord, body_text};
 ghost use Rattle.mt_frame.specs.Lengths.{record_length};
-ghost use Rattle.mt_frame.specs.History.{may_stand};
 ghost use Rattle.mt_frame.specs.PageRecords.{represented};
 ghost use Rattle.mt_log.specs.Batch.{joined};
-ghost use Rattle.mt_log.specs.Holds.{HasItsPage};
+ghost use Rattle.mt_log.specs.Seen.{new_log, with_record};
 ghost use Rattle.mt_log.specs.Texts.{IsAtRest, IsUnderWay, PushesText};
 ghost use Rattle.mt_log.specs.declared.stage.Stage.TheVariants.{Idle};
 
@@ -92,26 +91,14 @@ fn push_page_text(text: &mut Vec<u8>, entry: &PageRecord<'_>) -> Result<(), Allo
     push_page_record(text, entry)
 }
 
-#[tactic(auto, unfolding(crate::specs::Words::durable_batches, crate::specs::Words::durable, crate::specs::Words::in_flight, crate::specs::Words::waiting, crate::specs::Words::area_start, crate::specs::Words::area_end, crate::specs::Words::used, crate::specs::Words::area_size, crate::specs::Words::room, crate::specs::Words::calls_left, crate::specs::Words::has_failed, crate::specs::Words::stands_at))]
+#[tactic(auto, unfolding(crate::specs::Words::seen_of, crate::specs::Words::room))]
 impl Log {
-    ghost use Rattle.mt_log.specs.Words.{durable, in_flight, waiting, appended, area_start, area_end, used, area_size, room, calls_left, has_failed, stands_at};
-    ghost use Rattle.mt_log.specs.Sound.{IsSound};
+    ghost use Rattle.mt_log.specs.Words.{seen_of, appended, used, area_size, room, has_failed};
 
     /// The log of an area that has nothing but its first batch, with no record in it. The only refusal
     /// is [`Refusal::NoMemory`].
     pub fn new(alloc: Global, place: AreaPlace) -> Result<Log, Refusal>
-        ensures durable { IfOk result (λ log. durable log ≡ []) }
-        ensures in_flight { IfOk result (λ log. in_flight log ≡ []) }
-        ensures waiting { IfOk result (λ log. waiting log ≡ []) }
-        ensures used { IfOk result (λ log. used log ≡ 5) }
-        ensures start { IfOk result (λ log. area_start log ≡ place.start) }
-        ensures end { IfOk result (λ log. area_end log ≡ place.end) }
-        ensures size { IfOk result (λ log. area_size log ≡ place.end - place.start) }
-        ensures calls { IfOk result (λ log. calls_left log ≡ 0) }
-        ensures failed { IfOk result (λ log. has_failed log ≡ false) }
-        ensures stands { IfOk result (λ log. stands_at log ≡
-            (place.start, place.end, place.start + 5, [] ∷ [], [], Idle)) }
-        ensures sound { IfOk result (λ log. (pages : ℕ) → IsSound pages log) }
+        ensures log { IfOk result (λ log. seen_of log ≡ new_log place) }
         ensures only_memory { IfErr result (λ why. why ≡ Refusal.NoMemory) }
     {
         let pending = head_alone(alloc)?;
@@ -165,15 +152,7 @@ impl Log {
         requires { text ≤ MAX_AREA_MIB * MIB_BYTES }
         ensures room { OnOk result (text ≤ room self.new) }
         ensures room_kept { room self.old ≤ room self.new }
-        ensures durable { durable self.new ≡ durable self.old }
-        ensures in_flight { in_flight self.new ≡ in_flight self.old }
-        ensures waiting { waiting self.new ≡ waiting self.old }
-        ensures used { used self.new ≡ used self.old }
-        ensures area { area_size self.new ≡ area_size self.old }
-        ensures calls { calls_left self.new ≡ calls_left self.old }
-        ensures failed { has_failed self.new ≡ has_failed self.old }
-        ensures stands { stands_at self.new ≡ stands_at self.old }
-        ensures sound { (pages : ℕ) → IsSound pages self.old → IsSound pages self.new }
+        ensures same { seen_of self.new ≡ seen_of self.old }
         ensures only_memory { IfErr result (λ why. why ≡ Refusal.NoMemory) }
     {
         self.pending.reserve(text + 1)?;
@@ -186,22 +165,11 @@ impl Log {
     pub fn append(&mut self, entry: Record) -> Result<LogPos, Refusal>
         requires grammar { IsRecord entry }
         requires fits { used self.old + 5 + record_length entry < area_size self.old }
-        ensures durable { durable self.new ≡ durable self.old }
-        ensures in_flight { in_flight self.new ≡ in_flight self.old }
-        ensures waiting { OnOk result (waiting self.new ≡ waiting self.old ++ entry ∷ []) }
-        ensures used { OnOk result (used self.new ≡ used self.old + 5 + record_length entry) }
+        ensures log { OnOk result (seen_of self.new ≡ with_record (seen_of self.old) entry) }
+        ensures err { OnErr result (seen_of self.new ≡ seen_of self.old) }
         ensures place { IfOk result (λ place. place ≡ length (appended self.new)) }
-        ensures area { area_size self.new ≡ area_size self.old }
-        ensures calls { calls_left self.new ≡ calls_left self.old }
-        ensures failed { has_failed self.new ≡ has_failed self.old }
-        ensures stands { stands_at self.new ≡ stands_at self.old }
-        // A record that may stand after the others leaves a log whose records break no rule one.
-        ensures sound { (pages : ℕ) → IsSound pages self.old → HasItsPage pages entry
-            → may_stand false (appended self.old) entry ≡ true → IsSound pages self.new }
         ensures room { 0 < record_length entry → record_length entry ≤ room self.old → IsOk result }
         ensures room_left { room self.old ≤ room self.new + record_length entry }
-        ensures err_waiting { OnErr result (waiting self.new ≡ waiting self.old) }
-        ensures err_used { OnErr result (used self.new ≡ used self.old) }
         ensures only_memory { IfErr result (λ why. why ≡ Refusal.NoMemory) }
     {
         push_text(&mut self.pending, &entry)?;
@@ -215,21 +183,11 @@ impl Log {
     pub fn append_page(&mut self, entry: &PageRecord<'_>) -> Result<LogPos, Refusal>
         requires grammar { IsRecord (represented entry.now) }
         requires fits { used self.old + 5 + record_length (represented entry.now) < area_size self.old }
-        ensures durable { durable self.new ≡ durable self.old }
-        ensures in_flight { in_flight self.new ≡ in_flight self.old }
-        ensures waiting { OnOk result (waiting self.new ≡ waiting self.old ++ represented entry.now ∷ []) }
-        ensures used { OnOk result (used self.new ≡ used self.old + 5 + record_length (represented entry.now)) }
+        ensures log { OnOk result (seen_of self.new ≡ with_record (seen_of self.old) (represented entry.now)) }
+        ensures err { OnErr result (seen_of self.new ≡ seen_of self.old) }
         ensures place { IfOk result (λ place. place ≡ length (appended self.new)) }
-        ensures area { area_size self.new ≡ area_size self.old }
-        ensures calls { calls_left self.new ≡ calls_left self.old }
-        ensures failed { has_failed self.new ≡ has_failed self.old }
-        ensures stands { stands_at self.new ≡ stands_at self.old }
-        ensures sound { (pages : ℕ) → IsSound pages self.old → HasItsPage pages (represented entry.now)
-            → may_stand false (appended self.old) (represented entry.now) ≡ true → IsSound pages self.new }
         ensures room { record_length (represented entry.now) ≤ room self.old → IsOk result }
         ensures room_left { room self.old ≤ room self.new + record_length (represented entry.now) }
-        ensures err_waiting { OnErr result (waiting self.new ≡ waiting self.old) }
-        ensures err_used { OnErr result (used self.new ≡ used self.old) }
         ensures only_memory { IfErr result (λ why. why ≡ Refusal.NoMemory) }
     {
         push_page_text(&mut self.pending, entry)?;

@@ -1,6 +1,6 @@
 -- Log bytes: what is kept for an operation is enough, and stays so.
 use Rattle.std.proofs.Common.{◌≡◌, ℕ, Bool, true, false, ◌+◌, ◌-◌, ◌*◌, ◌<◌, ◌≤◌, [], length, None, Some, refl, sym, ap, ◌∙◌, subst, if◌then◌else◌, arith}
-use Rattle.mt_log.specs.Words.{area_size}
+use Rattle.mt_log.specs.Words.{seen_of, area_size}
 use Rattle.mt_log.specs.declared.log.Log.{Log}
 use Rattle.mt_model.specs.declared.operations.Op.{Op}
 use Rattle.mt_model.specs.declared.operations.Reply.{Reply}
@@ -13,7 +13,7 @@ use Rattle.mt_op.specs.declared.scope.Stage.TheVariants.{Planning, Writing, Read
 
 -- an area has at most 64 MiB
 pub area_small : (log : Log) → area_size log ≤ 67108864
-unfolding area_size
+unfolding seen_of
 area_small log = let most = log.place.not_too_many in omega arith
 
 -- ---- an operation whose plan is made

@@ -27,7 +27,6 @@ pub mod Keeping
 pub mod Faulting
 pub mod Ahead
 pub mod Back
-pub mod Begun
 pub mod Parted
 pub mod Roomed
 pub mod Surveyed
@@ -35,3 +34,4 @@ pub mod Detached
 pub mod Known
 pub mod Unready
 pub mod Choosing
+pub mod LogSeen

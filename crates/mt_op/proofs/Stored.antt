@@ -14,8 +14,6 @@ use Rattle.mt_pool.specs.Kept.{IsKept}
 use Rattle.mt_pool.specs.Views.{view, pages}
 use Rattle.mt_pool.specs.declared.pool.Pool.{Pool}
 use Rattle.mt_pool.specs.declared.store.Store.{Store}
-use Rattle.mt_slots.specs.Page.{IsShaped}
-use Rattle.mt_space.specs.Kinds.{kind}
 use Rattle.mt_space.specs.Rooms.{mapped, free_of, reserved_of}
 use Rattle.mt_steps.specs.Plans.{IsGood}
 use Rattle.mt_steps.specs.Repeated.{Repeated, changed, repeated, repeat, held}
@@ -96,22 +94,6 @@ pub unlogged_world : (relations counters : ℕ) (w : World) → AreImages w.reco
 unlogged_world relations counters w none free same good =
     world_of relations counters w w (idle w.opening) refl (unlogged_repeated w none) (record { apart = λ o p. inl refl; leads = λ p. refl })
     (λ p lt. inl (same p lt)) (All-nil (IsCovered w.locks)) (subst AreTogether (sym free) (λ i j d lt within. absurd (omega arith))) good
-
-module _ {D : Type 0} (seen : D → List ℕ) (opening : PageBytes) (relations counters : ℕ) (s : Store D) (good : IsGood relations counters (pages s.pool) opening) (shows : ShowsOpening seen opening s) where
-  -- a page of records that shows is well formed
-  pub unlogged_shaped : (p : ℕ) → p < pages s.pool → kind opening p ≡ 3 → IsShaped (view s.pool (seen s.device) p)
-  unlogged_shaped p inside records = subst IsShaped (sym (shows p inside)) (good.rows.file.each p records)
-
-  -- the map is a page
-  pub unlogged_inside : 0 < pages s.pool
-  unlogged_inside = let fixed : kind opening 0 ≡ 1 = good.rows.index.space_fixed in good.rows.index.within 0 (λ free. let is : 1 ≡ 0 = sym fixed ∙ free in cc)
-
-  -- that shows as it was at the opening, and is whole
-  pub unlogged_map : view s.pool (seen s.device) 0 ≡ opening 0
-  unlogged_map = shows 0 unlogged_inside
-
-  pub unlogged_whole : length (view s.pool (seen s.device) 0) ≡ 4096
-  unlogged_whole = ap (λ (bytes : List ℕ). length bytes) unlogged_map ∙ good.rows.file.whole
 
 -- all is right where none is under way
 pub unlogged_right : {D : Type 0} (seen : D → List ℕ) (may_leave : D → List ℕ → Type 0) (opening : PageBytes) (relations counters : ℕ) (o : Operations D) → IsKept seen may_leave opening o.store → AreImages (appended o.store.log)

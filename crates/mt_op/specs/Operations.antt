@@ -5,11 +5,13 @@ use Rattle.mt_base.specs.declared.refusal.Refusal.{Refusal}
 use Rattle.mt_base.specs.declared.refusal.Refusal.TheVariants as refusal
 use Rattle.mt_file.specs.Rooms.{AreRooms}
 use Rattle.mt_log.specs.Words.{appended}
+use Rattle.mt_log.specs.declared.log.Log.{Log}
 use Rattle.mt_model.specs.declared.operations.Op.{Op}
 use Rattle.mt_model.specs.declared.operations.Op.TheVariants.{Get, Insert, Update, Delete, Add, Read}
 use Rattle.mt_model.specs.declared.operations.Reply.{Reply}
 use Rattle.mt_model.specs.Model.{Base, reply_of, base_after}
 use Rattle.mt_space.specs.Changes.{PageBytes}
+use Rattle.mt_pool.specs.Begun.{store_frames}
 use Rattle.mt_pool.specs.Kept.{IsKept}
 use Rattle.mt_pool.specs.Views.{view, pages}
 use Rattle.mt_space.specs.Rooms.{mapped, free_of, reserved_of}
@@ -35,6 +37,17 @@ world seen opening o = record {
   present = λ p. view o.store.pool (seen o.store.device) p;
   total = pages o.store.pool;
 }
+
+-- the device under them, and the log
+abbrev pub operation_device : {D : Type 0} → Operations D → D
+operation_device o = o.store.device
+
+abbrev pub operation_log : {D : Type 0} → Operations D → Log
+operation_log o = o.store.log
+
+-- how many pages can be in frames
+abbrev pub operation_frames : {D : Type 0} → Operations D → ℕ
+operation_frames o = store_frames o.store
 
 -- how many free pages are claimed
 abbrev pub claimed : {D : Type 0} → Operations D → ℕ

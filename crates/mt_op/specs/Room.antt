@@ -1,10 +1,8 @@
 -- What the index of rooms says of the pages that an operation looked at.
-use Rattle.std.specs.Prelude.{◌≡◌, ◌≢◌, ◌⊎◌, ℕ, List, [], length, Any, get_or, None, IsSome}
-use Rattle.mt_file.specs.Rooms.{fits_of, AreRooms}
+use Rattle.std.specs.Prelude.{◌≡◌, ◌≢◌, ◌⊎◌, ℕ, List, [], Any, get_or, None, IsSome}
+use Rattle.mt_file.specs.Rooms.{fits_of}
 use Rattle.mt_space.specs.Changes.{PageBytes, Agrees, AreShort, after}
 use Rattle.mt_op.specs.World.{looked, changes_in}
-use Rattle.mt_op.specs.Begun.{HasRead, ShowsOpening}
-use Rattle.mt_op.specs.declared.operations.Operations.{Operations}
 use Rattle.mt_op.specs.declared.scope.OpScope.{OpScope}
 
 -- what a page of this kind with these bytes takes: nothing if it does not hold records
@@ -24,12 +22,3 @@ pub record HasNotedEach (s : OpScope) (map old new : List ℕ) : Type 0 where
 -- or it changes nothing, and the index stays
 abbrev pub HasFollowed : OpScope → List ℕ → List ℕ → List ℕ → Type 0
 HasFollowed s map old new = ((changes_in s ≡ []) × (new ≡ old)) ⊎ HasNotedEach s map old new
-
--- What each page of records takes is noted, and nothing else has changed but frames.
-pub record HasNoted {D : Type 0} (seen : D → List ℕ) (may_leave : D → List ℕ → Type 0) (moment : D → ℕ) (left_since : D → ℕ → List ℕ → Type 0) (failures : D → ℕ) (o n : Operations D) : Type 0 where
-  pub read : HasRead seen may_leave moment left_since o.store n.store
-  pub noted : (opening : PageBytes) → ShowsOpening seen opening o.store → o.map.kinds.value ≡ opening 0 → AreRooms n.rooms opening
-  pub size : length n.rooms ≡ length o.rooms
-  pub locks : n.locks ≡ o.locks
-  pub map : n.map ≡ o.map
-  pub faults : failures n.store.device ≡ failures o.store.device

@@ -24,6 +24,6 @@ mod take_back;
 pub use answers::{Stepped, TakenBack};
 pub use detached_operations::DetachedOperations;
 pub use next_area::Idle;
-pub use operations::{NotOpened, Operations};
+pub use operations::{Operations, log_bytes_for};
 pub use scope::{OpScope, Stage};
 pub use survey::Survey;

@@ -1,4 +1,5 @@
-// A store leaves its operations for a rotation of its log, and is joined to them again.
+// What operations keep beside their store. It is made for pages in memory, as a restart or a format has them, and
+// joined to a store over those.
 ghost use Rattle.std.specs.Prelude.{◌≡◌, ◌≤◌, [], ℕ, length, IfOk, IfErr};
 ghost use Rattle.mt_base.specs.declared.limits.TheConstants.{MAX_PAGES};
 ghost use Rattle.mt_base.specs.declared.refusal.Refusal.{Refusal};
@@ -8,11 +9,9 @@ ghost use Rattle.mt_log.specs.Words.{appended};
 ghost use Rattle.mt_pool.specs.Kept.{IsKept};
 ghost use Rattle.mt_pool.specs.Views.{pages};
 ghost use Rattle.mt_space.specs.Changes.{PageBytes};
-ghost use Rattle.mt_space.specs.Rooms.{reserved_of};
 ghost use Rattle.mt_steps.specs.Plans.{IsGood};
-ghost use Rattle.mt_op.specs.Begun.{AreImages, ShowsOpening, FitsPages};
-ghost use Rattle.mt_op.specs.Operations.{world, IsRight, claimed};
-ghost use Rattle.mt_op.specs.World.{held_in};
+ghost use Rattle.mt_op.specs.Begun.{AreImages, ShowsOpening, FitsPages, idle_claims};
+ghost use Rattle.mt_op.specs.Operations.{IsRight, claimed};
 
 use crate::operations::Operations;
 use crate::space_map::SpaceMap;
@@ -60,7 +59,7 @@ impl Idle {
             × IsGood relations counters (length pages.now) (bytes_of pages.now)) ∥₁ }
         requires few { length pages.now ≤ MAX_PAGES }
         ensures fits { IfOk result (FitsPages (length pages.now) (bytes_of pages.now)) }
-        ensures claimed { IfOk result (λ idle. reserved_of idle.map.space ≡ 0) }
+        ensures claimed { IfOk result (λ idle. idle_claims idle ≡ 0) }
         ensures only_memory { IfErr result (λ why. why ≡ Refusal.NoMemory) }
     {
         let rooms = rooms_of(alloc, pages)?;
@@ -77,41 +76,8 @@ impl Idle {
 }
 
 impl<D: Device> Operations<D> {
-    /// The store, and what operations keep beside it, to be joined to a store over the same pages. It takes no
-    /// memory.
-    ///
-    /// If none is under way the pages held are those that the store shows, and what is kept fits them.
-    pub fn part(self) -> (Store<D>, Idle)
-        ensures store { result.0 ≡ self.store }
-        ensures locks { result.1.locks ≡ self.locks }
-        ensures claimed { reserved_of result.1.map.space ≡ claimed self }
-        ensures shows { (opening : PageBytes) (relations counters : ℕ)
-            → IsRight D.seen D.may_leave opening relations counters self → self.locks ≡ []
-            → ShowsOpening D.seen (held_in (world D.seen opening self)) self.store }
-        ensures fits { (opening : PageBytes) (relations counters : ℕ)
-            → IsRight D.seen D.may_leave opening relations counters self → self.locks ≡ []
-            → FitsPages (pages self.store.pool) (held_in (world D.seen opening self)) result.1 }
-    {
-        let Operations {
-            store,
-            locks,
-            rooms,
-            map,
-            spare,
-        } = self;
-        (
-            store,
-            Idle {
-                locks,
-                rooms,
-                map,
-                spare,
-            },
-        )
-    }
-
-    /// Operations over a store whose log has no record but the images that its area began with. They have what others
-    /// kept beside theirs, and none is under way. No page is looked at, and it takes no memory.
+    /// Operations over a store whose log has no record but the images that its area began with. None is under way.
+    /// They keep beside it what was made for its pages. No page is looked at, and it takes no memory.
     pub fn join(store: Store<D>, idle: Idle) -> Operations<D>
         ensures right { (opening : PageBytes) (relations counters : ℕ) → IsKept D.seen D.may_leave opening store
             → AreImages (appended store.log) → IsGood relations counters (pages store.pool) opening
@@ -119,7 +85,7 @@ impl<D: Device> Operations<D> {
             → IsRight D.seen D.may_leave opening relations counters result }
         ensures store { result.store ≡ store }
         ensures locks { result.locks ≡ idle.locks }
-        ensures claimed { claimed result ≡ reserved_of idle.map.space }
+        ensures claimed { claimed result ≡ idle_claims idle }
     {
         let Idle {
             locks,

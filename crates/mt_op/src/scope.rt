@@ -90,13 +90,6 @@ impl OpScope {
         self.split
     }
 
-    /// How far it has come.
-    pub fn stage(&self) -> Stage
-        ensures { result ≡ self.now.stage }
-    {
-        self.stage
-    }
-
     /// The log bytes that are still kept for it. Once it has ended, or was taken back, they are free for others.
     pub fn left(&self) -> u64
         ensures { result ≡ self.now.left }

@@ -1,10 +1,9 @@
 -- A pool none of whose frames holds a page.
-use Rattle.std.proofs.Common.{◌≡◌, ℕ, replicate, ◌+◌, ◌*◌, ◌<◌, ◌≤◌, ◌^◌, List, [], length, get_or, refl, sym, ◌∙◌, ap, arith, Bool, true, false, Option, None, Some, ⊎_elim}
+use Rattle.std.proofs.Common.{◌≡◌, ℕ, replicate, ◌+◌, ◌*◌, ◌<◌, ◌≤◌, ◌^◌, List, [], length, get_or, sym, ◌∙◌, ap, arith, Bool, false, Option, None, Some, ⊎_elim}
 use Rattle.std.proofs.lemmas.Bool.{cases_lt}
 use Rattle.std.proofs.lemmas.List.{get_or-replicate, get_or_past, length-replicate}
 use Rattle.mt_base.specs.declared.limits.TheConstants.{PAGE_BYTES}
-use Rattle.mt_pool.specs.Images.{slot}
-use Rattle.mt_pool.specs.Views.{Names, IsPool, Shows, held}
+use Rattle.mt_pool.specs.Views.{IsPool, Shows, held}
 use Rattle.mt_pool.specs.declared.pool.Pool.{Pool}
 
 -- a row of equal entries has no other entry, also past its end

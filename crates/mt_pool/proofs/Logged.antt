@@ -6,15 +6,20 @@ use Rattle.std.proofs.lemmas.List.{map-append, length-map, take-append-le, get_o
 use Rattle.std.proofs.lemmas.Bool.{cases_eq}
 use Rattle.mt_frame.specs.declared.records.Record.{Record}
 use Rattle.mt_frame.specs.declared.records.Record.TheVariants.{Page, OpEnd, OpDropped, Commit, AbortEnd}
-use Rattle.mt_frame.specs.Grammar.{IsOfPage}
+use Rattle.mt_frame.specs.Grammar.{IsOfPage, IsRecord}
 use Rattle.std.specs.List.{AllByRecursion}
 use Rattle.mt_frame.specs.History.{some_record, is_of_page, may_stand, MayFollow}
 use Rattle.mt_log.specs.Holds.{HasItsPage}
 use Rattle.mt_log.specs.Sound.{IsSound}
-use Rattle.mt_log.specs.Words.{durable, in_flight, waiting, appended, area_start, area_end, stands_at}
+use Rattle.mt_log.specs.Batch.{joined}
+use Rattle.mt_log.specs.Seen.{LogSeen, with_records}
+use Rattle.mt_log.specs.Words.{seen_of, used, durable, in_flight, waiting, appended, area_start, area_end, stands_at}
 use Rattle.mt_log.specs.declared.log.Log.{Log}
 use Rattle.mt_log.proofs.Elsewhere.{on_same}
-use Rattle.mt_log.proofs.Prefix.{may_back, each_back}
+use Rattle.mt_frame.specs.Lengths.{record_length}
+use Rattle.mt_log.specs.Seen.{bytes_in}
+use Rattle.mt_log.proofs.Bytes.{bytes-with_record}
+use Rattle.mt_log.proofs.Prefix.{may_back, each_back, sound_with_record, sound_same}
 use Rattle.mt_pool.specs.Images.{has_image, page_in, IsSafe}
 use Rattle.mt_pool.specs.Views.{IsPool, Shows, IsTied, pages, view, waits_for}
 use Rattle.mt_pool.specs.declared.pool.Pool.{Pool}
@@ -105,17 +110,28 @@ no_records is (x ∷ xs) ys first second = let both = no_or2 (is x) (some_record
 
 pub longer_appended : (old new : Log) (rs : List Record) → IsLonger old new rs → appended new ≡ appended old ++ rs
 longer_appended old new rs l =
-    ap (λ (x : List Record). x ++ (in_flight new ++ waiting new)) l.durable_same ∙ ap (λ (x : List Record). durable old ++ (x ++ waiting new)) l.flying_same ∙ ap (λ (x : List Record). durable old ++ (in_flight old ++ x)) l.waiting_more
+    ap (λ (x : LogSeen). joined x.batches ++ (x.flight ++ x.waits)) l
     ∙ ap (λ (x : List Record). durable old ++ x) (sym (append_assoc (in_flight old) (waiting old) rs)) ∙ sym (append_assoc (durable old) (in_flight old ++ waiting old) rs)
 
 -- more records behind those
 pub longer_more : (old mid new : Log) (xs ys : List Record) → IsLonger old mid xs → IsLonger mid new ys → IsLonger old new (xs ++ ys)
-longer_more old mid new xs ys first second = record {
-  stands = second.stands ∙ first.stands;
-  durable_same = second.durable_same ∙ first.durable_same;
-  flying_same = second.flying_same ∙ first.flying_same;
-  waiting_more = second.waiting_more ∙ ap (λ (l : List Record). l ++ ys) first.waiting_more ∙ append_assoc (waiting old) xs ys;
-}
+longer_more old mid new xs ys first second =
+    second ∙ ap (λ (x : LogSeen). with_records x ys) first ∙ ap (λ (l : List Record). record (seen_of old) { waits = l }) (append_assoc (waiting old) xs ys)
+
+pub none_more : (old new : Log) → seen_of new ≡ seen_of old → IsLonger old new []
+none_more old new same = same ∙ ap (λ (l : List Record). record (seen_of old) { waits = l }) (sym (append-nil (waiting old)))
+
+-- a log that is seen as the same keeps the rules of an area
+pub sound_seen : (pages : ℕ) (old new : Log) → seen_of new ≡ seen_of old → IsSound pages old → IsSound pages new
+sound_seen pages old new is = sound_same pages old new (ap (λ (x : LogSeen). x.batches) is) (ap (λ (x : LogSeen). x.flight ++ x.waits) is)
+
+-- after an append, whatever it answered
+pub sound_either : {T E : Type 0} (result : Result T E) (pages : ℕ) (old new : Log) (r : Record) → OnOk result (seen_of new ≡ with_records (seen_of old) (r ∷ [])) → OnErr result (seen_of new ≡ seen_of old) → IsRecord r → HasItsPage pages r → may_stand false (appended old) r ≡ true → IsSound pages old → IsSound pages new
+sound_either (Ok x) pages old new r ok err = sound_with_record pages old new r ok
+sound_either (Err e) pages old new r ok err = λ grammar page may. sound_seen pages old new err
+
+pub longer_used : (old new : Log) (r : Record) → seen_of new ≡ with_records (seen_of old) (r ∷ []) → used new ≡ used old + 5 + record_length r
+longer_used old new r is = ap bytes_in is ∙ bytes-with_record (seen_of old) r
 
 pub size_append : (xs ys : List Record) → records_size (xs ++ ys) ≡ records_size xs + records_size ys
 size_append [] ys = omega arith
@@ -128,13 +144,14 @@ next_may earlier front rest r may = (may_back false earlier front (r ∷ rest) m
 pub next_page : (pages : ℕ) (front rest : List Record) (r : Record) → AllByRecursion (HasItsPage pages) (front ++ r ∷ rest) → HasItsPage pages r
 next_page pages front rest r all = (each_back (HasItsPage pages) front (r ∷ rest) all).0
 
-pub same_start : (old new : Log) → stands_at new ≡ stands_at old → area_start new ≡ area_start old
-unfolding stands_at area_start
-same_start old new same = ap (λ s. s.0) same
+pub same_start : (old new : Log) (rs : List Record) → IsLonger old new rs → area_start new ≡ area_start old
+same_start old new rs l = ap (λ (x : LogSeen). x.start) l
 
-pub same_end : (old new : Log) → stands_at new ≡ stands_at old → area_end new ≡ area_end old
-unfolding stands_at area_end
-same_end old new same = ap (λ s. s.1) same
+pub same_end : (old new : Log) (rs : List Record) → IsLonger old new rs → area_end new ≡ area_end old
+same_end old new rs l = ap (λ (x : LogSeen). x.end) l
+
+pub same_stand : (old new : Log) (rs : List Record) → IsLonger old new rs → stands_at new ≡ stands_at old
+same_stand old new rs l = ap (λ (x : LogSeen). (x.start, x.end, x.gate, x.batches, x.flight, x.stage)) l
 
 pub carried_more : (old new : Log) (rs : List Record) → IsLonger old new rs → carried (appended new) ≡ carried (appended old) ++ carried rs
 carried_more old new rs l = ap carried (longer_appended old new rs l) ∙ map-append carried_of (appended old) rs
@@ -150,11 +167,11 @@ module _ {D : Type 0} (seen : D → List ℕ) (may : D → List ℕ → Type 0) 
       let images = carried_more s.log log rs longer in
       let position : length (appended log) ≡ length (carried (appended s.log)) + length (carried rs) =
       ap length all ∙ length-append (appended s.log) rs ∙ ap (λ (n : ℕ). n + length rs) (sym (length-map (appended s.log) carried_of)) ∙ ap (λ (n : ℕ). length (carried (appended s.log)) + n) (sym (length-map rs carried_of)) in
-      let durable_len : length (durable log) ≡ length (durable s.log) = ap length longer.durable_same in
+      let durable_len : length (durable log) ≡ length (durable s.log) = ap (λ (x : LogSeen). length (joined x.batches)) longer in
       record {
-        on = on_same seen may s.log log s.device longer.stands k.on;
+        on = on_same seen may s.log log s.device (same_stand s.log log rs longer) k.on;
         sound = subst (λ (x : ℕ). IsSound x log) (sym count) (sound k.sound);
-        apart = let a = k.apart in omega (arith, place, count, same_start s.log log longer.stands);
+        apart = let a = k.apart in omega (arith, place, count, same_start s.log log rs longer);
         few = omega (arith, count, k.few);
         frames = ok;
         shows = shows;
@@ -167,7 +184,7 @@ module _ {D : Type 0} (seen : D → List ℕ) (may : D → List ℕ → Type 0) 
         tied = subst (λ es. IsTied p (seen s.device) opening es) (sym images)
             (tied_images s.pool p (seen s.device) opening (carried (appended s.log)) (carried rs) page k.frames k.tied lt (omega (arith, some, length-map rs carried_of)) first
             (waits ∙ ap (λ (n : ℕ). set s.pool.waits.items page n) position) count others);
-        names = names_same s.ruling s.pool p s.log log place count (same_start s.log log longer.stands) (same_end s.log log longer.stands) k.names;
+        names = names_same s.ruling s.pool p s.log log place count (same_start s.log log rs longer) (same_end s.log log rs longer) k.names;
         rules = k.rules;
         unnamed = λ q q_in none. elim (cases_eq q page) [
           | inl same ↦ absurd (
@@ -186,14 +203,14 @@ module _ {D : Type 0} (seen : D → List ℕ) (may : D → List ℕ → Type 0) 
   kept_append log rs longer sound none named =
       let all = longer_appended s.log log rs longer in
       let images = carried_more s.log log rs longer in
-      let durable_len : length (durable log) ≡ length (durable s.log) = ap length longer.durable_same in
+      let durable_len : length (durable log) ≡ length (durable s.log) = ap (λ (x : LogSeen). length (joined x.batches)) longer in
       let t = k.tied in
       let f = k.safe in
       let before = carried (appended s.log) in
       record {
-        on = on_same seen may s.log log s.device longer.stands k.on;
+        on = on_same seen may s.log log s.device (same_stand s.log log rs longer) k.on;
         sound = sound k.sound;
-        apart = let a = k.apart in omega (arith, same_start s.log log longer.stands);
+        apart = let a = k.apart in omega (arith, same_start s.log log rs longer);
         few = k.few;
         frames = k.frames;
         shows = k.shows;
@@ -211,7 +228,7 @@ module _ {D : Type 0} (seen : D → List ℕ) (may : D → List ℕ → Type 0) 
           within = λ p lt. let le = t.within p lt in omega (arith, length-append before (carried rs));
           untouched = λ p lt not. let was = t.untouched p lt not in (has_later p before (carried rs) was.0 ∙ none p, was.1);
         });
-        names = names_same s.ruling s.pool s.pool s.log log refl refl (same_start s.log log longer.stands) (same_end s.log log longer.stands) k.names;
+        names = names_same s.ruling s.pool s.pool s.log log refl refl (same_start s.log log rs longer) (same_end s.log log rs longer) k.names;
         rules = k.rules;
         unnamed = λ q lt not. ap (λ (l : List Record). some_record (is_of_page q) l) all ∙ no_records (is_of_page q) (appended s.log) rs (k.unnamed q lt not) (named q);
       }
@@ -239,7 +256,7 @@ any_page pages (Commit txn) not = tt
 any_page pages (AbortEnd txn) not = tt
 
 -- a record more, or none after an error
-pub one_more : {T E : Type 0} (result : Result T E) (r : Record) (old new : List Record) → (IsOfPage r → ⊥) → OnOk result (new ≡ old ++ r ∷ []) → OnErr result (new ≡ old)
-    → (rs : List Record) × (new ≡ old ++ rs) × ((q : ℕ) → has_image (carried rs) q ≡ false) × ((q : ℕ) → some_record (is_of_page q) rs ≡ false)
+pub one_more : {T E : Type 0} (result : Result T E) (r : Record) (old new : Log) → (IsOfPage r → ⊥) → OnOk result (seen_of new ≡ with_records (seen_of old) (r ∷ [])) → OnErr result (seen_of new ≡ seen_of old)
+    → (rs : List Record) × IsLonger old new rs × ((q : ℕ) → has_image (carried rs) q ≡ false) × ((q : ℕ) → some_record (is_of_page q) rs ≡ false)
 one_more (Ok x) r old new not ok err = (r ∷ [], ok, no_image r not, no_page r not)
-one_more (Err e) r old new not ok err = ([], err ∙ sym (append-nil old), (λ q. refl), λ q. refl)
+one_more (Err e) r old new not ok err = ([], none_more old new err, (λ q. refl), λ q. refl)

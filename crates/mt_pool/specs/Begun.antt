@@ -20,6 +20,10 @@ abbrev pub device_after : {D : Type 0} → Result (Store D) (NotBegun D) → D
 device_after (Ok store) = store.device
 device_after (Err gone) = gone.device
 
+-- how many pages it can hold in frames
+abbrev pub store_frames : {D : Type 0} → Store D → ℕ
+store_frames s = frames_of s.pool
+
 -- its pages are those in the slots of the device, and its log has no record
 pub record Begins {D : Type 0} (seen : D → List ℕ) (may_leave : D → List ℕ → Type 0) (ruling : MasterSlot) (frames : ℕ) (device : D) (s : Store D) : Type 0 where
   pub kept : IsKept seen may_leave (slot MASTER_BYTES (seen device)) s

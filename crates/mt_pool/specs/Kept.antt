@@ -1,7 +1,8 @@
 -- What a log and a pool know together of their device.
 use Rattle.std.specs.Prelude.{◌<◌, ◌≡◌, ℕ, ◌+◌, ◌*◌, ◌≤◌, List, length, map, false, Option, None, Some}
 use Rattle.mt_base.specs.declared.limits.TheConstants.{MASTER_BYTES, MAX_PAGES, PAGE_BYTES}
-use Rattle.mt_disk.specs.Disk.{Elapses, LeavesOnly}
+use Rattle.mt_disk.specs.Disk.{LeavesOnly}
+use Rattle.mt_disk.specs.declared.device.Device.{Ghosts}
 use Rattle.mt_frame.specs.declared.records.Record.{Record}
 use Rattle.mt_frame.specs.declared.records.Record.TheVariants.{Page, OpEnd, OpDropped, Commit, AbortEnd}
 use Rattle.mt_frame.specs.History.{some_record, is_of_page}
@@ -85,6 +86,14 @@ abbrev pub ExplainsMeanwhile : {D : Type 0} → (D → List ℕ) → (D → List
 ExplainsMeanwhile seen may_leave moment left_since old new =
     (opening : ℕ → List ℕ) → IsKept seen may_leave opening old → LeavesOnly moment left_since old.device new.device (Explains opening old)
 
--- it calls the device once at most
-abbrev pub MakesOneCall : {D : Type 0} → (D → List ℕ → Type 0) → (D → ℕ) → (D → ℕ → List ℕ → Type 0) → D → D → Type 0
-MakesOneCall may_leave moment left_since d e = Elapses (moment d) (moment e) (left_since d) (left_since e) (may_leave e)
+-- ---- the same, of all the ghosts of the device as one, and of the device that the store is over
+
+module _ {D : Type 0} (g : Ghosts D) where
+  abbrev pub IsOpen : Store D → D → Type 0
+  IsOpen s device = HasOpening g.seen g.may_leave (record s { device = device })
+
+  -- what each call keeps of a store: the pages, and at each moment what a crash leaves of them
+  pub record Keeps (old new : Store D) (d e : D) : Type 0 where
+    pub kept : StaysKept g.seen g.may_leave (record old { device = d }) (record new { device = e })
+    pub moments : ExplainsMeanwhile g.seen g.may_leave g.moment g.left_since (record old { device = d })
+        (record new { device = e })

@@ -1,11 +1,20 @@
 -- The laws by which the pages are had from whatever a crash leaves. Each is said of a type of devices, by what a
 -- crash may leave of each.
-use Rattle.std.specs.Prelude.{◌<◌, ◌≡◌, ◌≢◌, ℕ, ◌+◌, ◌*◌, ◌≤◌, List, [], ◌∷◌, ◌++◌, length, take, set, true, false, None, Some}
+use Rattle.std.specs.Prelude.{◌<◌, ◌≡◌, ◌≢◌, ℕ, ◌+◌, ◌*◌, ◌≤◌, List, [], ◌∷◌, ◌++◌, length, take, set, true, false, None, Some, Result}
 use Rattle.mt_base.specs.declared.limits.TheConstants.{PAGE_BYTES}
 use Rattle.mt_disk.specs.Disk.{Torn, Follows, Only, Apart}
+use Rattle.mt_disk.specs.declared.device.DeviceFault.{DeviceFault}
+use Rattle.mt_pool.specs.FlushSteps.{FlushSteps, HasFlushed}
 use Rattle.mt_pool.specs.Images.{Carried, has_image, page_in, slot, IsSafe, GivesPages}
 use Rattle.mt_pool.specs.Views.{IsPool, Shows, IsTied, IsImageFirst, view, pages, waits_for}
+use Rattle.mt_pool.specs.declared.flushes.Flushed.{Flushed}
 use Rattle.mt_pool.specs.declared.pool.Pool.{Pool}
+
+-- what follows of each step of a flush
+abbrev pub FlushesSayAll : Type 0
+FlushesSayAll =
+    (durable : ℕ) (old new : Pool) (result : Result Flushed DeviceFault)
+    → FlushSteps durable old new result → HasFlushed durable old new result
 
 -- the pages as at the opening come from what a crash leaves, with all durable records, and any part of those after
 -- them

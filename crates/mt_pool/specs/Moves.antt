@@ -1,7 +1,7 @@
 -- What calls within the pool do to it.
 use Rattle.std.specs.Prelude.{ℕ, List, ◌≡◌, [], None, Some, get_or, set, length, ◌≢◌}
 use Rattle.mt_pool.specs.declared.pool.Pool.{Pool}
-use Rattle.mt_pool.specs.Views.{IsPool, Shows, pages, pages as pages_of, view}
+use Rattle.mt_pool.specs.Views.{IsPool, Shows, frames, pages as pages_of, view}
 use Rattle.mt_pool.specs.Images.{slot}
 use Rattle.mt_pool.specs.Turns.{KnowsImages}
 use Rattle.mt_frame.specs.declared.records.Record.{Record}
@@ -14,6 +14,7 @@ pub record NotesImage (p n : Pool) (page position : ℕ) : Type 0 where
   pub waits : n.waits.items ≡ set p.waits.items page position
   pub flush : n.dirty ≡ p.dirty
   pub there : n.of_page ≡ p.of_page
+  pub bytes : n.bytes ≡ p.bytes
   pub place : n.place ≡ p.place
 
 -- the page in this frame has left it
@@ -45,4 +46,5 @@ pub record NotesImages (p n : Pool) (images : List Record) : Type 0 where
   pub views : (seen : List ℕ) (q : ℕ) → view n seen q ≡ view p seen q
   pub place : n.place ≡ p.place
   pub pages : pages_of n ≡ pages_of p
+  pub many : frames n ≡ frames p
   pub knows : KnowsImages n images

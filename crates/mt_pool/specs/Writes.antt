@@ -1,5 +1,5 @@
 -- What a store's log has of a change of one page.
-use Rattle.std.specs.Prelude.{◌≡◌, ◌≢◌, set, ℕ, ◌+◌, List, [], ◌∷◌, ◌++◌, Option, Some, None, false, ◌==◌, if◌then◌else◌, length, IfErr, IfOk, OnErr, OnOk, Result}
+use Rattle.std.specs.Prelude.{◌≡◌, ◌≢◌, set, ℕ, ◌+◌, List, [], ◌∷◌, Option, Some, None, false, ◌==◌, if◌then◌else◌, length, IfErr, IfOk, OnErr, OnOk, Result}
 use Rattle.std.specs.List.{AllByRecursion}
 use Rattle.mt_base.specs.declared.refusal.Refusal.{Refusal}
 use Rattle.mt_frame.specs.declared.records.Record.{Record}
@@ -8,8 +8,9 @@ use Rattle.mt_frame.specs.Lengths.{record_length}
 use Rattle.mt_frame.specs.PageRecords.{change_records, lent_image}
 use Rattle.mt_log.specs.Holds.{HasItsPage}
 use Rattle.mt_log.specs.Sound.{IsSound}
+use Rattle.mt_log.specs.Seen.{with_records}
 use Rattle.mt_log.specs.Words as words
-use Rattle.mt_log.specs.Words.{appended, area_size, durable, in_flight, waiting, stands_at}
+use Rattle.mt_log.specs.Words.{seen_of, appended}
 use Rattle.mt_log.specs.declared.log.Log.{Log}
 use Rattle.mt_base.specs.Edits.{patched}
 use Rattle.mt_base.specs.declared.edits.Edit.{Edit}
@@ -42,11 +43,8 @@ pub record IsUnfinished (txn op : ℕ) (records : List Record) : Type 0 where
   pub operation : some_record (ends_op op) records ≡ false
 
 -- the log has these records more, which wait
-pub record IsLonger (log new : Log) (records : List Record) : Type 0 where
-  pub stands : stands_at new ≡ stands_at log
-  pub durable_same : durable new ≡ durable log
-  pub flying_same : in_flight new ≡ in_flight log
-  pub waiting_more : waiting new ≡ waiting log ++ records
+abbrev pub IsLonger : Log → Log → List Record → Type 0
+IsLonger old new records = seen_of new ≡ with_records (seen_of old) records
 
 -- these records are appended, all of them or none, and what is answered is the place of the last one
 pub record AppendsAll (log new : Log) (records : List Record) (r : Result ℕ Refusal) : Type 0 where
@@ -54,9 +52,7 @@ pub record AppendsAll (log new : Log) (records : List Record) (r : Result ℕ Re
   pub used : OnOk r (words.used new ≡ words.used log + records_size records)
   pub place : IfOk r (λ place. place ≡ length (appended new))
   pub sound : (pages : ℕ) → IsSound pages log → AllByRecursion (HasItsPage pages) records → MayFollow false (appended log) records → IsSound pages new
-  pub err_longer : OnErr r (IsLonger log new [])
-  pub err_used : OnErr r (words.used new ≡ words.used log)
-  pub area : area_size new ≡ area_size log
+  pub err : OnErr r (seen_of new ≡ seen_of log)
   pub only_memory : IfErr r (λ why. why ≡ Refusal.NoMemory)
 
 -- all edits of a page in a frame are made, and the page waits for the record at this place

@@ -3,7 +3,7 @@
 ghost use Rattle.std.specs.Prelude.{◌≡◌, ◌<◌, ℕ, List, length, get_or, Ok, None, OnOk};
 ghost use Rattle.mt_base.specs.declared.limits.TheConstants.{PAGE_BYTES};
 ghost use Rattle.mt_disk.specs.Disk.{HasCause};
-ghost use Rattle.mt_pool.specs.Kept.{MakesOneCall};
+ghost use Rattle.mt_disk.specs.Calls.{MakesOneCall};
 
 use crate::Pool;
 use crate::slots::{index_of, read_slot};
@@ -60,7 +60,7 @@ impl Pool {
         ensures exact { IsFull self.old → get_or self.old.of_page.items page None ≡ None → result ≡ Ok fetched.Flush }
         ensures seen { D.seen device.new ≡ D.seen device.old }
         ensures crash { (c : List ℕ) → D.may_leave device.new c → D.may_leave device.old c }
-        ensures time { MakesOneCall D.may_leave D.moment D.left_since device.old device.new }
+        ensures time { MakesOneCall D.Device device.old device.new }
         ensures cause { HasCause (D.faults device.old) (D.faults device.new) result }
     {
         if let Some(frame) = self.frame_of(page) {
@@ -98,7 +98,7 @@ impl Pool {
         ensures whole { length bytes.new ≡ PAGE_BYTES }
         ensures seen { D.seen device.new ≡ D.seen device.old }
         ensures crash { (c : List ℕ) → D.may_leave device.new c → D.may_leave device.old c }
-        ensures time { MakesOneCall D.may_leave D.moment D.left_since device.old device.new }
+        ensures time { MakesOneCall D.Device device.old device.new }
         ensures cause { HasCause (D.faults device.old) (D.faults device.new) result }
     {
         match self.frame_of(page) {

@@ -3,7 +3,7 @@
 ghost use Rattle.std.specs.Prelude.{◌≡◌, ◌⊎◌, ◌<◌, ◌≤◌, ◌+◌, ◌*◌, ℕ, length, get_or, set, IsErr, Ok, Some, None, true, false};
 ghost use Rattle.mt_base.specs.declared.limits.TheConstants.{PAGE_BYTES};
 ghost use Rattle.mt_disk.specs.Disk.{Torn, Follows, HasCause};
-ghost use Rattle.mt_pool.specs.Kept.{MakesOneCall};
+ghost use Rattle.mt_disk.specs.Calls.{MakesOneCall};
 
 use crate::Pool;
 use crate::slots::write_slot;
@@ -81,7 +81,7 @@ impl Pool {
             × Torn (self.old.place + PAGE_BYTES * p) PAGE_BYTES (D.seen device.old) (D.seen device.new)
             × Follows (Torn (self.old.place + PAGE_BYTES * p) PAGE_BYTES)
             (D.may_leave device.old) (D.may_leave device.new)) }
-        ensures time { MakesOneCall D.may_leave D.moment D.left_since device.old device.new }
+        ensures time { MakesOneCall D.Device device.old device.new }
         ensures page { (p : ℕ) → result ≡ Ok (flushed.Page p) → Cleans self.old self.new durable p }
         ensures fewer { (p : ℕ) → result ≡ Ok (flushed.Page p) → to_flush self.new + 1 ≡ to_flush self.old }
         ensures forced { result ≡ Ok flushed.Force → IsWaiting self.old durable }

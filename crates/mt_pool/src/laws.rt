@@ -1,5 +1,5 @@
 // The laws of pool and log, each the contract of a function with nothing to do.
-ghost use Rattle.mt_pool.specs.Laws.{CrashGivesPages, BeginsSafe, ElsewhereKeepsSafe, SlotKeepsSafe, LessKeepsSafe, AppendKeepsSafe, ChangeKeepsSafe, FlushKeepsSafe, BeginsTied, ChangeKeepsTied, AppendKeepsTied, SameViewsKeepTied, ElsewhereKeepsViews, ElsewhereKeepsShows};
+ghost use Rattle.mt_pool.specs.Laws.{CrashGivesPages, BeginsSafe, ElsewhereKeepsSafe, SlotKeepsSafe, LessKeepsSafe, AppendKeepsSafe, ChangeKeepsSafe, FlushKeepsSafe, FlushesSayAll, BeginsTied, ChangeKeepsTied, AppendKeepsTied, SameViewsKeepTied, ElsewhereKeepsViews, ElsewhereKeepsShows};
 
 use mt_disk::Device;
 
@@ -26,6 +26,12 @@ pub fn steps_keep_the_pages<D: Device>()
 pub fn the_pool_keeps_the_pages<D: Device>()
     ensures change { ChangeKeepsSafe D.seen D.may_leave }
     ensures flush { FlushKeepsSafe D.seen D.may_leave }
+{}
+
+/// A law: what follows of a step of a flush, in the words of those who ask for one fact. If a page is written, all its
+/// records are durable, and it is the one page that is clean after it. No step brings in a page, nor sends one away.
+pub fn a_flush_says_all_of_the_pool()
+    ensures { FlushesSayAll }
 {}
 
 /// Laws: what the pool knows of the log is right when an area without records begins. It stays right with a change

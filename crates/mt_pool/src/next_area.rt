@@ -6,10 +6,11 @@ ghost use Rattle.mt_frame.specs.declared.records.Record.{Record};
 ghost use Rattle.mt_log.specs.Masters.{IsRuling};
 ghost use Rattle.mt_log.specs.Sound.{IsSound};
 ghost use Rattle.mt_log.specs.Words.{durable, in_flight, waiting, area_start, IsOn};
+ghost use Rattle.mt_pool.specs.Begun.{store_frames};
 ghost use Rattle.mt_pool.specs.Images.{IsSafe};
 ghost use Rattle.mt_pool.specs.Kept.{IsKept, Names, carried};
 ghost use Rattle.mt_pool.specs.Turns.{IsImageOnly};
-ghost use Rattle.mt_pool.specs.Views.{IsPool, Shows, view, waits_for, pages as pages_of};
+ghost use Rattle.mt_pool.specs.Views.{IsPool, Shows, view, waits_for, frames, pages as pages_of};
 ghost use Rattle.mt_pool.specs.Moves.{NotesImages};
 
 use crate::{Pool, Store};
@@ -60,6 +61,7 @@ impl<D: Device> Store<D> {
             → IsKept D.seen D.may_leave opening result }
         ensures views { (q : ℕ) → view result.pool (D.seen result.device) q ≡ view pool (D.seen device) q }
         ensures pages { pages_of result.pool ≡ pages_of pool }
+        ensures frames { store_frames result ≡ frames pool }
         ensures place { result.pool.place ≡ pool.place }
         ensures log { result.log ≡ log }
         ensures ruling { result.ruling ≡ ruling }

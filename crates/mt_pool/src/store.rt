@@ -10,9 +10,12 @@ ghost use Rattle.mt_pool.specs.Begun.{MakesParts, device_after};
 ghost use Rattle.mt_frame.specs.Grammar.{IsRecord, IsOfPage, IsTxn, IsOp};
 ghost use Rattle.mt_frame.specs.History.{may_stand};
 ghost use Rattle.mt_frame.specs.Lengths.{record_length};
-ghost use Rattle.mt_log.specs.Words.{durable, in_flight, waiting, appended, used, area_size, calls_left, has_failed, IsStep, Moves};
-ghost use Rattle.mt_log.specs.declared.log.Forced.{Forced};
-ghost use Rattle.mt_log.specs.declared.log.Forced.TheVariants as forced;
+ghost use Rattle.mt_disk.specs.Calls.{MakesOneCall};
+ghost use Rattle.mt_log.specs.Forcing.{ReportsFault};
+ghost use Rattle.mt_log.specs.Seen.{with_record, with_records};
+ghost use Rattle.mt_log.specs.Steps.{ForceSteps};
+ghost use Rattle.mt_log.specs.Words.{seen_of, durable, appended, used, area_size};
+ghost use Rattle.mt_pool.specs.FlushSteps.{FlushSteps};
 ghost use Rattle.mt_pool.specs.Images.{slot};
 
 use crate::{Fetched, Flushed, Pool};
@@ -123,43 +126,28 @@ fn parts<D: Device>(
 
 impl<D: Device> Store<D> {
     ghost use Rattle.mt_space.specs.Changes.{IsShort};
-    ghost use Rattle.mt_pool.specs.Kept.{ExplainsMeanwhile, HasOpening, MakesOneCall, StaysKept};
+    ghost use Rattle.mt_pool.specs.Kept.{IsOpen, Keeps};
     ghost use Rattle.mt_frame.specs.PageRecords.{change_records, redone};
     ghost use Rattle.mt_pool.specs.Writes.{due_image, IsUnfinished};
-    ghost use Rattle.mt_pool.specs.Views.{IsThere, IsFull, IsWaiting, Cleans, to_flush, view, pages, waits_for};
+    ghost use Rattle.mt_pool.specs.Views.{IsThere, IsFull, view, pages, waits_for};
     ghost use Rattle.mt_pool.specs.declared.fetches.Fetched.TheVariants as fetched;
     ghost use Rattle.mt_pool.specs.declared.flushes.Flushed.TheVariants as flushed;
 
-    /// A step of the log's force, as [`Log::force_step`] makes it: at most one device call, and no memory. The only
-    /// refusal is [`Refusal::DeviceFailed`], if the device failed in this call or in an earlier force; what
+    /// A step of the log's force, as [`Log::force_step`] makes it: at most one device call, and no memory. It answers
+    /// [`Forced::Idle`] only if every record is durable.
+    ///
+    /// The only refusal is [`Refusal::DeviceFailed`], if the device failed in this call or in an earlier force. What
     /// is durable stays.
     pub fn force_step(&mut self) -> Result<Forced, Refusal>
-        requires kept { HasOpening D.seen D.may_leave self.old }
-        ensures kept { StaysKept D.seen D.may_leave self.old self.new }
-        ensures moments { ExplainsMeanwhile D.seen D.may_leave D.moment D.left_since self.old self.new }
-        ensures time { MakesOneCall D.may_leave D.moment D.left_since self.old.device self.new.device }
+        requires open { IsOpen D.Device self.old self.old.device }
+        ensures keeps { Keeps D.Device self.old self.new self.old.device self.new.device }
+        ensures once { MakesOneCall D.Device self.old.device self.new.device }
+        ensures steps { ForceSteps (seen_of self.old.log) (seen_of self.new.log) result }
         ensures views { (q : ℕ) → q < pages self.old.pool
             → view self.new.pool (D.seen self.new.device) q ≡ view self.old.pool (D.seen self.old.device) q }
         ensures pool { self.new.pool ≡ self.old.pool }
         ensures ruling { self.new.ruling ≡ self.old.ruling }
-        ensures appended { appended self.new.log ≡ appended self.old.log }
-        ensures step { IfOk result (λ forced. IsStep self.old.log forced self.new.log) }
-        ensures moves { Moves self.old.log self.new.log }
-        ensures used { used self.new.log ≤ used self.old.log }
-        ensures used_less { 0 < calls_left self.old.log → used self.new.log ≡ used self.old.log }
-        ensures used_shared { calls_left self.old.log ≡ 0 → has_failed self.old.log ≡ false
-            → 0 < length (waiting self.old.log) → used self.new.log + 5 * length (waiting self.old.log)
-            ≡ used self.old.log + 5 }
-        ensures area { area_size self.new.log ≡ area_size self.old.log }
-        ensures failed { has_failed self.old.log ≡ true → IsErr result }
-        ensures now_failed { IsErr result → has_failed self.new.log ≡ true }
-        ensures well { IsOk result → has_failed self.new.log ≡ false }
-        ensures cause { IsErr result → (D.faults self.old.device < D.faults self.new.device
-            ⊎ (has_failed self.old.log ≡ true)) }
-        ensures quiet { IsOk result → D.faults self.new.device ≡ D.faults self.old.device }
-        // `Idle` means that every record is durable.
-        ensures idle { result ≡ Ok forced.Idle → length (durable self.old.log) ≡ length (appended self.old.log) }
-        ensures only_device { IfErr result (λ why. why ≡ Refusal.DeviceFailed) }
+        ensures cause { ReportsFault D.Device (seen_of self.old.log) self.old.device self.new.device result }
     {
         let forced = self.log.force_step(&mut self.device)?;
         if let Forced::Durable(place) = forced {
@@ -172,28 +160,18 @@ impl<D: Device> Store<D> {
     /// device call, and no memory. The only error is the device's; the pool is as before then, and the slot
     /// may hold anything.
     pub fn flush_step(&mut self) -> Result<Flushed, DeviceFault>
-        requires kept { HasOpening D.seen D.may_leave self.old }
-        ensures kept { StaysKept D.seen D.may_leave self.old self.new }
-        ensures moments { ExplainsMeanwhile D.seen D.may_leave D.moment D.left_since self.old self.new }
-        ensures time { MakesOneCall D.may_leave D.moment D.left_since self.old.device self.new.device }
+        requires open { IsOpen D.Device self.old self.old.device }
+        ensures keeps { Keeps D.Device self.old self.new self.old.device self.new.device }
+        ensures once { MakesOneCall D.Device self.old.device self.new.device }
         ensures views { (q : ℕ) → view self.new.pool (D.seen self.new.device) q ≡ view self.old.pool
             (D.seen self.old.device) q }
         ensures log { self.new.log ≡ self.old.log }
-        ensures waits { self.new.pool.waits ≡ self.old.pool.waits }
-        ensures there { self.new.pool.of_page ≡ self.old.pool.of_page }
-        ensures page { (p : ℕ) → result ≡ Ok (flushed.Page p)
-            → waits_for self.old.pool p ≤ length (durable self.old.log) }
-        ensures written { (p : ℕ) → result ≡ Ok (flushed.Page p)
-            → Cleans self.old.pool self.new.pool (length (durable self.old.log)) p }
-        ensures barred { result ≡ Ok flushed.Force → IsWaiting self.old.pool (length (durable self.old.log)) }
-        ensures fewer { (p : ℕ) → result ≡ Ok (flushed.Page p) → to_flush self.new.pool + 1 ≡ to_flush self.old.pool }
-        ensures waiting { result ≡ Ok flushed.Force → self.new ≡ self.old }
-        ensures fault { IsErr result → self.new.pool ≡ self.old.pool }
+        ensures steps { FlushSteps (length (durable self.old.log)) self.old.pool self.new.pool result }
         ensures exact { ((f : ℕ) → get_or self.old.pool.dirty.items f false ≡ false) → result ≡ Ok flushed.Clean }
-        ensures nothing { result ≡ Ok flushed.Clean → (f : ℕ) → get_or self.new.pool.dirty.items f false ≡ false }
+        // No call, and a force has something to do then.
+        ensures forced { result ≡ Ok flushed.Force → (self.new ≡ self.old)
+            × (length (durable self.old.log) < length (appended self.old.log)) }
         ensures cause { HasCause (D.faults self.old.device) (D.faults self.new.device) result }
-        // A force has something to do then.
-        ensures forced { result ≡ Ok flushed.Force → length (durable self.old.log) < length (appended self.old.log) }
     {
         self.pool.flush_step(self.settled.get(), &mut self.device)
     }
@@ -201,11 +179,10 @@ impl<D: Device> Store<D> {
     /// Brings the page into a frame, as [`Pool::fetch`] does. The only error is the device's, and all views stand
     /// then.
     pub fn fetch(&mut self, page: PageNo) -> Result<Fetched, DeviceFault>
-        requires kept { HasOpening D.seen D.may_leave self.old }
+        requires open { IsOpen D.Device self.old self.old.device }
         requires inside { page < pages self.old.pool }
-        ensures kept { StaysKept D.seen D.may_leave self.old self.new }
-        ensures moments { ExplainsMeanwhile D.seen D.may_leave D.moment D.left_since self.old self.new }
-        ensures time { MakesOneCall D.may_leave D.moment D.left_since self.old.device self.new.device }
+        ensures keeps { Keeps D.Device self.old self.new self.old.device self.new.device }
+        ensures once { MakesOneCall D.Device self.old.device self.new.device }
         ensures views { (q : ℕ) → view self.new.pool (D.seen self.new.device) q ≡ view self.old.pool
             (D.seen self.old.device) q }
         ensures there { result ≡ Ok fetched.There → IsThere self.new.pool page }
@@ -227,11 +204,10 @@ impl<D: Device> Store<D> {
     /// Copies a page's bytes as they are, as [`Pool::copy`] does: no frame is taken, and it takes no memory. The only
     /// error is the device's; all views stand then, and `bytes` may hold anything.
     pub fn copy(&mut self, page: PageNo, bytes: &mut [u8; 4096]) -> Result<(), DeviceFault>
-        requires kept { HasOpening D.seen D.may_leave self.old }
+        requires open { IsOpen D.Device self.old self.old.device }
         requires inside { page < pages self.old.pool }
-        ensures kept { StaysKept D.seen D.may_leave self.old self.new }
-        ensures moments { ExplainsMeanwhile D.seen D.may_leave D.moment D.left_since self.old self.new }
-        ensures time { MakesOneCall D.may_leave D.moment D.left_since self.old.device self.new.device }
+        ensures keeps { Keeps D.Device self.old self.new self.old.device self.new.device }
+        ensures once { MakesOneCall D.Device self.old.device self.new.device }
         ensures copied { OnOk result (bytes.new ≡ view self.old.pool (D.seen self.old.device) page) }
         ensures whole { length bytes.new ≡ PAGE_BYTES }
         ensures seen { D.seen self.new.device ≡ D.seen self.old.device }
@@ -244,13 +220,12 @@ impl<D: Device> Store<D> {
 
     /// Puts a page's bytes from before a change back without a record, as [`Pool::restore`] does. It cannot fail.
     pub fn restore(&mut self, page: PageNo, start: usize, before: &[u8])
-        requires kept { HasOpening D.seen D.may_leave self.old }
+        requires open { IsOpen D.Device self.old self.old.device }
         requires there { IsThere self.old.pool page }
         requires inside { page < pages self.old.pool }
         requires range { start + length before.now ≤ PAGE_BYTES }
         requires logged { 0 < waits_for self.old.pool page }
-        ensures kept { StaysKept D.seen D.may_leave self.old self.new }
-        ensures moments { ExplainsMeanwhile D.seen D.may_leave D.moment D.left_since self.old self.new }
+        ensures keeps { Keeps D.Device self.old self.new self.old.device self.new.device }
         ensures view { (seen : List ℕ) → view self.new.pool seen page ≡ take start (view self.old.pool seen page)
             ++ before.now ++ drop (start + length before.now) (view self.old.pool seen page) }
         ensures others { (seen : List ℕ) (q : ℕ) → q ≢ page → view self.new.pool seen q ≡ view self.old.pool seen q }
@@ -265,25 +240,16 @@ impl<D: Device> Store<D> {
     /// Appends a record that is of no page, as [`Log::append`] does; those of pages come by [`Store::write`]. The
     /// only refusal is [`Refusal::NoMemory`], and nothing is appended then.
     pub fn append(&mut self, entry: Record) -> Result<LogPos, Refusal>
-        requires kept { HasOpening D.seen D.may_leave self.old }
+        requires open { IsOpen D.Device self.old self.old.device }
         requires grammar { IsRecord entry }
         requires no_page { IsOfPage entry → ⊥ }
         requires rules { may_stand false (appended self.old.log) entry ≡ true }
         requires fits { used self.old.log + 5 + record_length entry < area_size self.old.log }
-        ensures kept { StaysKept D.seen D.may_leave self.old self.new }
-        ensures moments { ExplainsMeanwhile D.seen D.may_leave D.moment D.left_since self.old self.new }
-        ensures appended { OnOk result (appended self.new.log ≡ appended self.old.log ++ entry ∷ []) }
+        ensures keeps { Keeps D.Device self.old self.new self.old.device self.new.device }
+        ensures log { OnOk result (seen_of self.new.log ≡ with_record (seen_of self.old.log) entry) }
+        ensures err { OnErr result (seen_of self.new.log ≡ seen_of self.old.log) }
         ensures place { IfOk result (λ place. place ≡ length (appended self.new.log)) }
-        ensures used { OnOk result (used self.new.log ≡ used self.old.log + 5 + record_length entry) }
-        ensures waits { OnOk result (waiting self.new.log ≡ waiting self.old.log ++ entry ∷ []) }
-        ensures durable { durable self.new.log ≡ durable self.old.log }
-        ensures in_flight { in_flight self.new.log ≡ in_flight self.old.log }
-        ensures calls { calls_left self.new.log ≡ calls_left self.old.log }
-        ensures err_appended { OnErr result (appended self.new.log ≡ appended self.old.log) }
-        ensures err_used { OnErr result (used self.new.log ≡ used self.old.log) }
-        ensures area { area_size self.new.log ≡ area_size self.old.log }
-        ensures pool { self.new.pool ≡ self.old.pool }
-        ensures device { self.new.device ≡ self.old.device }
+        ensures only_log { self.new ≡ record self.old { log = self.new.log } }
         ensures only_memory { IfErr result (λ why. why ≡ Refusal.NoMemory) }
     {
         self.log.append(entry)
@@ -295,24 +261,23 @@ impl<D: Device> Store<D> {
     ///
     /// The only refusal is [`Refusal::NoMemory`], and nothing is appended or written then.
     pub fn write(&mut self, txn: TxnNo, op: OpNo, change: &PageChange) -> Result<(), Refusal>
-        requires kept { HasOpening D.seen D.may_leave self.old }
+        requires open { IsOpen D.Device self.old self.old.device }
         requires there { IsThere self.old.pool change.now.page }
         requires inside { change.now.page < pages self.old.pool }
         requires short { IsShort (view self.old.pool (D.seen self.old.device) change.now.page) change.now }
         requires numbers { IsTxn txn × IsOp op }
         requires unfinished { IsUnfinished txn op (appended self.old.log) }
         requires fits { used self.old.log + log_size change.now.edits.items + PAGE_BYTES < area_size self.old.log }
-        ensures kept { StaysKept D.seen D.may_leave self.old self.new }
-        ensures moments { ExplainsMeanwhile D.seen D.may_leave D.moment D.left_since self.old self.new }
+        ensures keeps { Keeps D.Device self.old self.new self.old.device self.new.device }
         ensures view { OnOk result ((seen : List ℕ)
             → view self.new.pool seen change.now.page ≡ patched change.now.edits.items
             (view self.old.pool seen change.now.page)) }
         ensures others { (seen : List ℕ) (q : ℕ) → q ≢ change.now.page
             → view self.new.pool seen q ≡ view self.old.pool seen q }
-        ensures appended { OnOk result (let page = view self.old.pool
-            (D.seen self.old.device) change.now.page in appended self.new.log ≡ appended self.old.log
-            ++ change_records txn op change.now.page (due_image self.old.pool change.now.page page) page
-            (patched change.now.edits.items page) change.now.edits.items) }
+        ensures log { OnOk result (let page = view self.old.pool
+            (D.seen self.old.device) change.now.page in seen_of self.new.log ≡ with_records (seen_of self.old.log)
+            (change_records txn op change.now.page (due_image self.old.pool change.now.page page) page
+            (patched change.now.edits.items page) change.now.edits.items)) }
         // These records, made again over a page as it was, give it as it is.
         ensures redone { OnOk result ((seen : List ℕ) (q : ℕ) → let page = view self.old.pool seen change.now.page in
             view self.new.pool seen q ≡ redone q (change_records txn op change.now.page
@@ -325,12 +290,9 @@ impl<D: Device> Store<D> {
             → IsUnfinished t o (appended self.new.log) }
         ensures used { OnOk result (used self.new.log
             ≤ used self.old.log + log_size change.now.edits.items + PAGE_BYTES) }
-        ensures durable { durable self.new.log ≡ durable self.old.log }
-        ensures err_appended { OnErr result (appended self.new.log ≡ appended self.old.log) }
-        ensures err_used { OnErr result (used self.new.log ≡ used self.old.log) }
+        ensures err_log { OnErr result (seen_of self.new.log ≡ seen_of self.old.log) }
         ensures err_pool { OnErr result (self.new.pool ≡ self.old.pool) }
         ensures there { self.new.pool.of_page ≡ self.old.pool.of_page }
-        ensures area { area_size self.new.log ≡ area_size self.old.log }
         ensures device { self.new.device ≡ self.old.device }
         ensures only_memory { IfErr result (λ why. why ≡ Refusal.NoMemory) }
     {

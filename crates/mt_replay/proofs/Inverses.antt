@@ -12,7 +12,8 @@ use Rattle.mt_frame.specs.declared.records.LoggedOp.{LoggedOp}
 use Rattle.mt_frame.specs.declared.records.LoggedOp.TheVariants as logged
 use Rattle.mt_file.specs.Plans.{IsNamed}
 use Rattle.mt_file.proofs.Shaped.{shaped_of}
-use Rattle.mt_model.specs.Model.{IsWithin}
+use Rattle.mt_inverse.specs.Steps.{IsWithinSteps}
+use Rattle.mt_model.specs.Model.{IsWithin, inverse_of}
 use Rattle.mt_slots.specs.Page.{IsShaped}
 use Rattle.mt_space.specs.Changes.{PageBytes}
 use Rattle.mt_space.specs.Kinds.{kind}
@@ -30,7 +31,7 @@ use Rattle.mt_replay.specs.Losers.{HasUndone}
 use Rattle.mt_replay.specs.declared.losers.Loser.{Loser}
 use Rattle.mt_replay.specs.Memory.{AreFirst, AreGood}
 use Rattle.mt_replay.specs.Recoverable.{IsOf}
-use Rattle.mt_replay.specs.Recorded.{undo_of, reply_back}
+use Rattle.mt_replay.specs.Recorded.{op_of, reply_in, undo_of, reply_back}
 use Rattle.mt_replay.specs.Undoing.{IsRoom, IsUndoing, Misses, Undoes, UndoesOne}
 
 -- ---- good pages in memory
@@ -78,6 +79,31 @@ undo_within relations counters (logged.Insert r k v) fine of = (of, fine.1)
 undo_within relations counters (logged.Update r k v old) fine of = (of, fine.1, fine.3)
 undo_within relations counters (logged.Delete r k old) fine of = (of, fine.1, fine.2)
 undo_within relations counters (logged.Add c s) fine of = (of, step_back s fine.1)
+
+undo_same : (d : LoggedOp) → inverse_of (op_of d) (reply_in d) ≡ Some (undo_of d)
+undo_same (logged.Insert r k v) = refl
+undo_same (logged.Update r k v old) = refl
+undo_same (logged.Delete r k old) = refl
+undo_same (logged.Add c s) = refl
+
+some_same : (a b : Op) → Some a ≡ Some b → a ≡ b
+some_same a b is = cc
+
+-- the inverse of the effect that is logged
+pub inverse_is : (d : LoggedOp) (op : Op) (reply : Reply) (i : Op) → op ≡ op_of d → reply ≡ reply_in d → inverse_of op reply ≡ Some i → i ≡ undo_of d
+inverse_is d op reply i is says inverse = some_same i (undo_of d) (sym inverse ∙ (λ j. inverse_of (is j) (says j)) ∙ undo_same d)
+
+pub steps_within : (d : LoggedOp) → IsOperation d → IsWithinSteps (op_of d)
+steps_within (logged.Insert r k v) fine = tt
+steps_within (logged.Update r k v old) fine = tt
+steps_within (logged.Delete r k old) fine = tt
+steps_within (logged.Add c s) fine = fine.1
+
+pub undo_short : (d : LoggedOp) → IsOperation d → record_bytes (undo_of d) ≤ 4096
+undo_short (logged.Insert r k v) fine = omega arith
+undo_short (logged.Update r k v old) fine = let key = fine.1.1 in let value = fine.3 in omega arith
+undo_short (logged.Delete r k old) fine = let key = fine.1.1 in let value = fine.2 in omega arith
+undo_short (logged.Add c s) fine = omega arith
 
 -- the page for its record holds records, and takes it
 pub room_named : (total bytes : ℕ) (pages : PageBytes) (room : Option ℕ) → IsRoom total bytes pages room → IsNamed room pages

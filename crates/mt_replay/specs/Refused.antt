@@ -41,14 +41,13 @@ pub record AreUndone (held : List (List ℕ)) (list : List Loser) (items : List 
   pub undone : HasUndone held list items
   pub after : AreChecked items
 
--- what a restart in memory makes of bytes, and the figures of the batches
-pub record IsReplayed (c : List ℕ) (slot : MasterSlot) (figures : Figures) (items : List (List ℕ)) : Type 0 where
+-- what a restart in memory makes of bytes
+pub record IsReplayed (c : List ℕ) (slot : MasterSlot) (items : List (List ℕ)) : Type 0 where
   pub batches : List Batch
   pub held : List (List ℕ)
   pub list : List Loser
   pub repeated : AreRepeated c slot batches held list
   pub undone : AreUndone held list items
-  pub figures_reported : AreFigures (records_of batches) figures
 
 -- the log's area, as the ruling slot names it, and its figures
 pub record IsLog (c : List ℕ) (slot : MasterSlot) (figures : Figures) : Type 0 where

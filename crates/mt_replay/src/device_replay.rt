@@ -36,7 +36,7 @@ use std::alloc::Global;
 pub struct Replayed {
     /// The master slot that rules.
     pub ruling: MasterSlot,
-    /// What the batches of the area that it names come to.
+    /// How much the batches of the area that it names hold.
     pub figures: Figures,
     /// All pages, with what is unfinished put back and the losers undone.
     pub restored: Restored,
@@ -134,8 +134,9 @@ fn undone(alloc: Global, pages: Vec<[u8; 4096]>, losers: &[Loser]) -> Result<Res
 /// Any bytes are read. If they are answered, the pages break no rule of their formats and of the index, those held
 /// and those that the losers' inverses leave.
 ///
-/// The area is read once. Of each page its slot is read once, or its image is taken if the area has one. Marks name
-/// the pages with an image, and the lost ones: those without an image whose slots have other bytes.
+/// The area is read once, and its figures are those that [`read_log`] answers. Of each page its slot is read once, or
+/// its image is taken if the area has one. Marks name the pages with an image, and the lost ones: those without an
+/// image whose slots have other bytes.
 ///
 /// Refusals are [`Refusal::NoMemory`], and [`Refusal::DeviceFailed`], if and only if the device failed in this call.
 /// [`Refusal::NotFormatted`] is answered if and only if it is shorter than 8192 bytes or no master slot is open, and
@@ -144,8 +145,8 @@ fn undone(alloc: Global, pages: Vec<[u8; 4096]>, losers: &[Loser]) -> Result<Res
 /// does not find what its record says, or too few free pages. The device is only read, and its content is as before
 /// in any case.
 pub fn replay<D: Device>(alloc: Global, device: &mut D) -> Result<Replayed, Refusal>
-    ensures rules { IfOk result (λ replayed. IsRuling (D.seen device.old) replayed.ruling) }
-    ensures replayed { IfOk result (λ replayed. IsReplayed (D.seen device.old) replayed.ruling replayed.figures
+    ensures log { IfOk result (λ replayed. IsLog (D.seen device.old) replayed.ruling replayed.figures) }
+    ensures replayed { IfOk result (λ replayed. IsReplayed (D.seen device.old) replayed.ruling
         replayed.restored.pages.items) }
     ensures marked { IfOk result (λ replayed. IsMarked (D.seen device.old) replayed.ruling
         replayed.restored.pages.items replayed.imaged.items replayed.lost.items) }
@@ -174,10 +175,9 @@ pub fn replay<D: Device>(alloc: Global, device: &mut D) -> Result<Replayed, Refu
     } = held;
     let restored = undone(alloc, pages, &losers)?;
     let lost = lost_pages(alloc, &in_slots, &restored.pages, &imaged)?;
-    let figures = figures_of(&batches);
     Ok(Replayed {
         ruling,
-        figures,
+        figures: figures_of(&batches),
         restored,
         imaged,
         lost,

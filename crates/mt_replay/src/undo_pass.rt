@@ -5,13 +5,14 @@ ghost use Rattle.mt_base.specs.declared.limits.TheConstants.{MASTER_BYTES, MAX_P
 ghost use Rattle.mt_base.specs.Edits.{patched};
 ghost use Rattle.mt_base.specs.declared.refusal.Refusal.{Refusal};
 ghost use Rattle.mt_frame.specs.Grammar.{IsOperation};
+ghost use Rattle.mt_inverse.specs.Effects.{op_with, reply_with, reply_back as back};
 ghost use Rattle.mt_space.specs.Changes.{PageBytes, AreShort};
 ghost use Rattle.mt_steps.specs.Plans.{record_bytes};
 ghost use Rattle.mt_replay.specs.Memory.{AreWhole, AreFirst, AreGood, Sets, Makes};
 ghost use Rattle.mt_replay.specs.Checks.{AreBroken, AreChecked};
 ghost use Rattle.mt_replay.specs.Faults.{IsFaulty};
 ghost use Rattle.mt_replay.specs.Recoverable.{IsOf};
-ghost use Rattle.mt_replay.specs.Recorded.{undo_of, reply_back};
+ghost use Rattle.mt_replay.specs.Recorded.{op_of, reply_in, reply_back};
 ghost use Rattle.mt_replay.specs.Undoing.{IsRoom, IsUndoPlan, Misses, Undoes};
 
 use crate::losers::Loser;
@@ -21,13 +22,14 @@ use mt_base::{Edit, PageNo, Refusal};
 use mt_file::fits;
 use mt_frame::LoggedOp;
 use mt_index::Search;
-use mt_model::{Op, Reply};
+use mt_inverse::Effect;
+use mt_model::Op;
 use mt_pool::slot_at;
 use mt_slots::ROW_HEAD_BYTES;
 use mt_space::pages::{COUNTERS, MAP, RECORDS};
 use mt_space::{Changes, Pages, patch};
 use mt_steps::{Act, SchemaSizes, plan, sizes};
-use std::alloc::{AllocError, Global};
+use std::alloc::Global;
 
 /// All pages of a device in memory, which break no rule of their formats. Each of them is at hand, so a plan over
 /// them asks for none.
@@ -61,36 +63,42 @@ impl Pages for Restored {
     }
 }
 
-// The operation that takes back what is logged.
-fn inverse_in(done: &LoggedOp) -> Result<Op, AllocError>
-    requires { IsOperation done.now }
-    ensures { IfOk result (λ op. op ≡ undo_of done.now) }
+// What an operation did, by what is logged of it.
+fn effect_of(done: &LoggedOp) -> Effect<'_>
+    ensures op { op_with result ≡ op_of done.now }
+    ensures reply { reply_with result ≡ reply_in done.now }
+    ensures back { back result ≡ reply_back done.now }
 {
     match done {
-        LoggedOp::Insert { relation, key, .. } => Ok(Op::Delete(*relation, key.try_clone()?)),
+        LoggedOp::Insert {
+            relation,
+            key,
+            value,
+        } => Effect::Inserted {
+            relation: *relation,
+            key,
+            value,
+        },
         LoggedOp::Update {
             relation,
             key,
+            value,
             old,
-            ..
-        } => Ok(Op::Update(*relation, key.try_clone()?, old.try_clone()?)),
-        LoggedOp::Delete { relation, key, old } => {
-            Ok(Op::Insert(*relation, key.try_clone()?, old.try_clone()?))
-        }
-        LoggedOp::Add { counter, step } => Ok(Op::Add(*counter, -*step)),
-    }
-}
-
-// Whether an inverse found what the record says.
-fn is_as_logged(done: &LoggedOp, reply: &Reply) -> bool
-    ensures { IsTrue result ↔ (reply.now ≡ reply_back done.now) }
-{
-    match (done, reply) {
-        (LoggedOp::Insert { value, .. }, Reply::Was(was)) => was.as_slice() == value.as_slice(),
-        (LoggedOp::Update { value, .. }, Reply::Was(was)) => was.as_slice() == value.as_slice(),
-        (LoggedOp::Delete { .. }, Reply::Done) => true,
-        (LoggedOp::Add { .. }, Reply::Done) => true,
-        _ => false,
+        } => Effect::Updated {
+            relation: *relation,
+            key,
+            value,
+            old,
+        },
+        LoggedOp::Delete { relation, key, old } => Effect::Deleted {
+            relation: *relation,
+            key,
+            old,
+        },
+        LoggedOp::Add { counter, step } => Effect::Added {
+            counter: *counter,
+            step: *step,
+        },
     }
 }
 
@@ -99,21 +107,22 @@ fn is_of(counted: SchemaSizes, done: &LoggedOp) -> bool
     ensures { IsTrue result ↔ IsOf counted.relations counted.counters done.now }
 {
     match done {
-        LoggedOp::Insert { relation, .. } => relation.get() < counted.relations,
-        LoggedOp::Update { relation, .. } => relation.get() < counted.relations,
-        LoggedOp::Delete { relation, .. } => relation.get() < counted.relations,
+        LoggedOp::Insert { relation, .. }
+        | LoggedOp::Update { relation, .. }
+        | LoggedOp::Delete { relation, .. } => relation.get() < counted.relations,
         LoggedOp::Add { counter, .. } => counter.get() < counted.counters,
     }
 }
 
-// The bytes of the record that the inverse of what is logged puts.
-fn bytes_put_back(done: &LoggedOp) -> usize
-    requires { IsOperation done.now }
-    ensures { result ≡ record_bytes (undo_of done.now) }
+// The bytes of the record that an operation puts, 0 if it puts none.
+fn bytes_put(op: &Op) -> usize
+    requires { record_bytes op.now ≤ PAGE_BYTES }
+    ensures { result ≡ record_bytes op.now }
 {
-    match done {
-        LoggedOp::Update { key, old, .. } => ROW_HEAD_BYTES + key.len() + old.len(),
-        LoggedOp::Delete { key, old, .. } => ROW_HEAD_BYTES + key.len() + old.len(),
+    match op {
+        Op::Insert(_, key, value) | Op::Update(_, key, value) => ROW_HEAD_BYTES
+            + key.len()
+            + value.len(),
         _ => 0,
     }
 }
@@ -200,14 +209,15 @@ impl Restored {
         if !is_of(sizes(&self.pages[usize::from(COUNTERS)]), done) {
             return Ok(None);
         }
-        let room = self.room_for(bytes_put_back(done));
+        let effect = effect_of(done);
         let act = {
-            let inverse = inverse_in(done)?;
+            let inverse = effect.inverse()?;
+            let room = self.room_for(bytes_put(&inverse));
             plan(alloc, self, room, &inverse, false, &mut Search::Start)?
         };
         match act {
             Act::Made(changes, reply) => {
-                if !is_as_logged(done, &reply) {
+                if !effect.is_taken_back_by(&reply) {
                     return Ok(None);
                 }
                 Ok(Some(changes))

@@ -1,15 +1,9 @@
-mod Begun
-mod Calls
-mod Counters
-mod Formed
-mod Shut
-mod Zeros
-pub mod Assembled
+mod Refusals
 mod ImageRecords
 mod Sizes
 mod Slots
 mod Elsewhere
-pub mod Read
+mod Read
 mod Ruled
 mod NextArea
 mod Staying
@@ -23,6 +17,6 @@ mod Opened
 pub mod EarlyCauses
 mod Rotations
 pub mod Standings
-mod Founded
+mod Unlost
 mod Counted
 pub mod Living

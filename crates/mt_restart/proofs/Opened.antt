@@ -11,8 +11,9 @@ use Rattle.mt_frame.specs.declared.slots.MasterSlot.{MasterSlot}
 use Rattle.mt_log.specs.Masters.{IsRuling, area_size as size_of, area_start as start_of, area_end as end_of}
 use Rattle.mt_log.specs.NextSlot.{next_slot}
 use Rattle.mt_log.specs.Sound.{IsSound}
-use Rattle.mt_log.specs.Words.{appended, used, area_size, area_start as log_start, area_end as log_end, durable, in_flight, waiting}
+use Rattle.mt_log.specs.Words.{seen_of, appended, used, area_size, area_start as log_start, area_end as log_end, durable, in_flight, waiting}
 use Rattle.mt_log.specs.declared.log.Log.{Log}
+use Rattle.mt_log.proofs.Bytes.{used-fields}
 use Rattle.mt_model.specs.Model.{Base, IsBase}
 use Rattle.mt_op.specs.Begun.{AreImages, FitsPages, ShowsOpening}
 use Rattle.mt_op.specs.Operations.{IsRight, claimed}
@@ -39,8 +40,8 @@ use Rattle.mt_restart.proofs.Restarting.{are_images}
 
 -- a log has room behind its records
 some_room : (log : Log) → used log < area_size log
-unfolding used area_size
-some_room log = let fits = log.fits in let order = log.in_order in let head = log.head in omega (arith, fits, order, head)
+unfolding seen_of
+some_room log = let is = used-fields log in let fits = log.fits in let order = log.in_order in let head = log.head in omega (arith, is, fits, order, head)
 
 appended_of : (log : Log) (images : List Record) → durable log ≡ images → in_flight log ≡ [] → waiting log ≡ [] → appended log ≡ images
 appended_of log images d f w =
@@ -48,7 +49,7 @@ appended_of log images d f w =
 
 -- a log's area ends behind its bytes
 end_of_log : (log : Log) (s n : ℕ) → log_start log ≡ s → area_size log ≡ n → log_end log ≡ s + n
-unfolding log_start log_end area_size
+unfolding seen_of
 end_of_log log s n start size = let some = log.place.some_bytes in omega (arith, start, size, some)
 
 module _ {D : Type 0} (seen : D → List ℕ) (may : D → List ℕ → Type 0) (frames : ℕ) (device : D) (r : Recovered) (is : IsRecovered seen may frames device r) where

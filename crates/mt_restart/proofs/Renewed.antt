@@ -48,7 +48,6 @@ module _ {D : Type 0} (seen : D → List ℕ) (may : D → List ℕ → Type 0) 
 -- ---- the next area, begun
 
 durable_one : (log : Log) (images : List Record) → durable_batches log ≡ images ∷ [] → durable log ≡ images
-unfolding durable durable_batches
 durable_one log images is = ap joined is ∙ append-nil images
 
 pub next_log : {D : Type 0} (seen : D → List ℕ) (may : D → List ℕ → Type 0) (ruling : MasterSlot) (images : List Record) (device : D) (log : Log) → IsOn seen may log device → log_start log ≡ area_start (next_slot ruling) → log_size log ≡ area_size ruling

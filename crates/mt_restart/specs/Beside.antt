@@ -3,10 +3,9 @@ use Rattle.std.specs.Prelude.{◌≡◌, ◌<◌, ◌≤◌, ◌+◌, ◌*◌, �
 use Rattle.mt_base.specs.declared.limits.TheConstants.{MASTER_BYTES, PAGE_BYTES}
 use Rattle.mt_index.specs.Checks.{bytes_of}
 use Rattle.mt_model.specs.Tables.{count_at}
-use Rattle.mt_op.specs.Begun.{FitsPages}
+use Rattle.mt_op.specs.Begun.{FitsPages, idle_claims}
 use Rattle.mt_pool.specs.Images.{slot}
 use Rattle.mt_pool.specs.Views.{IsPool, Shows, view, waits_for, pages, frames}
-use Rattle.mt_space.specs.Rooms.{reserved_of}
 use Rattle.mt_steps.specs.Counters.{count_in}
 use Rattle.mt_restart.specs.declared.beside.Beside.{Beside}
 
@@ -21,7 +20,7 @@ pub record IsBeside (items : List (List ℕ)) (frame_count : ℕ) (b : Beside) :
   pub page_count : pages b.pool ≡ length items
   pub many : frames b.pool ≡ frame_count
   pub fits : FitsPages (length items) (bytes_of items) b.idle
-  pub unclaimed : reserved_of b.idle.map.space ≡ 0
+  pub unclaimed : idle_claims b.idle ≡ 0
   pub relations : b.relations ≡ get_or (bytes_of items 2) 0 0
   pub counters : b.counters ≡ get_or (bytes_of items 2) 1 0
   pub all : length b.escrow.committed ≡ b.counters

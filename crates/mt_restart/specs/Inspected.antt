@@ -9,7 +9,6 @@ use Rattle.mt_model.specs.declared.tables.Base as code
 use Rattle.mt_op.specs.Surveyed.{IsSurvey}
 use Rattle.mt_op.specs.declared.survey.Survey.{Survey}
 use Rattle.mt_replay.specs.Refused.{IsReplayed}
-use Rattle.mt_replay.specs.declared.figures.Figures.{Figures}
 use Rattle.mt_steps.specs.Held.{Holds}
 use Rattle.mt_steps.specs.Listed.{HasListed, IsSame}
 use Rattle.mt_steps.specs.Plans.{IsGood}
@@ -17,9 +16,8 @@ use Rattle.mt_steps.specs.Plans.{IsGood}
 -- The pages that a restart in memory makes of the bytes are good and hold the base, and the survey is of them.
 pub record Surveys (relations counters : ℕ) (held : Base) (c : List ℕ) (survey : Survey) : Type 0 where
   pub slot : MasterSlot
-  pub figures : Figures
   pub items : List (List ℕ)
-  pub replayed : IsReplayed c slot figures items
+  pub replayed : IsReplayed c slot items
   pub good : IsGood relations counters (length items) (bytes_of items)
   pub holds : Holds (bytes_of items) held
   pub outcome : IsSurvey relations counters (length items) (bytes_of items) held survey
@@ -33,6 +31,20 @@ pub record IsInspected (c : List ℕ) (survey : Survey) : Type 0 where
   pub bounds : IsBase held
   pub surveys : Surveys relations counters held c survey
   pub only : (b : Base) → Holds (bytes_of surveys.items) b → IsSame counters (base_of survey.base) b
+
+-- Any bytes whose pages break no rule: those that a restart in memory makes of them are good pages of some schema, and
+-- hold a base.
+pub record IsSound (c : List ℕ) : Type 0 where
+  pub slot : MasterSlot
+  pub items : List (List ℕ)
+  pub replayed : IsReplayed c slot items
+  pub relations : ℕ
+  pub counters : ℕ
+  pub fits : IsRelationCount relations
+  pub good : IsGood relations counters (length items) (bytes_of items)
+  pub held : Base
+  pub bounds : IsBase held
+  pub holds : Holds (bytes_of items) held
 
 -- ---- the pages in memory
 

@@ -1,14 +1,10 @@
 pub mod Beside
-pub mod Firsts
-pub mod Formats
 pub mod Found
 pub mod Inspected
 pub mod Recovered
 pub mod Reported
 pub mod Resumed
-pub mod Schemas
 pub mod Turned
 pub mod TurnFaults
-pub mod Within
 pub mod Standings
 pub mod Rotated

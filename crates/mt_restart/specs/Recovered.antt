@@ -12,7 +12,6 @@ use Rattle.mt_model.specs.Model.{Base}
 use Rattle.mt_replay.specs.Checks.{AreChecked}
 use Rattle.mt_replay.specs.Refused.{BreaksFormat, IsCause, IsReplayed}
 use Rattle.mt_replay.specs.Stands.{CanRestart, ShowsBase}
-use Rattle.mt_replay.specs.declared.figures.Figures.{Figures}
 use Rattle.mt_restart.specs.Beside.{IsBeside}
 use Rattle.mt_restart.specs.Found.{AreMarked, CanTurn, HasTurned, IsPrepared}
 use Rattle.mt_restart.specs.Turned.{AreImagesOf}
@@ -23,8 +22,7 @@ use Rattle.mt_restart.specs.declared.recovery.Recovered.{Recovered}
 -- a restart in memory makes these pages of the bytes
 pub record AreRestored (c : List ℕ) (items : List (List ℕ)) : Type 0 where
   pub slot : MasterSlot
-  pub figures : Figures
-  pub replayed : IsReplayed c slot figures items
+  pub replayed : IsReplayed c slot items
 
 -- What is found in these bytes: pages that break no rule, the marks by which the log can turn over, and all that is
 -- in memory beside the device, with so many frames.
@@ -41,11 +39,10 @@ pub record IsFound (c : List ℕ) (frames : ℕ) (f : Findings) : Type 0 where
 -- that are in no slot and in no image of the ruling one.
 pub record CannotTurn (c : List ℕ) : Type 0 where
   pub ruling : MasterSlot
-  pub figures : Figures
   pub items : List (List ℕ)
   pub batches : List (List Record)
   pub marks : Marks
-  pub replayed : IsReplayed c ruling figures items
+  pub replayed : IsReplayed c ruling items
   pub marked : AreMarked c ruling items batches marks
   pub none : CanTurn ruling marks.images.items → ⊥
 

@@ -1,5 +1,7 @@
 -- What is there after a rotation.
+use Rattle.std.specs.Prelude.{◌≡◌, ℕ, List, ⊤}
 use Rattle.mt_disk.specs.declared.device.Device.{Ghosts}
+use Rattle.mt_txn.specs.Shown.{IsFoundIn, kernel_frames}
 use Rattle.mt_restart.specs.declared.standing.Standing.{Standing}
 use Rattle.mt_restart.specs.declared.standing.Standing.TheVariants.{Stands, Ended}
 
@@ -7,3 +9,13 @@ use Rattle.mt_restart.specs.declared.standing.Standing.TheVariants.{Stands, Ende
 abbrev pub device_at : {D : Type 0} → {g : Ghosts D} → Standing D g → D
 device_at (Stands k) = k.core.operations.store.device
 device_at (Ended device) = device
+
+-- a kernel that stands can hold so many pages in frames
+abbrev pub HasFrames : {D : Type 0} → {g : Ghosts D} → ℕ → Standing D g → Type 0
+HasFrames frames (Stands k) = kernel_frames k ≡ frames
+HasFrames frames (Ended device) = ⊤
+
+-- If a kernel stands, a restart finds what some of its first commits lead to, whatever a crash leaves of this device.
+abbrev pub IsFoundAfter : {D : Type 0} → {g : Ghosts D} → (D → List ℕ) → (D → List ℕ → Type 0) → Standing D g → D → Type 0
+IsFoundAfter seen may_leave (Stands k) device = IsFoundIn seen may_leave k device
+IsFoundAfter seen may_leave (Ended _) device = ⊤

@@ -1,5 +1,5 @@
 // What a device's bytes represent, found without a write. The passes of a restart are made in memory, and all pages
-// that they leave are surveyed. mt_cli asks it of a device that nothing is to change.
+// that they leave are surveyed. mt_device_commands asks it of a device that nothing is to change.
 ghost use Rattle.std.specs.Prelude.{◌≡◌, ◌⊎◌, ◌<◌, ◌≤◌, ◌+◌, ℕ, List, length, IfErr, IfOk, OnOk, Err};
 ghost use Rattle.mt_base.specs.declared.limits.TheConstants.{MAX_PAGES};
 ghost use Rattle.mt_base.specs.declared.refusal.Refusal.{Refusal};
@@ -18,10 +18,10 @@ use mt_base::Refusal;
 use mt_disk::Device;
 use mt_index::depth;
 use mt_model::Base;
-use mt_op::Survey;
 use mt_replay::{Restored, only_own_pages_matter, replay};
 use mt_space::pages::{COUNTERS, DIRECTORY, FREE, MAP, RECORDS};
 use mt_steps::{base_without_rows, list_rows};
+use mt_txn::Survey;
 use std::alloc::Global;
 
 // How many pages the space map has as free.

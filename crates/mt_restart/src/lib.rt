@@ -1,17 +1,14 @@
-//! How a device comes to be one of this program's: what it is formatted with, its format, and the kernel over it. It
-//! is recovered after a crash here, and its log is reported.
+//! Kernels over devices that were used before, and what such a device represents. [`open`] recovers a device,
+//! whatever a crash left of it, and [`rotate`] turns the log of a kernel over. Both make the same recovery.
+//! [`inspect`], [`report`] and [`check`] only read.
 //!
-//! A [`Schema`] says how many pages, relations and counters there are, and how large a log area is. After
-//! [`format`] the device's pages hold a base without rows whose counters are at their starts.
+//! What formats a device is in `mt_format`, whose calls are passed on here. One clause of [`open`] alone speaks of a
+//! format: as a device is formatted, its log can turn over.
 #![tactic(auto)]
 
 mod area_renewal;
 mod beside;
 mod first_images;
-mod first_pages;
-mod format_calls;
-mod fresh_kernel;
-mod fresh_layers;
 mod inspection;
 mod log_report;
 mod opened_kernel;
@@ -19,16 +16,13 @@ mod recovery;
 mod report_figures;
 mod restart_writes;
 mod rotation;
-mod schema;
 mod slot_writes;
 mod standing;
 
-pub use format_calls::format;
-pub use fresh_kernel::fresh;
 pub use inspection::inspect;
-pub use log_report::report;
+pub use log_report::{check, report};
+pub use mt_format::{Schema, format, fresh};
 pub use opened_kernel::open;
 pub use report_figures::Report;
 pub use rotation::rotate;
-pub use schema::Schema;
 pub use standing::Standing;

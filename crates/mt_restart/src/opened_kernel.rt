@@ -11,12 +11,13 @@ ghost use Rattle.mt_log.specs.Words.{has_failed};
 ghost use Rattle.mt_model.specs.Model.{Base, IsBase};
 ghost use Rattle.mt_replay.specs.Stands.{CanRestart};
 ghost use Rattle.mt_steps.specs.Held.{Holds};
-ghost use Rattle.mt_txn.specs.Shown.{is_failed};
+ghost use Rattle.mt_op.specs.Operations.{operation_frames};
+ghost use Rattle.mt_txn.specs.Shown.{is_failed, kernel_frames};
 ghost use Rattle.mt_txn.specs.Well.{Opens};
-ghost use Rattle.mt_restart.specs.Formats.{IsFormattedAs};
+ghost use Rattle.mt_format.specs.Formats.{IsFormattedAs};
 ghost use Rattle.mt_restart.specs.Recovered.{IsCauseToStop, IsRecovered, StandsStill};
 ghost use Rattle.mt_restart.specs.Resumed.{BeginsOn, BeginsOnRestored, IsOpened, device_of};
-ghost use Rattle.mt_restart.specs.declared.schema.Schema.{Schema};
+ghost use Rattle.mt_format.specs.declared.schema.Schema.{Schema};
 
 use crate::beside::Beside;
 use crate::recovery::{Recovered, recover};
@@ -41,6 +42,7 @@ pub(crate) fn parts_over<D: Device + Drop>(
         → Opens D.seen D.may_leave result.0 result.1 recovered.beside.relations recovered.beside.counters b }
     ensures device { result.0.store.device ≡ device }
     ensures ruling { result.0.store.ruling ≡ recovered.ruling }
+    ensures frames { (n : ℕ) → IsRecovered D.seen D.may_leave n device recovered → operation_frames result.0 ≡ n }
     ensures well { has_failed result.0.store.log ≡ false }
 {
     let Recovered {
@@ -68,6 +70,7 @@ fn kernel_over<D: Device + Drop>(alloc: Global, device: D, recovered: Recovered)
         → IsOpened D.seen D.may_leave recovered.beside.relations recovered.beside.counters b result }
     ensures device { result.core.operations.store.device ≡ device }
     ensures ruling { result.core.operations.store.ruling ≡ recovered.ruling }
+    ensures frames { (n : ℕ) → IsRecovered D.seen D.may_leave n device recovered → kernel_frames result ≡ n }
     ensures well { is_failed result ≡ false }
 {
     let relations = recovered.beside.relations;
@@ -110,6 +113,7 @@ pub fn open<D: Device + Drop>(
     // It is the base that the passes of a restart leave in memory.
     ensures restored { IfOk result (BeginsOnRestored D.seen D.may_leave (D.seen device)) }
     ensures well { IfOk result (λ kernel. is_failed kernel ≡ false) }
+    ensures frames { IfOk result (λ kernel. kernel_frames kernel ≡ frames) }
     // What lies after its last counter is open.
     ensures counted { IfOk result (λ kernel. (b : Base) × BeginsOn D.seen D.may_leave b kernel) }
     ensures no_other_refusal { (relations counters : ℕ) (b : Base) → CanRestart relations counters (D.seen device) b

@@ -1,21 +1,20 @@
 // Turns the log of a kernel over while no transaction is active. It is forced, the device is recovered, and a kernel
 // with the same book goes on over the other area. mt_locked, mt_alone and mt_world call it.
-ghost use Rattle.std.specs.Prelude.{◌≡◌, false, IfErr, OnOk};
+ghost use Rattle.std.specs.Prelude.{◌≡◌, false, IfErr, IsOk, OnOk};
 ghost use Rattle.mt_model.specs.Model.{Base};
 ghost use Rattle.mt_txn.specs.Restarted.{FindsMeanwhile};
 ghost use Rattle.mt_txn.specs.Shown.{Restarts, TellsEachFault, is_failed};
 ghost use Rattle.mt_txn.specs.Turned.{HasNobody, IsForced};
 ghost use Rattle.mt_restart.specs.Rotated.{IsForcedOut, IsKeptCause, Keeps, Rotates};
-ghost use Rattle.mt_restart.specs.Standings.{device_at};
+ghost use Rattle.mt_restart.specs.Standings.{HasFrames, device_at};
 
 use crate::opened_kernel::parts_over;
 use crate::recovery::recover;
 use crate::standing::Standing;
 use mt_base::Refusal;
 use mt_disk::Device;
-use mt_log::FORCE_STEPS;
 use mt_replay::only_own_pages_matter;
-use mt_txn::{Kernel, KernelForced};
+use mt_txn::{FORCE_STEPS, Kernel, KernelForced};
 use std::alloc::Global;
 
 // Forces the log of a kernel in which no transaction is active until all that was appended is durable.
@@ -46,6 +45,7 @@ fn turn_over<D: Device + Drop>(
     requires forced { IsForced kernel }
     requires well { is_failed kernel ≡ false }
     ensures rotated { Rotates D.seen D.may_leave D.moment D.left_since D.faults kernel result.0 result.1 }
+    ensures frames { IsOk result.1 → HasFrames frames result.0 }
     ensures moments { (first : Base) → Restarts D.seen D.may_leave first kernel
         → FindsMeanwhile D.moment D.left_since kernel.relations kernel.counters first kernel.core (device_at result.0) }
 {
@@ -94,6 +94,7 @@ pub fn rotate<D: Device + Drop>(
     frames: usize,
 ) -> (Standing<D>, Result<(), Refusal>)
     ensures rotated { Rotates D.seen D.may_leave D.moment D.left_since D.faults kernel result.0 result.1 }
+    ensures frames { IsOk result.1 → HasFrames frames result.0 }
     // Whenever a crash comes in this call.
     ensures moments { (first : Base) → Restarts D.seen D.may_leave first kernel
         → FindsMeanwhile D.moment D.left_since kernel.relations kernel.counters first kernel.core (device_at result.0) }

@@ -1,6 +1,6 @@
 // What is there after a rotation: a kernel, or the device alone if it failed.
 ghost use Rattle.std.specs.Prelude.{◌≡◌};
-ghost use Rattle.mt_restart.specs.Standings.{device_at};
+ghost use Rattle.mt_restart.specs.Standings.{IsFoundAfter, device_at};
 
 use mt_disk::Device;
 use mt_txn::Kernel;
@@ -15,8 +15,11 @@ pub enum Standing<D: Device> {
 
 impl<D: Device + Drop> Standing<D> {
     /// The device, with which everything else is dropped. It takes no memory.
+    ///
+    /// If a kernel stood, a restart finds what some of its first commits lead to, as after [`Kernel::into_device`].
     pub fn into_device(self) -> D
-        ensures { result ≡ device_at self }
+        ensures device { result ≡ device_at self }
+        ensures found { IsFoundAfter D.seen D.may_leave self result }
     {
         match self {
             Standing::Stands(kernel) => kernel.into_device(),

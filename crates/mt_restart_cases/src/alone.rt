@@ -1,5 +1,5 @@
 // Scripts that run alone on a kernel, over a writer or a device that fails in the middle.
-use crate::common::{device_of, kernel_over, put_away};
+use crate::devices::{empty_device, kernel_over, put_away};
 use mt_alone::{RunFault, run_alone};
 use mt_base::Refusal;
 use mt_disk::FaultDevice;
@@ -49,7 +49,7 @@ fn run_both(
     second: &Script,
 ) -> Result<Both, Fail> {
     let alloc = rt.alloc();
-    let mut kernel = kernel_over(alloc, device_of(alloc)?)?;
+    let mut kernel = kernel_over(alloc, empty_device(alloc, 64)?)?;
     let taken = Vec::new(alloc);
     let mut narrow = Narrow { room: 12, taken };
     let unheard = run_alone(&mut kernel, 1, first, &mut narrow);
@@ -102,7 +102,7 @@ fn run_failing(
     call: u64,
 ) -> Result<Failing, Fail> {
     let alloc = rt.alloc();
-    let device = FaultDevice::new(device_of(alloc)?, call);
+    let device = FaultDevice::new(empty_device(alloc, 64)?, call);
     let mut out = Vec::new(alloc);
     let mut kernel = match kernel_over(alloc, device) {
         Ok(kernel) => kernel,

@@ -1,8 +1,8 @@
-// Devices in memory, what a crash leaves of them, and what they represent.
+// What several tests begin with: devices in memory, kernels over them, what a crash leaves, and what they represent.
 use mt_base::Refusal;
 use mt_disk::{Device, Fill, MemDevice};
 use mt_model::{Base, Count, Row};
-use mt_restart::{Schema, inspect, open};
+use mt_restart::{Schema, fresh, inspect, open};
 use mt_txn::Kernel;
 use std::alloc::{AllocError, Global};
 
@@ -32,6 +32,20 @@ pub fn device_of(alloc: Global, bytes: Vec<u8>) -> Result<MemDevice, AllocError>
 pub fn empty_device(alloc: Global, pages: u16) -> Result<MemDevice, AllocError> {
     let size = 8192 + 4096 * usize::from(pages) + AREAS;
     device_of(alloc, vec![in alloc; 0u8; size]?)
+}
+
+/// A kernel over a device of 64 pages, which is formatted for it by the schema of the worked rows.
+pub fn kernel_over<D: Device + Drop>(alloc: Global, device: D) -> Result<Kernel<D>, Refusal> {
+    let schema = row_schema(alloc, 64)?;
+    match fresh(alloc, device, &schema, 64) {
+        Ok(kernel) => Ok(kernel),
+        Err((why, _device)) => Err(why),
+    }
+}
+
+/// Lets a kernel go, with its device.
+pub fn put_away<D: Device + Drop>(kernel: Kernel<D>) {
+    let _device = kernel.into_device();
 }
 
 /// A device of what a crash leaves of this one now, if each write since the last sync leaves this.

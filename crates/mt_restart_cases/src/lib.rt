@@ -7,8 +7,6 @@
 #[cfg(test)]
 mod alone;
 #[cfg(test)]
-mod common;
-#[cfg(test)]
 mod cut;
 #[cfg(test)]
 mod devices;

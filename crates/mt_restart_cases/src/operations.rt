@@ -1,5 +1,5 @@
 // An operation that splits a bucket: taken back after each of its steps, and over refused memory.
-use crate::common::put_away;
+use crate::devices::put_away;
 use crate::whole_operations::{Outcome, aborted, called, committed, kernel_of, run, stepped};
 use mt_base::{Bytes, Refusal, RelNo, TxnNo};
 use mt_disk::MemDevice;

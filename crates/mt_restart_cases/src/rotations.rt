@@ -1,12 +1,11 @@
 // A rotation that is refused with 11 leaves the very kernel, which goes on. One that is refused with 1 is for
 // `tests/memory/run`, which refuses each of its requests of memory in turn.
-use crate::common::{device_of, put_away};
-use crate::devices::put;
+use crate::devices::{empty_device, put, put_away, row_schema};
 use crate::whole_operations::{Outcome, committed, run};
 use mt_base::{CtrNo, Refusal};
 use mt_disk::MemDevice;
 use mt_model::Op;
-use mt_restart::{Schema, Standing, format, open, rotate};
+use mt_restart::{Standing, format, open, rotate};
 use mt_txn::Kernel;
 use std::alloc::Global;
 use std::test::Fail;
@@ -19,8 +18,8 @@ const LAST_BUT_ONE: [u8; 8] = [0x7F, 0xFF, 0xFF, 0xFF, 0xFF, 0xFF, 0xFF, 0xFF];
 
 // A kernel of the last epoch, whose log cannot be turned over.
 fn last_kernel(alloc: Global) -> Result<Kernel<MemDevice>, Refusal> {
-    let schema = Schema::new(alloc, 64, 4, 2, &[(0, 10, 5)])?;
-    let mut device = device_of(alloc)?;
+    let schema = row_schema(alloc, 64)?;
+    let mut device = empty_device(alloc, 64)?;
     format(&mut device, &schema)?;
     put(&mut device, EPOCH_OFFSET, &LAST_BUT_ONE)?;
     match open(alloc, device, 64) {

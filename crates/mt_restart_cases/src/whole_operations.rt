@@ -4,9 +4,8 @@ ghost use Rattle.std.specs.Prelude.{◌<◌};
 use mt_base::{Refusal, TxnNo};
 use mt_disk::{Device, MemDevice};
 use mt_model::{Op, Reply};
-use mt_pool::Flushed;
 use mt_restart::{Schema, fresh};
-use mt_txn::{AbortStepped, Called, Kernel, KernelForced, Stepped};
+use mt_txn::{AbortStepped, Called, Flushed, Kernel, KernelForced, Stepped};
 use std::alloc::Global;
 
 /// What a call answered, values by their lengths.

@@ -1,7 +1,7 @@
 // Kernels over devices in memory, before and after the time in which threads share them.
 ghost use Rattle.std.specs.Prelude.{◌≡◌, ◌<◌, ◌^◌};
 ghost use Rattle.mt_model.specs.Views.{base_of};
-ghost use Rattle.mt_restart.specs.Schemas.{schema_base};
+ghost use Rattle.mt_format.specs.Schemas.{schema_base};
 
 use mt_base::Refusal;
 use mt_disk::{Device, MemDevice};

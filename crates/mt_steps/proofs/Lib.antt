@@ -18,7 +18,6 @@ mod Promised
 mod Modest
 pub mod Formatting
 mod Telling
-mod LoggedOps
 mod Undoing
 mod Crowding
 mod Naming

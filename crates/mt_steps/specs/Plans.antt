@@ -1,5 +1,6 @@
 -- What the plan of any operation promises.
 use Rattle.std.specs.Prelude.{◌≡◌, ◌≢◌, ◌⊎◌, ℕ, ◌+◌, ◌<◌, ◌≤◌, Bool, false, cond, List, Option, Some, None}
+use Rattle.mt_base.specs.declared.limits.TheConstants.{MAX_RELATIONS}
 use Rattle.mt_bucket.specs.Hash.{hash}
 use Rattle.mt_slots.specs.Page.{Row, row_length}
 use Rattle.mt_space.specs.Changes.{PageBytes, Agrees, after, AreShort}
@@ -16,7 +17,7 @@ use Rattle.mt_index.specs.Rule.{IsFull}
 use Rattle.mt_model.specs.declared.operations.Op.{Op}
 use Rattle.mt_model.specs.declared.operations.Op.TheVariants.{Get, Insert, Update, Delete, Read}
 use Rattle.mt_model.specs.declared.operations.Reply.{Reply}
-use Rattle.mt_model.specs.Model.{Base, reply_of, base_after}
+use Rattle.mt_model.specs.Model.{Base, IsWithin, reply_of, base_after}
 use Rattle.mt_steps.specs.Counters.{AreCounters}
 use Rattle.mt_steps.specs.Held.{Holds, AreRows}
 use Rattle.mt_steps.specs.Logged.{HasSmallReply}
@@ -62,6 +63,11 @@ IsTight room pages bytes = (p : ℕ) × (room ≡ Some p) × (fits_of (pages p) 
 -- some good pages agree with what is at hand, in which the named page, if one is, holds records; and all such
 abbrev pub HasPages : (ℕ → Option (List ℕ)) → Option ℕ → ℕ → ℕ → ℕ → Type 0
 HasPages at_hand room relations counters total = (pages : PageBytes) × Agrees at_hand pages × IsGood relations counters total pages × IsNamed room pages
+
+-- there are such pages, of a schema that has what an operation names
+abbrev pub CanPlan : (ℕ → Option (List ℕ)) → Option ℕ → ℕ → Op → Type 0
+CanPlan at_hand room total op = ∥ ((relations : ℕ) × (counters : ℕ) × HasPages at_hand room relations counters total
+    × IsWithin relations counters op × (relations ≤ MAX_RELATIONS)) ∥₁
 
 abbrev pub InPages : (ℕ → Option (List ℕ)) → Option ℕ → ℕ → ℕ → ℕ → (PageBytes → Type 0) → Type 0
 InPages at_hand room relations counters total P = (pages : PageBytes) → Agrees at_hand pages → IsGood relations counters total pages → IsNamed room pages → P pages

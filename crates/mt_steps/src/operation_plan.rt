@@ -9,7 +9,7 @@ ghost use Rattle.mt_space.specs.Changes.{after};
 ghost use Rattle.mt_steps.specs.Overlays.{AreAtHand};
 ghost use Rattle.mt_steps.specs.Acts.{IfLock, IfMade, IfFull, IfBroken};
 ghost use Rattle.mt_steps.specs.Asks.{AsksFor, HasSearched};
-ghost use Rattle.mt_steps.specs.Plans.{free_pages, own_needs, undo_pages, record_bytes, TakesPages, IsReading, IsTight, HasPages, InPages, IsPlanned};
+ghost use Rattle.mt_steps.specs.Plans.{free_pages, own_needs, undo_pages, record_bytes, TakesPages, IsReading, IsTight, CanPlan, InPages, IsPlanned};
 ghost use Rattle.mt_steps.specs.Logged.{logged_of};
 
 use crate::act::Act;
@@ -55,11 +55,9 @@ pub fn plan<V: Pages>(
     search: &mut Search,
 ) -> Result<Act, AllocError>
     requires sound { V.is_sound views.now }
-    requires good { ∥ ((relations : ℕ) × (counters : ℕ) × HasPages (V.at_hand views.now) room relations counters
-        (V.total views.now) × IsWithin relations counters op.now × (relations ≤ MAX_RELATIONS)) ∥₁ }
+    requires good { CanPlan (V.at_hand views.now) room (V.total views.now) op.now }
     requires searched { HasSearched (V.at_hand views.now) (V.total views.now) op.now search.old }
-    ensures lock { IfOk result (λ act. IfLock act (λ p mode. (V.at_hand views.now p ≡ None) ×
-        (p < V.total views.now))) }
+    ensures lock { IfOk result (λ act. IfLock act (λ p _. (V.at_hand views.now p ≡ None) × (p < V.total views.now))) }
     ensures asks { IfOk result (λ act. IfLock act
         (AsksFor (V.at_hand views.now) room (V.total views.now) split op.now)) }
     ensures mode { IsReading op.now → IfOk result (λ act. IfLock act (λ p mode. mode ≡ ToRead)) }

@@ -17,7 +17,7 @@ use Rattle.mt_core.specs.declared.parts.Core.{Core}
 use Rattle.mt_op.specs.declared.scope.OpScope.{OpScope}
 use Rattle.mt_txn.proofs.Showing.{open_works, within_of}
 use Rattle.mt_txn.specs.Causes.{IsNamed, IsSized}
-use Rattle.mt_txn.specs.Events.{HasCalled, HasStepped, HasForced, HasAborted}
+use Rattle.mt_txn.specs.Events.{AbortsTo, HasCalled, HasForced, StepsTo}
 use Rattle.mt_txn.specs.Events.IsBack.{stands}
 use Rattle.mt_txn.specs.Shown.{Shows}
 use Rattle.mt_core.specs.Work.{LeavesSteps}
@@ -31,29 +31,31 @@ use Rattle.mt_txn.specs.declared.answers.Stepped.{Stepped}
 use Rattle.mt_txn.specs.declared.answers.Stepped.TheVariants as step
 use Rattle.mt_txn.specs.declared.kernel.Kernel.{Kernel}
 
+-- of what has a fact in each state that it may come to
+module _ (Is : State → Type 0) (s : State) where
+  pub err_stepped : (t : ℕ) (r : Result Stepped Refusal) (y : Refusal) → r ≡ Err y → Is s → StepsTo Is s t r
+  err_stepped t r y is shows = subst (λ x. StepsTo Is s t x) (sym is) shows
+
+  pub going_stepped : (t : ℕ) (rs : List OpScope) (gone : Going) (x : Stepped) → IsReportedAs rs gone x → Is s → StepsTo Is s t (Ok x)
+  going_stepped t rs gone (step.Replied reply) outcome shows = absurd outcome
+  going_stepped t rs gone step.Went outcome shows = shows
+  going_stepped t rs gone (step.Wait other) outcome shows = shows
+  going_stepped t rs gone step.Again outcome shows = shows
+  going_stepped t rs gone step.Flush outcome shows = shows
+
+  pub err_aborted : (t : ℕ) (r : Result AbortStepped Refusal) (y : Refusal) → r ≡ Err y → Is s → AbortsTo Is s t r
+  err_aborted t r y is shows = subst (λ x. AbortsTo Is s t x) (sym is) shows
+
+  pub going_aborted : (t : ℕ) (x : AbortStepped) → (x ≡ abort.Ended → ⊥) → Is s → AbortsTo Is s t (Ok x)
+  going_aborted t abort.Ended not shows = absurd (not refl)
+  going_aborted t abort.More not shows = ∣ (s, stands, shows) ∣₁
+  going_aborted t (abort.Wait other) not shows = shows
+  going_aborted t abort.Again not shows = shows
+  going_aborted t abort.Flush not shows = shows
+
 module _ {D : Type 0} {g : Ghosts D} (seen : D → List ℕ) (may_leave : D → List ℕ → Type 0) (first : Base) (s : State) where
-  pub err_stepped : (t : ℕ) (n : Kernel D g) (r : Result Stepped Refusal) (y : Refusal) → r ≡ Err y → Shows seen may_leave first s n → HasStepped seen may_leave first s t r n
-  err_stepped t n r y is shows = subst (λ x. HasStepped seen may_leave first s t x n) (sym is) shows
-
-  pub going_stepped : (t : ℕ) (n : Kernel D g) (rs : List OpScope) (gone : Going) (x : Stepped) → IsReportedAs rs gone x → Shows seen may_leave first s n → HasStepped seen may_leave first s t (Ok x) n
-  going_stepped t n rs gone (step.Replied reply) outcome shows = absurd outcome
-  going_stepped t n rs gone step.Went outcome shows = shows
-  going_stepped t n rs gone (step.Wait other) outcome shows = shows
-  going_stepped t n rs gone step.Again outcome shows = shows
-  going_stepped t n rs gone step.Flush outcome shows = shows
-
   pub err_forced : (n : Kernel D g) (r : Result KernelForced Refusal) (y : Refusal) → r ≡ Err y → Shows seen may_leave first s n → HasForced seen may_leave first s r n
   err_forced n r y is shows = subst (λ x. HasForced seen may_leave first s x n) (sym is) shows
-
-  pub err_aborted : (t : ℕ) (n : Kernel D g) (r : Result AbortStepped Refusal) (y : Refusal) → r ≡ Err y → Shows seen may_leave first s n → HasAborted seen may_leave first s t r n
-  err_aborted t n r y is shows = subst (λ x. HasAborted seen may_leave first s t x n) (sym is) shows
-
-  pub going_aborted : (t : ℕ) (n : Kernel D g) (x : AbortStepped) → (x ≡ abort.Ended → ⊥) → Shows seen may_leave first s n → HasAborted seen may_leave first s t (Ok x) n
-  going_aborted t n abort.Ended not shows = absurd (not refl)
-  going_aborted t n abort.More not shows = ∣ (s, stands, shows) ∣₁
-  going_aborted t n (abort.Wait other) not shows = shows
-  going_aborted t n abort.Again not shows = shows
-  going_aborted t n abort.Flush not shows = shows
 
 -- ---- a call
 

@@ -2,7 +2,7 @@
 use Rattle.std.proofs.Common.{◌≡◌, ◌≤◌, ◌<◌, ◌+◌, ◌⊎◌, inl, inr, suc, ℕ, List, ◌++◌, length, ap, ◌∙◌, arith, length-append}
 use Rattle.std.proofs.lemmas.Bool.{cases_lt}
 use Rattle.mt_frame.specs.declared.records.Record.{Record}
-use Rattle.mt_log.specs.Words.{durable, in_flight, waiting, appended, calls_left, calls_after, IsStep}
+use Rattle.mt_log.specs.Words.{seen_of, durable, in_flight, waiting, appended, calls_left, calls_after, IsStep}
 use Rattle.mt_log.specs.declared.log.Forced.TheVariants as log
 use Rattle.mt_log.specs.declared.log.Log.{Log}
 use Rattle.mt_log.specs.declared.stage.Step.TheVariants.{WriteBody, SyncBody, WriteGate, SyncGate}
@@ -22,8 +22,7 @@ few_calls (Forcing SyncGate) = omega arith
 few_calls Failed = omega arith
 
 few_left : (l : Log) → calls_left l ≤ 4
-unfolding calls_left
-few_left l = few_calls l.stage
+few_left l = few_calls (seen_of l).stage
 
 -- whatever is under way, eight steps do
 pub due_start : (n : ℕ) (l : Log) → n ≤ length (appended l) → IsDueIn 8 n l

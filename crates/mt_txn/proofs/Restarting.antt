@@ -1,6 +1,6 @@
 -- A kernel stays one that can be restarted from each beginning of its records.
 use Rattle.std.proofs.Common.{◌≡◌, ◌<◌, ◌≤◌, ◌+◌, ◌-◌, ◌++◌, inl, inr, ⊎_elim, ℕ, List, length, take, Result, Ok, Err, refl, sym, ap, ◌∙◌, subst, arith}
-use Rattle.std.specs.Prelude.{OnOk, OnErr, IfOk}
+use Rattle.std.specs.Prelude.{OnOk, OnErr}
 use Rattle.std.proofs.Props.{props}
 use Rattle.std.proofs.lemmas.List.{take_all}
 use mathlib.Core.Logic.{∥∥₁_elim, ∥∥₁_map, ∥∥₁_prop}
@@ -14,7 +14,9 @@ use Rattle.mt_log.specs.Holds.{HoldsBatches}
 use Rattle.mt_log.specs.declared.log.Forced.{Forced}
 use Rattle.mt_log.specs.declared.log.Forced.TheVariants as forced
 use Rattle.mt_log.specs.declared.log.Log.{Log}
-use Rattle.mt_log.specs.Words.{appended, durable, area_size, area_start, area_end, IsStep}
+use Rattle.mt_log.specs.Steps.{ForceSteps}
+use Rattle.mt_log.proofs.Stepped.{stepped}
+use Rattle.mt_log.specs.Words.{IsStep, seen_of, appended, durable, area_size, area_start, area_end}
 use Rattle.mt_model.specs.History.{after}
 use Rattle.mt_model.specs.Model.{Base, base_after}
 use Rattle.mt_model.specs.declared.history.Committed.{Committed}
@@ -53,15 +55,18 @@ slot_mib c slot rules = ⊎_elim
     rules
 
 size_is : (slot : MasterSlot) (log : Log) → start_of slot ≡ area_start log → end_of slot ≡ area_end log → area_size log ≡ size_of slot
-unfolding area_size area_start area_end
 size_is slot log start end = sizes (area_start log) (area_end log) (start_of slot) (size_of slot) start end
   where
     sizes : (a b s n : ℕ) → s ≡ a → s + n ≡ b → b - a ≡ n
     sizes a b s n p q = omega (arith, p, q)
 
+-- what a step of a force did, by its answer
+pub step_of : (old new : Log) (forced : Forced) (r : Result Forced Refusal) → r ≡ Ok forced → ForceSteps (seen_of old) (seen_of new) r → IsStep old forced new
+step_of old new forced r made steps = (stepped old new (Ok forced) (subst (ForceSteps (seen_of old) (seen_of new)) made steps)).step
+
 -- a force that has ended answers the place of the last durable record
-pub place_durable : (old new : Log) (place : ℕ) (r : Result Forced Refusal) → r ≡ Ok (forced.Durable place) → IfOk r (λ f. IsStep old f new) → place ≤ length (durable new)
-place_durable old new place r is made = let step = subst (λ (x : Result Forced Refusal). IfOk x (λ f. IsStep old f new)) is made in let at = step.6 in omega (arith, at)
+pub place_durable : (old new : Log) (place : ℕ) (r : Result Forced Refusal) → r ≡ Ok (forced.Durable place) → ForceSteps (seen_of old) (seen_of new) r → place ≤ length (durable new)
+place_durable old new place r is made = let lands = subst (ForceSteps (seen_of old) (seen_of new)) is made in let at = lands.place in omega (arith, at)
 
 module _ {D : Type 0} (seen : D → List ℕ) (may_leave : D → List ℕ → Type 0) where
   -- parts that are consistent become so

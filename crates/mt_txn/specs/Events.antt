@@ -11,6 +11,7 @@ use Rattle.mt_model.specs.declared.operations.Op.{Op}
 use Rattle.mt_model.specs.declared.pending_add.Pending.{Pending}
 use Rattle.mt_core.specs.Booked.{booked_each, durable_count, durable_txns}
 use Rattle.mt_core.specs.declared.parts.Commit.{Commit}
+use Rattle.mt_core.specs.declared.parts.Core.{Core}
 use Rattle.mt_log.specs.Words.{IsStep}
 use Rattle.mt_log.specs.declared.log.Log.{Log}
 use Rattle.mt_log.specs.declared.log.Forced.TheVariants as log
@@ -28,10 +29,13 @@ use Rattle.mt_txn.specs.declared.answers.Stepped.{Stepped}
 use Rattle.mt_txn.specs.declared.answers.Stepped.TheVariants as step
 use Rattle.mt_txn.specs.declared.kernel.Kernel.{Kernel}
 
--- What locks, escrow, pages and log say to a call that asks them, in this order.
+-- What locks, escrow, pages and log say to a call that asks them, in this order, in a core of this schema.
+abbrev pub AnswersIn : {D : Type 0} → (D → List ℕ) → (D → List ℕ → Type 0) → ℕ → ℕ → Core D → ℕ → Op → Result Called Refusal → Type 0
+AnswersIn seen may_leave relations counters k t op result =
+    ∥ ((origin : Origin) × (base : Base) × IsOrigin relations counters origin.first origin × IsConsistent seen may_leave origin base k × IsAnswered seen origin k (log_kept k) t op true result) ∥₁
+
 abbrev pub IsAnsweredBy : {D : Type 0} → {g : Ghosts D} → (D → List ℕ) → (D → List ℕ → Type 0) → Kernel D g → ℕ → Op → Result Called Refusal → Type 0
-IsAnsweredBy seen may_leave k t op result =
-    ∥ ((origin : Origin) × (base : Base) × IsOrigin k.relations k.counters origin.first origin × IsConsistent seen may_leave origin base k.core × IsAnswered seen origin k.core (log_kept k.core) t op true result) ∥₁
+IsAnsweredBy seen may_leave k t op result = AnswersIn seen may_leave k.relations k.counters k.core t op result
 
 -- what a call that answered this left, of a kernel in this state: only one that is started changes it
 abbrev pub HasCalled : {D : Type 0} → {g : Ghosts D} → (D → List ℕ) → (D → List ℕ → Type 0) → Base → State → ℕ → Op → Result Called Refusal → Kernel D g → Type 0
@@ -39,14 +43,18 @@ HasCalled seen may_leave first s t op (Ok call.Started) n = Shows seen may_leave
 HasCalled seen may_leave first s t op (Ok (call.Wait holder)) n = Shows seen may_leave first s n
 HasCalled seen may_leave first s t op (Err why) n = Shows seen may_leave first s n
 
--- what a step did: one that replied has acted once on the base that the pages held, as the model does, and has ended
+-- What a step did to what is in this state, of which a fact holds in each state that it may come to. One that replied
+-- has acted once on the base that the pages held, as the model does, and has ended.
+abbrev pub StepsTo : (State → Type 0) → State → ℕ → Result Stepped Refusal → Type 0
+StepsTo Is s t (Ok (step.Replied reply)) = (op : Op) → s.running t ≡ Some op → Is (ended s t op) × ∥ reply_of s.base op ≡ reply ∥₁
+StepsTo Is s t (Ok step.Went) = Is s
+StepsTo Is s t (Ok (step.Wait other)) = Is s
+StepsTo Is s t (Ok step.Again) = Is s
+StepsTo Is s t (Ok step.Flush) = Is s
+StepsTo Is s t (Err why) = Is s
+
 abbrev pub HasStepped : {D : Type 0} → {g : Ghosts D} → (D → List ℕ) → (D → List ℕ → Type 0) → Base → State → ℕ → Result Stepped Refusal → Kernel D g → Type 0
-HasStepped seen may_leave first s t (Ok (step.Replied reply)) n = (op : Op) → s.running t ≡ Some op → Shows seen may_leave first (ended s t op) n × ∥ reply_of s.base op ≡ reply ∥₁
-HasStepped seen may_leave first s t (Ok step.Went) n = Shows seen may_leave first s n
-HasStepped seen may_leave first s t (Ok (step.Wait other)) n = Shows seen may_leave first s n
-HasStepped seen may_leave first s t (Ok step.Again) n = Shows seen may_leave first s n
-HasStepped seen may_leave first s t (Ok step.Flush) n = Shows seen may_leave first s n
-HasStepped seen may_leave first s t (Err why) n = Shows seen may_leave first s n
+HasStepped seen may_leave first s t result n = StepsTo (λ z. Shows seen may_leave first z n) s t result
 
 -- what a step of a force did: the transactions that it names are in the book, one after the other, and live no more
 abbrev pub HasForced : {D : Type 0} → {g : Ghosts D} → (D → List ℕ) → (D → List ℕ → Type 0) → Base → State → Result KernelForced Refusal → Kernel D g → Type 0
@@ -71,11 +79,14 @@ pub data IsBack (s : State) (t : ℕ) : State → Type 0 where
   undoes : (last : Entry) (inverse : Op) (ps : List Pending) → s.running t ≡ None → last_effect t s.standing ≡ Some last
       → inverse_of last.op last.reply ≡ Some inverse → GivesBack t last.op s.pending ps → IsBack s t (undone s t inverse ps)
 
--- what a step of the abort of t did
+-- What a step of the abort of t did to what is in this state.
+abbrev pub AbortsTo : (State → Type 0) → State → ℕ → Result AbortStepped Refusal → Type 0
+AbortsTo Is s t (Ok abort.More) = ∥ ((z : State) × IsBack s t z × Is z) ∥₁
+AbortsTo Is s t (Ok (abort.Wait other)) = Is s
+AbortsTo Is s t (Ok abort.Again) = Is s
+AbortsTo Is s t (Ok abort.Flush) = Is s
+AbortsTo Is s t (Ok abort.Ended) = Is (gone s t) × ∥ last_effect t s.standing ≡ None ∥₁
+AbortsTo Is s t (Err why) = Is s
+
 abbrev pub HasAborted : {D : Type 0} → {g : Ghosts D} → (D → List ℕ) → (D → List ℕ → Type 0) → Base → State → ℕ → Result AbortStepped Refusal → Kernel D g → Type 0
-HasAborted seen may_leave first s t (Ok abort.More) n = ∥ ((z : State) × IsBack s t z × Shows seen may_leave first z n) ∥₁
-HasAborted seen may_leave first s t (Ok (abort.Wait other)) n = Shows seen may_leave first s n
-HasAborted seen may_leave first s t (Ok abort.Again) n = Shows seen may_leave first s n
-HasAborted seen may_leave first s t (Ok abort.Flush) n = Shows seen may_leave first s n
-HasAborted seen may_leave first s t (Ok abort.Ended) n = Shows seen may_leave first (gone s t) n × ∥ last_effect t s.standing ≡ None ∥₁
-HasAborted seen may_leave first s t (Err why) n = Shows seen may_leave first s n
+HasAborted seen may_leave first s t result n = AbortsTo (λ z. Shows seen may_leave first z n) s t result

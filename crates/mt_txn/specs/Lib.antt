@@ -1,4 +1,5 @@
 pub mod Well
+pub mod Seen
 pub mod Shown
 pub mod Causes
 pub mod Events
@@ -11,3 +12,4 @@ pub mod Due
 pub mod PageLocks
 pub mod Writes
 pub mod Aborted
+pub mod Answered

@@ -1,19 +1,21 @@
 -- A kernel as its callers see it.
-use Rattle.std.specs.Prelude.{ℕ, ◌≡◌, ◌+◌, ◌≤◌, ◌||◌, Bool, true, List, Result, Err}
+use Rattle.std.specs.Prelude.{ℕ, ◌≡◌, ◌+◌, ◌≤◌, Bool, true, List, Result, Err}
 use Rattle.mt_base.specs.Limits.{IsRelationCount}
 use Rattle.mt_base.specs.declared.refusal.Refusal.{Refusal}
 use Rattle.mt_base.specs.declared.refusal.Refusal.TheVariants.{DeviceFailed}
+use Rattle.mt_core.specs.Turned.{core_device, core_frames, core_log}
 use Rattle.mt_disk.specs.declared.device.Device.{Ghosts}
 use Rattle.mt_live.specs.Machine.{State}
-use Rattle.mt_log.specs.Words.{has_failed}
+use Rattle.mt_log.specs.declared.log.Log.{Log}
 use Rattle.mt_model.specs.Model.{Base}
-use Rattle.mt_txn.specs.Restarted.{FindsMeanwhile}
-use Rattle.mt_txn.specs.Well.{ShowsIn, RestartsFrom}
+use Rattle.mt_txn.specs.Restarted.{FindsCommits, FindsMeanwhile}
+use Rattle.mt_txn.specs.Seen.{ShowsSeen, has_failed_in, seen_of}
+use Rattle.mt_txn.specs.Well.{RestartsFrom}
 use Rattle.mt_txn.specs.declared.kernel.Kernel.{Kernel}
 
 -- Begun on this base, the kernel is in this state of the laws.
 abbrev pub Shows : {D : Type 0} → {g : Ghosts D} → (D → List ℕ) → (D → List ℕ → Type 0) → Base → State → Kernel D g → Type 0
-Shows seen may_leave first s k = ShowsIn seen may_leave k.relations k.counters first s k.core
+Shows seen may_leave first s k = ShowsSeen seen may_leave first s (seen_of k)
 
 -- in whatever state it was
 abbrev pub Stays : {D : Type 0} → {g : Ghosts D} → (D → List ℕ) → (D → List ℕ → Type 0) → Kernel D g → Kernel D g → Type 0
@@ -23,9 +25,20 @@ Stays seen may_leave k n = (first : Base) (s : State) → Shows seen may_leave f
 abbrev pub SameSchema : {D : Type 0} → {g : Ghosts D} → Kernel D g → Kernel D g → Type 0
 SameSchema k n = (n.relations ≡ k.relations) × (n.counters ≡ k.counters)
 
+-- the device of a kernel, and its log
+abbrev pub kernel_device : {D : Type 0} → {g : Ghosts D} → Kernel D g → D
+kernel_device k = core_device k.core
+
+abbrev pub kernel_log : {D : Type 0} → {g : Ghosts D} → Kernel D g → Log
+kernel_log k = core_log k.core
+
+-- how many pages a kernel can hold in frames
+abbrev pub kernel_frames : {D : Type 0} → {g : Ghosts D} → Kernel D g → ℕ
+kernel_frames k = core_frames k.core
+
 -- a call of it was refused with 2, or a force of its log has failed
 abbrev pub is_failed : {D : Type 0} → {g : Ghosts D} → Kernel D g → Bool
-is_failed k = k.failed || has_failed k.core.operations.store.log
+is_failed k = has_failed_in (seen_of k)
 
 -- If a call of kernel k is refused with 2, each later call of n is; and no other call marks n as failed.
 abbrev pub FailsForGood : {D T : Type 0} → {g : Ghosts D} → Kernel D g → Result T Refusal → Kernel D g → Type 0
@@ -33,11 +46,11 @@ FailsForGood k result n = (is_failed k ≡ true → (result ≡ Err DeviceFailed
 
 -- The device failed in a call of kernel k only if the call is refused with 2.
 abbrev pub TellsEachFault : {D T : Type 0} → {g : Ghosts D} → (D → ℕ) → Kernel D g → Result T Refusal → Kernel D g → Type 0
-TellsEachFault faults k result n = (result ≡ Err DeviceFailed → ⊥) → faults n.core.operations.store.device ≡ faults k.core.operations.store.device
+TellsEachFault faults k result n = (result ≡ Err DeviceFailed → ⊥) → faults (kernel_device n) ≡ faults (kernel_device k)
 
 -- The device was called once at most.
 abbrev pub CallsOnce : {D : Type 0} → {g : Ghosts D} → (D → ℕ) → Kernel D g → Kernel D g → Type 0
-CallsOnce moment k n = moment n.core.operations.store.device ≤ moment k.core.operations.store.device + 1
+CallsOnce moment k n = moment (kernel_device n) ≤ moment (kernel_device k) + 1
 
 -- Begun on this base, the kernel can be restarted from each beginning of its log's records; and so it stays.
 abbrev pub Restarts : {D : Type 0} → {g : Ghosts D} → (D → List ℕ) → (D → List ℕ → Type 0) → Base → Kernel D g → Type 0
@@ -45,6 +58,11 @@ Restarts seen may_leave first k = RestartsFrom seen may_leave k.relations k.coun
 
 abbrev pub StaysRestarting : {D : Type 0} → {g : Ghosts D} → (D → List ℕ) → (D → List ℕ → Type 0) → Kernel D g → Kernel D g → Type 0
 StaysRestarting seen may_leave k n = (first : Base) → Restarts seen may_leave first k → Restarts seen may_leave first n
+
+-- Whatever a crash leaves of this device, a restart finds in it what some of the first commits of k lead to.
+abbrev pub IsFoundIn : {D : Type 0} → {g : Ghosts D} → (D → List ℕ) → (D → List ℕ → Type 0) → Kernel D g → D → Type 0
+IsFoundIn seen may_leave k device = (first : Base) (c : List ℕ) → Restarts seen may_leave first k → may_leave device c
+    → ∥ FindsCommits k.relations k.counters first k.core c ∥₁
 
 -- Whenever a crash comes between k and n, a restart finds in what it leaves what some of the first commits of k lead
 -- to.

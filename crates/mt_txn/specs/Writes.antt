@@ -1,8 +1,8 @@
 -- What a step of a transaction's operation appends to the log.
-use Rattle.std.specs.Prelude.{ℕ, ◌≡◌, ◌≤◌, ◌+◌, List, length, Result, Ok, Err}
+use Rattle.std.specs.Prelude.{◌≡◌, ◌≤◌, ◌+◌, List, length, Result, Ok, Err}
 use Rattle.mt_base.specs.declared.refusal.Refusal.{Refusal}
 use Rattle.mt_frame.specs.declared.records.Record.{Record}
-use Rattle.mt_core.specs.Writes.{HasPageMore}
+use Rattle.mt_core.specs.Writes.{AddsOnePage}
 use Rattle.mt_txn.specs.declared.answers.Stepped.{Stepped}
 use Rattle.mt_txn.specs.declared.answers.Stepped.TheVariants as step
 
@@ -10,7 +10,7 @@ use Rattle.mt_txn.specs.declared.answers.Stepped.TheVariants as step
 -- none.
 abbrev pub WritesOnePage : List Record → List Record → Result Stepped Refusal → Type 0
 WritesOnePage old new (Ok (step.Replied reply)) = length new ≤ length old + 1
-WritesOnePage old new (Ok step.Went) = HasPageMore old new
+WritesOnePage old new (Ok step.Went) = AddsOnePage old new
 WritesOnePage old new (Ok (step.Wait other)) = new ≡ old
 WritesOnePage old new (Ok step.Again) = new ≡ old
 WritesOnePage old new (Ok step.Flush) = new ≡ old

@@ -13,7 +13,7 @@ ghost use Rattle.mt_core.specs.Work.{LeavesUndo};
 ghost use Rattle.mt_core.specs.declared.parts.Commit.{Commit};
 ghost use Rattle.mt_txn.specs.Causes.{IsFailure, commit_cause};
 ghost use Rattle.mt_txn.specs.Events.{HasForced, IsForcedBy};
-ghost use Rattle.mt_txn.specs.Shown.{FailsForGood, SameSchema, Shows, Stays, StaysRestarting, TellsEachFault, is_failed};
+ghost use Rattle.mt_txn.specs.Shown.{FailsForGood, SameSchema, Shows, Stays, StaysRestarting, TellsEachFault, is_failed, kernel_log};
 ghost use Rattle.mt_txn.specs.Shown.{CallsOnce, LeavesFound};
 
 use crate::answers::KernelForced;
@@ -47,6 +47,7 @@ impl<D: Device> Kernel<D> {
             ≡ in_flight self.old.core.operations.store.log }
         ensures calls { calls_left self.new.core.operations.store.log
             ≡ calls_left self.old.core.operations.store.log }
+        ensures err_appended { OnErr result (appended (kernel_log self.new) ≡ appended (kernel_log self.old)) }
         ensures commits { OnOk result (SetsState self.old.core self.new.core txn (Some Committing)) }
         ensures running { SameRunning self.old.core self.new.core }
         ensures device { self.new.core.operations.store.device ≡ self.old.core.operations.store.device }

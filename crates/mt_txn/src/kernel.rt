@@ -13,7 +13,6 @@ ghost use Rattle.mt_frame.specs.declared.slots.MasterSlot.{MasterSlot};
 ghost use Rattle.mt_core.specs.Consistent.{IsFresh};
 ghost use Rattle.mt_core.specs.Runs.{state_in};
 ghost use Rattle.mt_txn.specs.Causes.{is_busy};
-ghost use Rattle.mt_txn.specs.Restarted.{FindsCommits};
 ghost use Rattle.mt_txn.specs.Well.{IsWell, Opens, RestartsFrom};
 
 use mt_base::Refusal;
@@ -109,16 +108,6 @@ impl<D: Device> Kernel<D> {
     pub fn shows_what_is_kept(&self)
         ensures { (first : Base) (s : State) → Shows D.seen D.may_leave first s self.now
             → ∥ IsKept first s ∥₁ }
-    {}
-
-    /// Whatever a crash leaves now, a restart finds what some of the first commits lead to, each alone, in their
-    /// order. They are those of the book, and after them those under way. Each commit of the book is one of them,
-    /// and each whose record is durable. Each call says so of a crash within it, of the commits that were there
-    /// before.
-    pub fn can_restart(&self)
-        ensures { (first : Base) (c : List ℕ) → Restarts D.seen D.may_leave first self.now
-            → D.may_leave self.now.core.operations.store.device c → IsRelationCount self.now.relations
-            → ∥ FindsCommits self.now.relations self.now.counters first self.now.core c ∥₁ }
     {}
 
     /// Whatever state a kernel shows has the transactions that are active, and those that run an operation. If none

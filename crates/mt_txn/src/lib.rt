@@ -24,4 +24,6 @@ pub use detached_kernel::DetachedKernel;
 pub use kernel::Kernel;
 pub use kernel_rest::KernelRest;
 pub use mt_core::Called;
+pub use mt_log::FORCE_STEPS;
 pub use mt_op::Survey;
+pub use mt_pool::Flushed;

@@ -6,7 +6,7 @@ ghost use Rattle.mt_log.specs.Words.{area_size, has_failed, used};
 ghost use Rattle.mt_model.specs.History.{after};
 ghost use Rattle.mt_model.specs.Model.{Base};
 ghost use Rattle.mt_replay.specs.Stands.{CanRestart};
-ghost use Rattle.mt_txn.specs.Shown.{Restarts, is_failed};
+ghost use Rattle.mt_txn.specs.Shown.{IsFoundIn, Restarts, is_failed};
 ghost use Rattle.mt_txn.specs.Turned.{CanGoOn, HasNobody, IsForced, IsRestOf, Resumes};
 
 use crate::kernel::Kernel;
@@ -100,8 +100,13 @@ impl<D: Device + Drop> Kernel<D> {
     }
 
     /// The device, for another opening. What lived is gone, and nothing of it is taken back. It takes no memory.
+    ///
+    /// Whatever a crash leaves of it, a restart finds what some of the first commits lead to, each alone, in their
+    /// order. They are those of the book, and after them those under way. Each commit of the book is one of them, and
+    /// each whose record is durable.
     pub fn into_device(self) -> D
-        ensures { result ≡ self.core.operations.store.device }
+        ensures device { result ≡ self.core.operations.store.device }
+        ensures found { IsFoundIn D.seen D.may_leave self result }
     {
         let (device, _rest) = self.part();
         device

@@ -20,11 +20,11 @@ use Rattle.mt_model.specs.declared.history.Committed.{Committed}
 use Rattle.mt_replay.specs.Refused.{BreaksFormat, IsCause}
 use Rattle.mt_replay.specs.Stands.{CanRestart}
 use Rattle.mt_replay.specs.Recorded.{tells}
-use Rattle.mt_restart.specs.Formats.{FormatBegins}
+use Rattle.mt_format.specs.Formats.{FormatBegins}
 use Rattle.mt_restart.specs.Recovered.{IsCauseToStop, StandsStill}
 use Rattle.mt_restart.specs.Resumed.{IsOpened, device_of}
-use Rattle.mt_restart.specs.Schemas.{counters_in, relations_in, schema_base}
-use Rattle.mt_restart.specs.declared.schema.Schema.{Schema}
+use Rattle.mt_format.specs.Schemas.{counters_in, relations_in, schema_base}
+use Rattle.mt_format.specs.declared.schema.Schema.{Schema}
 use Rattle.mt_txn.proofs.Living.{lives_of}
 use Rattle.mt_txn.specs.Restarted.{FindsCommits, all_commits}
 use Rattle.mt_txn.specs.Shown.{Shows}

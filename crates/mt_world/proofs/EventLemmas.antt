@@ -35,7 +35,7 @@ use Rattle.mt_world.specs.Acts.{Act}
 use Rattle.mt_world.specs.Moves.{IsStill, Moves}
 use Rattle.mt_world.specs.Moves.IsStill.{is_refused, call_waits, step_went, step_waits, step_again, step_full, abort_went, abort_waits, abort_again, abort_full, force_went, force_idle}
 use Rattle.mt_world.specs.Moves.Moves.{stays, begins, calls, ends, drops, undoes, aborts, books}
-use Rattle.mt_world.specs.Due.{CallsDevice, FailsIn, IsBacked, IsBroken, IsCaused, IsDue, IsFlushed, IsStepped, SamePhases, SetsPhases}
+use Rattle.mt_world.specs.Due.{CallsAtEvent, FailsIn, IsBacked, IsBroken, IsCaused, IsDue, IsFlushed, IsStepped, SamePhases, SetsPhases}
 use Rattle.mt_world.specs.Schedules.{HasMade}
 use Rattle.mt_world.specs.declared.events.Answer.{Answer}
 use Rattle.mt_world.specs.declared.events.Answer.TheVariants.{Begun, Called as CalledAs, Stepped, Backed, Forced, Refused}
@@ -99,14 +99,14 @@ module _ {D : Type 0} {g : Ghosts D} (seen : D → List ℕ) (may_leave : D → 
   fails_err {T} why fails = ((λ before. let all = fails.0 before in let is : ◌≡◌ {A = Result T Refusal} (Err why) (Err refusal.DeviceFailed) = all.0 in (let same : why ≡ refusal.DeviceFailed = cc in ap (λ (w : Refusal). Refused w) same, all.1)), λ broken. let same : why ≡ refusal.DeviceFailed = cc in fails.1 (ap (λ (w : Refusal). Err w) same))
 
   -- nothing comes of it
-  pub still_made : (event : Event) (answer : Answer) → IsStill event answer → Stays seen may_leave k n → IsDue seen may_leave faults k event answer n → CallsDevice moment k event n → SetsPhases k event answer n → SameSchema k n → FailsIn k answer n → StaysRestarting seen may_leave k n → Found
+  pub still_made : (event : Event) (answer : Answer) → IsStill event answer → Stays seen may_leave k n → IsDue seen may_leave faults k event answer n → CallsAtEvent moment k event n → SetsPhases k event answer n → SameSchema k n → FailsIn k answer n → StaysRestarting seen may_leave k n → Found
       → HasMade seen may_leave moment left_since faults k event answer n
   still_made event answer is same due device phases schema fails restarts found = record { leads = λ first s starts shows. still event answer first s is (same first s shows); due = due; device = device; phases = phases; fails = fails; restarts = restarts; found = found; schema = schema }
 
   -- ---- a begin
 
   pub begin_made : (session txn : ℕ) → txn ≡ k.core.live.begun + 1 → begin_cause (is_failed k) k.core ≡ None → ((first : Base) (s : State) → Shows seen may_leave first s k → Shows seen may_leave first (begun s session) n)
-      → CallsDevice moment k (Begin session) n → SetsPhases k (Begin session) (Begun txn) n → SameSchema k n → FailsIn k (Begun txn) n → StaysRestarting seen may_leave k n → Found
+      → CallsAtEvent moment k (Begin session) n → SetsPhases k (Begin session) (Begun txn) n → SameSchema k n → FailsIn k (Begun txn) n → StaysRestarting seen may_leave k n → Found
       → HasMade seen may_leave moment left_since faults k (Begin session) (Begun txn) n
   begin_made session txn number may did device phases schema fails restarts found = record {
     leads = λ first s starts shows. ∣ ([], begun s session, subst (λ (t : ℕ). Moves s (Begin session) (Begun t) [] (begun s session)) (next_is first s shows) (begins session), did first s shows) ∣₁;
@@ -135,7 +135,7 @@ module _ {D : Type 0} {g : Ghosts D} (seen : D → List ℕ) (may_leave : D → 
       go (Some why) e = absurd (let wrong : ◌≡◌ {A = Result Called Refusal} (Ok outcome) (Err why) = early why e in cc)
 
   pub call_made : (t : ℕ) (op : Op) (outcome : Called) → ((why : Refusal) → Cause t op ≡ Some why → ◌≡◌ {A = Result Called Refusal} (Ok outcome) (Err why)) → (Cause t op ≡ None → IsAnsweredBy seen may_leave k t op (Ok outcome))
-      → ((first : Base) (s : State) → Shows seen may_leave first s k → HasCalled seen may_leave first s t op (Ok outcome) n) → CallsDevice moment k (Call t op) n → SamePhases k n → SameSchema k n → FailsIn k (CalledAs outcome) n → StaysRestarting seen may_leave k n → Found
+      → ((first : Base) (s : State) → Shows seen may_leave first s k → HasCalled seen may_leave first s t op (Ok outcome) n) → CallsAtEvent moment k (Call t op) n → SamePhases k n → SameSchema k n → FailsIn k (CalledAs outcome) n → StaysRestarting seen may_leave k n → Found
       → HasMade seen may_leave moment left_since faults k (Call t op) (CalledAs outcome) n
   call_made t op outcome early answer did device phases schema fails restarts found =
       let none = uncaused t op outcome early in
@@ -146,7 +146,7 @@ module _ {D : Type 0} {g : Ghosts D} (seen : D → List ℕ) (may_leave : D → 
       leads (call.Wait holder) first s shows = still (Call t op) (CalledAs (call.Wait holder)) first s (call_waits t op holder) shows
 
   pub call_refused : (t : ℕ) (op : Op) (why : Refusal) → ((y : Refusal) → Cause t op ≡ Some y → ◌≡◌ {A = Result Called Refusal} (Err why) (Err y)) → (Cause t op ≡ None → IsAnsweredBy seen may_leave k t op (Err why))
-      → ((first : Base) (s : State) → Shows seen may_leave first s k → HasCalled seen may_leave first s t op (Err why) n) → CallsDevice moment k (Call t op) n → SamePhases k n → SameSchema k n → FailsIn k (Refused why) n → StaysRestarting seen may_leave k n → Found
+      → ((first : Base) (s : State) → Shows seen may_leave first s k → HasCalled seen may_leave first s t op (Err why) n) → CallsAtEvent moment k (Call t op) n → SamePhases k n → SameSchema k n → FailsIn k (Refused why) n → StaysRestarting seen may_leave k n → Found
       → HasMade seen may_leave moment left_since faults k (Call t op) (Refused why) n
   call_refused t op why early answer did device phases schema fails restarts found = still_made (Call t op) (Refused why) (is_refused (Call t op) why) did (go (Cause t op) refl) device phases schema fails restarts found
     where

@@ -17,8 +17,8 @@ use Rattle.mt_model.specs.History.{after}
 use Rattle.mt_model.specs.Model.{Base}
 use Rattle.mt_model.specs.declared.history.Committed.{Committed}
 use Rattle.mt_replay.specs.Stands.{CanRestart}
-use Rattle.mt_restart.specs.Schemas.{counters_in, relations_in, schema_base}
-use Rattle.mt_restart.specs.declared.schema.Schema.{Schema}
+use Rattle.mt_format.specs.Schemas.{counters_in, relations_in, schema_base}
+use Rattle.mt_format.specs.declared.schema.Schema.{Schema}
 use Rattle.mt_txn.specs.Restarted.{FindsCommits, all_commits}
 use Rattle.mt_txn.specs.declared.kernel.Kernel.{Kernel}
 use Rattle.mt_world.proofs.CrashLemmas.{answered_of}

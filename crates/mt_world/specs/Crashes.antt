@@ -6,9 +6,9 @@ use Rattle.mt_disk.specs.declared.device.Device.{Ghosts}
 use Rattle.mt_live.specs.Machine.{start}
 use Rattle.mt_model.specs.Model.{Base}
 use Rattle.mt_replay.specs.Stands.{CanRestart}
-use Rattle.mt_restart.specs.Formats.{FormatBegins}
-use Rattle.mt_restart.specs.Schemas.{counters_in, device_bytes, relations_in, schema_base}
-use Rattle.mt_restart.specs.declared.schema.Schema.{Schema}
+use Rattle.mt_format.specs.Formats.{FormatBegins}
+use Rattle.mt_format.specs.Schemas.{counters_in, device_bytes, relations_in, schema_base}
+use Rattle.mt_format.specs.declared.schema.Schema.{Schema}
 use Rattle.mt_txn.specs.Restarted.{FindsCommits}
 use Rattle.mt_txn.specs.Shown.{Restarts, Shows}
 use Rattle.mt_txn.specs.declared.kernel.Kernel.{Kernel}

@@ -97,13 +97,13 @@ module _ {D : Type 0} {g : Ghosts D} (seen : D → List ℕ) (may_leave : D → 
 
 module _ {D : Type 0} {g : Ghosts D} (moment : D → ℕ) where
   -- A step, a force and a flush call the device once at most, a rotation as often as it has to. No other event does.
-  abbrev pub CallsDevice : Kernel D g → Event → Kernel D g → Type 0
-  CallsDevice k (Step t) n = CallsOnce moment k n
-  CallsDevice k (AbortStep t) n = CallsOnce moment k n
-  CallsDevice k Force n = CallsOnce moment k n
-  CallsDevice k Flush n = CallsOnce moment k n
-  CallsDevice k Rotate n = ⊤
-  CallsDevice k event n = n.core.operations.store.device ≡ k.core.operations.store.device
+  abbrev pub CallsAtEvent : Kernel D g → Event → Kernel D g → Type 0
+  CallsAtEvent k (Step t) n = CallsOnce moment k n
+  CallsAtEvent k (AbortStep t) n = CallsOnce moment k n
+  CallsAtEvent k Force n = CallsOnce moment k n
+  CallsAtEvent k Flush n = CallsOnce moment k n
+  CallsAtEvent k Rotate n = ⊤
+  CallsAtEvent k event n = n.core.operations.store.device ≡ k.core.operations.store.device
 
 -- ---- which transactions are open, commit or are to be undone
 

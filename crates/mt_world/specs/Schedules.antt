@@ -12,7 +12,7 @@ use Rattle.mt_txn.specs.Restarted.{FindsMeanwhile, all_commits}
 use Rattle.mt_txn.specs.Shown.{LeavesFound, Restarts, SameSchema, Shows, StaysRestarting}
 use Rattle.mt_txn.specs.declared.kernel.Kernel.{Kernel}
 use Rattle.mt_world.specs.Acts.{Act, calls_in}
-use Rattle.mt_world.specs.Due.{CallsDevice, FailsIn, IsDue, SetsPhases, StayBroken}
+use Rattle.mt_world.specs.Due.{CallsAtEvent, FailsIn, IsDue, SetsPhases, StayBroken}
 use Rattle.mt_world.specs.Moves.{Moves}
 use Rattle.mt_world.specs.Reported.{acknowledged, commit_of, commit_order, committing, reported_of}
 use Rattle.mt_world.specs.declared.events.Answer.{Answer}
@@ -28,7 +28,7 @@ pub record HasMade {D : Type 0} {g : Ghosts D} (seen : D → List ℕ) (may_leav
   pub leads : (first : Base) (s : State) → Restarts seen may_leave first k → Shows seen may_leave first s k
       → ∥ ((acts : List Act) × (z : State) × Moves s event answer acts z × Shows seen may_leave first z n) ∥₁
   pub due : IsDue seen may_leave faults k event answer n
-  pub device : CallsDevice moment k event n
+  pub device : CallsAtEvent moment k event n
   pub phases : SetsPhases k event answer n
   pub fails : FailsIn k answer n
   pub restarts : StaysRestarting seen may_leave k n
@@ -40,7 +40,7 @@ module _ {D : Type 0} {g : Ghosts D} (seen : D → List ℕ) (may_leave : D → 
   pub record IsMade (first : Base) (s : State) (k : Kernel D g) (event : Event) (answer : Answer) (acts : List Act) (z : State) (n : Kernel D g) : Type 0 where
     pub moves : Moves s event answer acts z
     pub due : IsDue seen may_leave faults k event answer n
-    pub device : CallsDevice moment k event n
+    pub device : CallsAtEvent moment k event n
     pub phases : SetsPhases k event answer n
     pub fails : FailsIn k answer n
     pub schema : SameSchema k n

@@ -8,8 +8,8 @@ use Rattle.mt_disk.specs.declared.memory.MemDevice.{MemDevice}
 use Rattle.mt_model.specs.History.{after}
 use Rattle.mt_model.specs.declared.history.Committed.{Committed}
 use Rattle.mt_replay.specs.Stands.{CanRestart}
-use Rattle.mt_restart.specs.Schemas.{counters_in, relations_in, schema_base}
-use Rattle.mt_restart.specs.declared.schema.Schema.{Schema}
+use Rattle.mt_format.specs.Schemas.{counters_in, relations_in, schema_base}
+use Rattle.mt_format.specs.declared.schema.Schema.{Schema}
 use Rattle.mt_txn.specs.declared.kernel.Kernel.{Kernel}
 use Rattle.mt_world.specs.Crashes.{HasBegun, device_under}
 use Rattle.mt_world.specs.Schedules.{HasRunTo}

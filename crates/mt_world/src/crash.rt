@@ -3,7 +3,7 @@
 ghost use Rattle.std.specs.Prelude.{◌≡◌, ◌≤◌, ◌+◌, ◌-◌, ◌^◌, min, length, IfErr, IfOk};
 ghost use Rattle.mt_base.specs.declared.refusal.Refusal.{Refusal};
 ghost use Rattle.mt_disk.specs.Memory.{content};
-ghost use Rattle.mt_restart.specs.Schemas.{device_bytes};
+ghost use Rattle.mt_format.specs.Schemas.{device_bytes};
 ghost use Rattle.mt_world.specs.Stopped.{BeginsWithin, IsCrashRun, IsStoppedRun};
 
 use crate::commit_order::{acknowledged_in, commits_reported};

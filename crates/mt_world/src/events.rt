@@ -1,8 +1,7 @@
 // What is asked of a kernel, and what it answers.
 use mt_base::{Refusal, TxnNo};
 use mt_model::Op;
-use mt_pool::Flushed;
-use mt_txn::{AbortStepped, Called, KernelForced, Stepped};
+use mt_txn::{AbortStepped, Called, Flushed, KernelForced, Stepped};
 
 /// What is asked of a kernel: each event is one of its calls, or a rotation of its log.
 #[derive(Debug, Drop)]

@@ -4,7 +4,7 @@ ghost use Rattle.std.specs.Vec.{vec_capacity};
 ghost use Rattle.mt_base.specs.declared.refusal.Refusal.{Refusal};
 ghost use Rattle.mt_disk.specs.Disk.{LeavesOnly};
 ghost use Rattle.mt_live.specs.Machine.{start};
-ghost use Rattle.mt_restart.specs.Schemas.{counters_in, device_bytes, relations_in, schema_base};
+ghost use Rattle.mt_format.specs.Schemas.{counters_in, device_bytes, relations_in, schema_base};
 ghost use Rattle.mt_txn.specs.Shown.{Restarts, Shows};
 ghost use Rattle.mt_model.specs.Model.{Base};
 ghost use Rattle.mt_world.specs.Crashes.{BeginsOn, BeginsOrStands, FindsSince, FoundFromFormat, FoundTo};

@@ -8,19 +8,22 @@ use Rattle.mt_cli.specs.Serves.{let_go, no_device_at_once, too_many_at_once}
 use Rattle.mt_cli.proofs.at_once.serve_file_at_once.Goals as goal
 
 pub returns-in-Err-clause-unserved : goal.returns-in-Err-clause-unserved
-returns-in-Err-clause-unserved g c = no_device_at_once c.in-Err.refusal c.in-Err.ensures.cause c.in-Err.ensures.err (Keeps-refl (g.O.Write.contents c.args.out.now))
+returns-in-Err-clause-unserved g c =
+    no_device_at_once c.in-Err.refusal (rw c.as_str-name.ensures.value at c.in-Err.ensures.cause) c.in-Err.ensures.err (Keeps-refl (g.O.Write.contents c.args.out.now))
 
 pub returns-then-len-gt-MAX_SESSIONS-clause-unserved : goal.returns-then-len-gt-MAX_SESSIONS-clause-unserved
 returns-then-len-gt-MAX_SESSIONS-clause-unserved g c =
     too_many_at_once (omega (arith, length-map c.args.scripts.items lines_in, c.if-len-gt-MAX_SESSIONS.true))
-    (lent_and_back _ _ _ c.args.service.name.now _ c.in-Ok.ensures.held c.in-Ok.ensures.lent c.back.ensures) (Keeps-refl (g.O.Write.contents c.args.out.now))
+    (lent_and_back _ _ _ _ _ c.in-Ok.ensures.held c.in-Ok.ensures.lent c.back.ensures) (Keeps-refl (g.O.Write.contents c.args.out.now))
 
 pub returns-in-Ok-serve_over_at_once-clause-unserved : goal.returns-in-Ok-serve_over_at_once-clause-unserved
 returns-in-Ok-serve_over_at_once-clause-unserved g c =
     let behind = c.in-Ok-serve_over_at_once.behind in
-    unreported_at_once _ _ _ c.args.service.name.now _ _ _ behind.transcripts.items c.in-Ok.ensures.held c.in-Ok.ensures.lent c.back-in-Ok-serve_over_at_once.ensures behind.has_failed _ _ c.tell_sessions.result
-    c.in-Ok-serve_over_at_once.ensures.served (rw c.as_slice.ensures.value at c.tell_sessions.ensures.front) c.tell_sessions.ensures.why
+    rw c.as_str-name.ensures.value at
+    (unreported_at_once _ _ _ _ _ _ _ behind.transcripts.items c.in-Ok.ensures.held c.in-Ok.ensures.lent c.back-in-Ok-serve_over_at_once.ensures behind.has_failed _ _ c.tell_sessions.result
+    c.in-Ok-serve_over_at_once.ensures.served (rw c.as_slice.ensures.value at c.tell_sessions.ensures.front) c.tell_sessions.ensures.why)
 
 pub returns-in-Err-serve_over_at_once-clause-unserved : goal.returns-in-Err-serve_over_at_once-clause-unserved
 returns-in-Err-serve_over_at_once-clause-unserved g c =
-    let_go _ c.in-Err-serve_over_at_once.refusal c.in-Ok.ensures.held (rw (length-map c.args.scripts.items lines_in) c.in-Err-serve_over_at_once.ensures.refused) c.in-Ok.ensures.lent (Keeps-refl (g.O.Write.contents c.args.out.now))
+    let_go _ c.in-Err-serve_over_at_once.refusal (rw c.as_str-name.ensures.value at c.in-Ok.ensures.held) (rw (length-map c.args.scripts.items lines_in) c.in-Err-serve_over_at_once.ensures.refused)
+    (rw c.as_str-name.ensures.value at c.in-Ok.ensures.lent) (Keeps-refl (g.O.Write.contents c.args.out.now))

@@ -1,7 +1,7 @@
 use Rattle.std.proofs.Common.{◌≡◌, rules}
 use Rattle.std.specs.Result.{MatchResult}
-use Rattle.mt_cli.proofs.AdviceLemmas.{reported_as}
-use Rattle.mt_cli.specs.declared.faults.Fault.TheVariants.{Output}
+use Rattle.mt_cli.proofs.Endings.{reported_as}
+use Rattle.mt_report.specs.declared.faults.Fault.TheVariants.{Output}
 use Rattle.mt_cli.proofs.commands.finish.Goals as goal
 
 pub returns-clause-outcome : goal.returns-clause-outcome

@@ -1,6 +1,5 @@
 use Rattle.std.proofs.Common.{rules}
-use Rattle.mt_cli.proofs.AdviceLemmas.{is_reported}
-use Rattle.mt_cli.proofs.Endings.{done_kept, given_up_of}
+use Rattle.mt_cli.proofs.Endings.{done_kept, given_up_of, is_reported}
 use Rattle.mt_cli.proofs.commands.perform.Goals as goal
 
 pub returns-clause-done : goal.returns-clause-done

@@ -1,6 +1,6 @@
 use Rattle.std.proofs.Common.{◌<◌, ◌+◌, ◌∙◌, ◌≡◌, ap, length, length-append, arith, refl, string_bytes}
 use Rattle.mt_base.specs.declared.refusal.Refusal.TheVariants as refusal
-use Rattle.mt_cli.specs.declared.read_faults.ReadFault.TheVariants.{Refused}
+use Rattle.mt_report.specs.declared.read_faults.ReadFault.TheVariants.{Refused}
 use Rattle.mt_cli.proofs.ReadLemmas.{at_first, at_more, many_before, names_about, no_memory, not_more}
 use Rattle.mt_cli.proofs.named_inputs.scripts_of.Goals as goal
 

@@ -6,7 +6,7 @@ returns-in-Ok-clause-served g c = λ relations counters b opened.
     let D = g.D.Device in
     let n = c.in-Ok.kernel in
     served_on D.seen D.may_leave c.args.stop c.in-Ok.stopped relations counters b c.args.kernel n _ _ _ _ opened c.in-Ok.ensures.schema c.in-Ok.ensures.restarts c.in-Ok.ensures.ran
-    (λ first restarts. rw c.into_device.ensures (c.can_restart.ensures first (D.seen n.core.operations.store.device) restarts (g.met.D.Device.present n.core.operations.store.device) n.schema))
+    (λ first restarts. c.into_device.ensures.found first (D.seen c.into_device.result) restarts (g.met.D.Device.present c.into_device.result))
 
 pub returns-in-Err-clause-short : goal.returns-in-Err-clause-short
 returns-in-Err-clause-short g c = λ relations counters b opened.

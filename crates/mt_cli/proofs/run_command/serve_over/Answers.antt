@@ -1,13 +1,12 @@
-use Rattle.std.proofs.Common.{arith}
+use Rattle.std.proofs.Common.{arith, refl}
 use Rattle.std.proofs.KnownBytes.{Keeps-refl}
 use Rattle.std.proofs.lemmas.List.{length-map}
 use Rattle.mt_restart.specs.Resumed.{IsOpened}
 use Rattle.mt_alone.specs.Sessions.{lines_in}
-use Rattle.mt_cli.proofs.DumpLemmas.{barred_by, stands_same}
+use Rattle.mt_device_commands.proofs.DumpLemmas.{barred_by, stands_same}
 use Rattle.mt_cli.proofs.ServeLemmas.{served_by, unserved_by}
 use Rattle.mt_cli.specs.Serves.{not_begun, too_many}
 use Rattle.mt_cli.proofs.run_command.serve_over.Goals as goal
-use Rattle.std.proofs.Common.{refl}
 
 pub returns-then-scripts-gt-MAX_SESSIONS-clause-unserved : goal.returns-then-scripts-gt-MAX_SESSIONS-clause-unserved
 returns-then-scripts-gt-MAX_SESSIONS-clause-unserved g c =

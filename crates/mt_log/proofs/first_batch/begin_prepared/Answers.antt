@@ -1,23 +1,24 @@
-use Rattle.std.proofs.Common.{◌∙◌, ◌-◌, ◌+◌, ◌≤◌, ◌++◌, ◌∷◌, [], inl, ℕ, List, refl, ap, subst, arith, get_or}
+use Rattle.std.proofs.Common.{◌∙◌, ◌-◌, ◌+◌, ◌≤◌, [], inl, ℕ, List, refl, ap, subst, arith, get_or}
 use Rattle.mt_disk.specs.Disk.{LeavesOnly}
 use Rattle.mt_disk.proofs.Frame.{leaves_more, one_of, torn_within, follows_within}
 use Rattle.mt_frame.specs.declared.records.Record.{Record}
 use Rattle.mt_log.specs.Area.{TornFrom}
 use Rattle.mt_log.specs.Batch.{Scans}
-use Rattle.mt_log.specs.First.{IsFirst}
+use Rattle.mt_log.specs.First.{IsBegun}
+use Rattle.mt_log.specs.Seen.{LogSeen, calls_after, is_failed, landed}
 use Rattle.mt_log.specs.declared.area.AreaPlace.{AreaPlace}
 use Rattle.mt_log.specs.declared.log.Log.{Log}
-use Rattle.mt_log.specs.Words.{area_start, area_end, area_size, durable_batches, in_flight, IsOn}
-use Rattle.mt_log.proofs.AtRest.{area_begins, scans_at_rest, size_of}
+use Rattle.mt_log.specs.Words.{seen_of, area_start, area_end, area_size, durable_batches, in_flight, IsOn}
+use Rattle.mt_log.proofs.AtRest.{area_begins, scans_at_rest}
+use Rattle.mt_log.proofs.Begun.{HasFirst, begun_facts, first_facts}
 use Rattle.mt_log.proofs.Frames.{frame_then, frame_within, follows_more, torn_more}
-use Rattle.mt_log.proofs.Prefix.{sound_first}
 use Rattle.mt_log.proofs.Settled.{same_area, batches_in}
 use Rattle.mt_log.specs.declared.stage.Step.TheVariants.{WriteBody}
 use Rattle.mt_log.specs.declared.stage.Stage.TheVariants.{Forcing}
 use Rattle.mt_log.proofs.first_batch.begin_prepared.Goals as goal
 
 -- the closing of the first gate, as a range of the area
-module _ (place : AreaPlace) (images : List Record) (log : Log) (first : IsFirst place images log) where
+module _ (place : AreaPlace) (images : List Record) (log : Log) (first : HasFirst place images log) where
   low : place.start ≤ log.next
   low = let gate = first.gate in omega arith
 
@@ -25,67 +26,67 @@ module _ (place : AreaPlace) (images : List Record) (log : Log) (first : IsFirst
   high = let gate = first.gate in let some = place.some_bytes in omega arith
 
 pub force_all-requires-clause-on : goal.force_all-requires-clause-on
-unfolding IsOn durable_batches in_flight area_start area_end
+unfolding IsOn seen_of
 force_all-requires-clause-on g c =
-    let p = c.requires.prepared.0 in let images = c.requires.prepared.1 in let e = c.requires.prepared.2 in let log = c.args.prepared in
+    let p = c.requires.prepared.0 in let images = c.requires.prepared.1 in let log = c.args.prepared in let e = first_facts p images log c.requires.prepared.2 in
     same_area (g.D.Device.seen c.write_durably.new.device) (g.D.Device.may_leave c.write_durably.new.device) p.start log.place.start p.end log.place.end p.start log.next [] (batches_in log) images log.in_flight.items (Forcing WriteBody) log.stage
     e.start e.end e.gate e.batches e.flying e.stage
     (record {
       within = let w = c.requires.within in let size = c.write_durably.ensures.rest.size in let is = e.end in omega arith;
       order = omega arith;
-      room = e.room;
+      room = c.requires.prepared.2.room;
       front = λ k left. refl;
       outcome = λ k left is. let at = log.next in let shut = ap (λ (l : List ℕ). get_or l at 0) (c.in_ok-write_durably.ensures.durable k left) ∙ one_of (g.D.Device.seen c.write_durably.new.device) at 0 c.in_ok-write_durably.ensures.written.has in let gate = e.gate in absurd (omega (arith, shut, ap (λ (n : ℕ). get_or k n 0) gate));
       present = tt;
     })
 
 pub force_all-requires-clause-under_way : goal.force_all-requires-clause-under_way
-force_all-requires-clause-under_way g c = c.requires.prepared.2.calls
+force_all-requires-clause-under_way g c = let some = ap (λ (x : LogSeen). calls_after x.stage) c.requires.prepared.2.seen in omega (arith, some)
 
 pub force_all-requires-clause-well : goal.force_all-requires-clause-well
-force_all-requires-clause-well g c = c.requires.prepared.2.well
+force_all-requires-clause-well g c = ap (λ (x : LogSeen). is_failed x.stage) c.requires.prepared.2.seen
 
 pub write_durably-requires : goal.write_durably-requires
-write_durably-requires g c = let e = c.requires.prepared.2 in let w = c.requires.within in let gate = e.gate in let is = e.end in let some = c.requires.prepared.0.some_bytes in omega arith
+write_durably-requires g c = let e = first_facts c.requires.prepared.0 c.requires.prepared.1 c.args.prepared c.requires.prepared.2 in let w = c.requires.within in let gate = e.gate in let is = e.end in let some = c.requires.prepared.0.some_bytes in omega arith
 
 pub returns-in_err-write_durably-clause-begins : goal.returns-in_err-write_durably-clause-begins
-returns-in_err-write_durably-clause-begins g c p images e = let may = g.D.Device.may_leave in
+returns-in_err-write_durably-clause-begins g c p images is = let e = first_facts p images c.args.prepared is in let may = g.D.Device.may_leave in
     leaves_more g.D.Device.moment g.D.Device.left_since c.args.device.now c.write_durably.new.device _ _
     (subst (λ (n : ℕ). LeavesOnly g.D.Device.moment g.D.Device.left_since c.args.device.now c.write_durably.new.device (TornFrom (may c.args.device.now) n 1)) e.gate c.write_durably.ensures.moments) (λ k torn. inl torn)
 
 pub returns-in_err-write_durably-clause-moments : goal.returns-in_err-write_durably-clause-moments
-returns-in_err-write_durably-clause-moments g c p images e =
+returns-in_err-write_durably-clause-moments g c p images is = let e = first_facts p images c.args.prepared is in
     frame_within g.D.Device.moment g.D.Device.left_since (g.D.Device.may_leave c.args.device.now) c.args.device.now c.write_durably.new.device c.args.prepared.next 1 p.start (p.end - p.start) (low p images _ e) (high p images _ e) c.write_durably.ensures.moments
 
 pub returns-in_err-write_durably-clause-elsewhere : goal.returns-in_err-write_durably-clause-elsewhere
-returns-in_err-write_durably-clause-elsewhere g c p images e =
+returns-in_err-write_durably-clause-elsewhere g c p images is = let e = first_facts p images c.args.prepared is in
     follows_within c.args.prepared.next 1 p.start p.end (g.D.Device.may_leave c.args.device.now) (g.D.Device.may_leave c.write_durably.new.device) (low p images _ e) (let gate = e.gate in let some = p.some_bytes in omega arith) c.write_durably.ensures.elsewhere
 
 pub returns-in_err-write_durably-clause-rest : goal.returns-in_err-write_durably-clause-rest
-returns-in_err-write_durably-clause-rest g c p images e =
+returns-in_err-write_durably-clause-rest g c p images is = let e = first_facts p images c.args.prepared is in
     torn_within c.args.prepared.next 1 p.start (p.end - p.start) (g.D.Device.seen c.args.device.now) (g.D.Device.seen c.write_durably.new.device) c.write_durably.ensures.rest (low p images _ e) (high p images _ e)
 
 pub returns-in_err-force_all-clause-begins : goal.returns-in_err-force_all-clause-begins
-returns-in_err-force_all-clause-begins g c p images e =
+returns-in_err-force_all-clause-begins g c p images is = let e = first_facts p images c.args.prepared is in
     let log = c.args.prepared in let may = g.D.Device.may_leave in
     area_begins g.D.Device.moment g.D.Device.left_since c.args.device.now c.write_durably.new.device c.force_all.new.device (may c.args.device.now) p.start p.end
     (area_start log) (area_end log) images (in_flight log) (durable_batches log) e.start e.end e.batches e.flying
     (subst (λ (n : ℕ). LeavesOnly g.D.Device.moment g.D.Device.left_since c.args.device.now c.write_durably.new.device (TornFrom (may c.args.device.now) n 1)) e.gate c.write_durably.ensures.moments) c.force_all.ensures.scans
 
 pub returns-in_err-force_all-clause-elsewhere : goal.returns-in_err-force_all-clause-elsewhere
-returns-in_err-force_all-clause-elsewhere g c p images e =
+returns-in_err-force_all-clause-elsewhere g c p images is = let e = first_facts p images c.args.prepared is in
     let may = g.D.Device.may_leave in let log = c.args.prepared in
     follows_more (may c.args.device.now) (may c.write_durably.new.device) (may c.force_all.new.device) p.start (p.end - p.start) (area_start log) (area_size log) e.start e.size
     (follows_within log.next 1 p.start p.end (may c.args.device.now) (may c.write_durably.new.device) (low p images _ e) (let gate = e.gate in let some = p.some_bytes in omega arith) c.write_durably.ensures.elsewhere) c.force_all.ensures.elsewhere
 
 pub returns-in_err-force_all-clause-rest : goal.returns-in_err-force_all-clause-rest
-returns-in_err-force_all-clause-rest g c p images e =
+returns-in_err-force_all-clause-rest g c p images is = let e = first_facts p images c.args.prepared is in
     let seen = g.D.Device.seen in let log = c.args.prepared in
     torn_more (seen c.args.device.now) (seen c.write_durably.new.device) (seen c.force_all.new.device) p.start (p.end - p.start) (area_start log) (area_size log) e.start e.size
     (torn_within log.next 1 p.start (p.end - p.start) (seen c.args.device.now) (seen c.write_durably.new.device) c.write_durably.ensures.rest (low p images _ e) (high p images _ e)) c.force_all.ensures.rest
 
 pub returns-in_err-force_all-clause-moments : goal.returns-in_err-force_all-clause-moments
-returns-in_err-force_all-clause-moments g c p images e =
+returns-in_err-force_all-clause-moments g c p images is = let e = first_facts p images c.args.prepared is in
     let m = g.D.Device.moment in let l = g.D.Device.left_since in let may = g.D.Device.may_leave in let log = c.args.prepared in
     let mid = c.write_durably.new.device in let new = c.force_all.new.device in
     frame_then m l may g.met.D.Device.only_now p.start (p.end - p.start) c.args.device.now mid new
@@ -94,26 +95,26 @@ returns-in_err-force_all-clause-moments g c p images e =
     (subst (λ (k : ℕ). LeavesOnly m l mid new (TornFrom (may mid) k (p.end - p.start))) e.start (subst (λ (k : ℕ). LeavesOnly m l mid new (TornFrom (may mid) (area_start log) k)) e.size c.force_all.ensures.moments))
 
 pub returns-clause-begins : goal.returns-clause-begins
-returns-clause-begins g c p images e =
+returns-clause-begins g c p images is = let e = first_facts p images c.args.prepared is in
     let log = c.args.prepared in let may = g.D.Device.may_leave in
     area_begins g.D.Device.moment g.D.Device.left_since c.args.device.now c.write_durably.new.device c.force_all.new.device (may c.args.device.now) p.start p.end
     (area_start log) (area_end log) images (in_flight log) (durable_batches log) e.start e.end e.batches e.flying
     (subst (λ (n : ℕ). LeavesOnly g.D.Device.moment g.D.Device.left_since c.args.device.now c.write_durably.new.device (TornFrom (may c.args.device.now) n 1)) e.gate c.write_durably.ensures.moments) c.force_all.ensures.scans
 
 pub returns-clause-elsewhere : goal.returns-clause-elsewhere
-returns-clause-elsewhere g c p images e =
+returns-clause-elsewhere g c p images is = let e = first_facts p images c.args.prepared is in
     let may = g.D.Device.may_leave in let log = c.args.prepared in
     follows_more (may c.args.device.now) (may c.write_durably.new.device) (may c.force_all.new.device) p.start (p.end - p.start) (area_start log) (area_size log) e.start e.size
     (follows_within log.next 1 p.start p.end (may c.args.device.now) (may c.write_durably.new.device) (low p images _ e) (let gate = e.gate in let some = p.some_bytes in omega arith) c.write_durably.ensures.elsewhere) c.force_all.ensures.elsewhere
 
 pub returns-clause-rest : goal.returns-clause-rest
-returns-clause-rest g c p images e =
+returns-clause-rest g c p images is = let e = first_facts p images c.args.prepared is in
     let seen = g.D.Device.seen in let log = c.args.prepared in
     torn_more (seen c.args.device.now) (seen c.write_durably.new.device) (seen c.force_all.new.device) p.start (p.end - p.start) (area_start log) (area_size log) e.start e.size
     (torn_within log.next 1 p.start (p.end - p.start) (seen c.args.device.now) (seen c.write_durably.new.device) c.write_durably.ensures.rest (low p images _ e) (high p images _ e)) c.force_all.ensures.rest
 
 pub returns-clause-moments : goal.returns-clause-moments
-returns-clause-moments g c p images e =
+returns-clause-moments g c p images is = let e = first_facts p images c.args.prepared is in
     let m = g.D.Device.moment in let l = g.D.Device.left_since in let may = g.D.Device.may_leave in let log = c.args.prepared in
     let mid = c.write_durably.new.device in let new = c.force_all.new.device in
     frame_then m l may g.met.D.Device.only_now p.start (p.end - p.start) c.args.device.now mid new
@@ -121,29 +122,10 @@ returns-clause-moments g c p images e =
     (follows_within log.next 1 p.start p.end (may c.args.device.now) (may mid) (low p images _ e) (let gate = e.gate in let some = p.some_bytes in omega arith) c.write_durably.ensures.elsewhere)
     (subst (λ (k : ℕ). LeavesOnly m l mid new (TornFrom (may mid) k (p.end - p.start))) e.start (subst (λ (k : ℕ). LeavesOnly m l mid new (TornFrom (may mid) (area_start log) k)) e.size c.force_all.ensures.moments))
 
-pub returns-clause-log : goal.returns-clause-log
-returns-clause-log g c p images e =
-    let old = c.args.prepared in let new = c.force_all.new.log in let f = c.force_all.ensures in let done = c.in_ok-force_all.ensures in
-    let batches = done.batches ∙ ap (λ (l : List (List Record)). l ++ in_flight old ∷ []) e.batches ∙ ap (λ (b : List Record). b ∷ []) e.flying in
-    let waits = done.waiting ∙ e.waits in
-    record {
-      start = f.start ∙ e.start;
-      end = f.end ∙ e.end;
-      size = size_of new ∙ ap (λ (k : ℕ). k - area_start new) (f.end ∙ e.end) ∙ ap (λ (k : ℕ). p.end - k) (f.start ∙ e.start);
-      batches = batches;
-      none_flies = done.in_flight;
-      none_waits = waits;
-      bytes = done.used ∙ e.bytes;
-      calls = done.calls;
-      well = done.failed;
-      sound = λ pages each may. sound_first pages new images batches (done.durable ∙ ap (λ (l : List Record). l ++ in_flight old) e.none ∙ e.flying) done.in_flight waits each may;
-    }
-
 pub returns-clause-begun : goal.returns-clause-begun
-returns-clause-begun g c p images e = λ k left.
-    let old = c.args.prepared in let new = c.force_all.new.log in let f = c.force_all.ensures in let done = c.in_ok-force_all.ensures in
-    let batches = done.batches ∙ ap (λ (l : List (List Record)). l ++ in_flight old ∷ []) e.batches ∙ ap (λ (b : List Record). b ∷ []) e.flying in
-    subst (λ (n : ℕ). Scans k n p.end (images ∷ [])) (f.start ∙ e.start)
-    (subst (λ (n : ℕ). Scans k (area_start new) n (images ∷ [])) (f.end ∙ e.end)
-    (subst (λ (bs : List (List Record)). Scans k (area_start new) (area_end new) bs) batches
-    (scans_at_rest g.D.Device.seen g.D.Device.may_leave new c.force_all.new.device f.on done.calls done.failed k left)))
+returns-clause-begun g c p images is = λ k left.
+    let new = c.force_all.new.log in
+    let now : IsBegun p images new = c.in_ok-force_all.ensures.log ∙ ap landed is.seen in
+    let b = begun_facts p images new now in
+    subst (λ (x : LogSeen). Scans k x.start x.end x.batches) now
+    (scans_at_rest g.D.Device.seen g.D.Device.may_leave new c.force_all.new.device c.force_all.ensures.on b.calls b.well k left)

@@ -1,47 +1,43 @@
-use Rattle.std.proofs.Common.{rules, ◌≡◌, ◌<◌, ◌++◌, ◌∷◌, [], List, ap, subst, ◌∙◌, refl, arith}
-use Rattle.mt_frame.specs.declared.records.Record.{Record}
-use Rattle.mt_log.specs.Words.{durable_batches, durable, in_flight, waiting, area_start, area_end, area_size, used, calls_left, coming, IsLast, IsStep, batches_after}
-use Rattle.mt_log.specs.declared.log.Log.{Log}
+use Rattle.std.proofs.Common.{Ok, rules, ◌≡◌, ◌<◌, ◌-◌, ap, subst, sym, ◌∙◌, refl, ⊎_elim, arith}
+use Rattle.mt_log.specs.Area.{step_behind}
+use Rattle.mt_log.specs.Seen.{LogSeen, calls_after, landed}
+use Rattle.mt_log.specs.Steps.{ForceSteps, GoesOn}
+use Rattle.mt_log.specs.Words.{seen_of, durable_batches, in_flight, area_start, area_end, area_size, coming, IsLast}
 use Rattle.mt_log.specs.declared.log.Forced.{Forced}
-use Rattle.mt_log.specs.declared.log.Forced.TheVariants.{More, Durable, Idle}
+use Rattle.mt_log.specs.declared.log.Forced.TheVariants.{More, Durable, Idle as Nothing}
+use Rattle.mt_log.specs.declared.stage.Stage.{Stage}
+use Rattle.mt_log.specs.declared.stage.Stage.TheVariants.{Forcing}
 use Rattle.mt_disk.proofs.Frame.{started, torn_refl}
 use Rattle.mt_log.proofs.AtRest.{scans_forced, scans_more, coming-in_flight}
+use Rattle.mt_log.proofs.Calls.{one_outcome}
+use Rattle.mt_log.proofs.Stepped.{begun_busy, stepped}
 use Rattle.mt_log.proofs.Frames.{frame_none, frame_more, follows_more, torn_more}
 use Rattle.mt_log.proofs.first_batch.force_all.Goals as goal
 
--- where a force that was under way needs no further call
-abbrev IsDone : Log → Log → Type 0
-IsDone old new = (durable_batches new ≡ durable_batches old ++ in_flight old ∷ []) × (in_flight new ≡ []) × (waiting new ≡ waiting old) × (durable new ≡ durable old ++ in_flight old) × (used new ≡ used old) × (calls_left new ≡ 0)
+module _ (was old new : LogSeen) (some : 0 < calls_after old.stage) (same : old ≡ record was { stage = old.stage }) where
+  -- another call is to come
+  same_on : GoesOn old new → new ≡ record was { stage = new.stage }
+  same_on g =
+      let now : new ≡ record was { stage = Forcing (step_behind g.step) } = g.now ∙ ap (λ (x : LogSeen). record x { stage = Forcing (step_behind g.step) }) (begun_busy old some ∙ same) in
+      now ∙ ap (λ (s : Stage). record was { stage = s }) (sym (ap (λ (x : LogSeen). x.stage) now))
 
-done : (old new : Log) (forced : Forced) → (forced ≡ More → ⊥) → 0 < calls_left old → IsStep old forced new → durable_batches new ≡ batches_after old forced → IsDone old new
-done old new More not some step batches = absurd (not refl)
-done old new Idle not some step batches = absurd (let none = step.0 in omega arith)
-done old new (Durable pos) not some step batches = (batches, step.3, step.4, step.2, step.5, step.1)
-
--- such a call is the last one
-last : (old new : Log) (forced : Forced) → (forced ≡ More → ⊥) → 0 < calls_left old → IsStep old forced new → IsLast forced
-last old new More not some step = absurd (not refl)
-last old new Idle not some step = absurd (let none = step.0 in omega arith)
-last old new (Durable pos) not some step = tt
+  -- this was the last one
+  done : (forced : Forced) → (forced ≡ More → ⊥) → ForceSteps old new (Ok forced) → (new ≡ landed was) × IsLast forced
+  done More not f = absurd (not refl)
+  done Nothing not f = absurd (let none = ap calls_after f.stage in omega (arith, some, none))
+  done (Durable at) not f = (f.now ∙ ap landed same, tt)
 
 pub loop-init : goal.loop-init
 loop-init g c =
     let log = c.args.log.now in
     let d = c.args.device.now in
     record {
-      scans = started g.D.Device.moment g.D.Device.left_since d _ (λ k left. scans_forced g.D.Device.seen g.D.Device.may_leave log d c.requires.on k (g.met.D.Device.only_now d k left));
       on = c.requires.on;
       calls = c.requires.under_way;
       well = c.requires.well;
-      start = refl;
-      end = refl;
-      size = refl;
-      batches = refl;
-      durable = refl;
-      in_flight = refl;
-      waiting = refl;
-      used = refl;
+      same = refl;
       faults = refl;
+      scans = started g.D.Device.moment g.D.Device.left_since d _ (λ k left. scans_forced g.D.Device.seen g.D.Device.may_leave log d c.requires.on k (g.met.D.Device.only_now d k left));
       moments = frame_none g.D.Device.moment g.D.Device.left_since g.D.Device.may_leave g.met.D.Device.only_now (area_start log) (area_size log) d;
       elsewhere = λ k left. (k, left, torn_refl (area_start log) (area_size log) k);
       rest = torn_refl (area_start log) (area_size log) (g.D.Device.seen d);
@@ -53,27 +49,24 @@ loop-preserved g c =
     let e = c.force_step.ensures in
     let old = c.loop.log in
     let new = c.force_step.new.self in
-    let step = subst (λ (f : Forced). IsStep old f new) c.in-More.is c.in_ok-force_step.ensures.step in
-    let batches = subst (λ (f : Forced). durable_batches new ≡ batches_after old f) c.in-More.is c.in_ok-force_step.ensures.batches in
-    let way = step.2 inv.calls in
+    let was = c.args.log.now in
+    let D = g.D.Device in
+    let o = c.args.device.now in let m = c.loop.device in let n = c.force_step.new.device in
+    let start = ap (λ (x : LogSeen). x.start) inv.same in
+    let size = ap (λ (x : LogSeen). x.end - x.start) inv.same in
+    let steps : GoesOn (seen_of old) (seen_of new) = subst (λ (f : Forced). ForceSteps (seen_of old) (seen_of new) (Ok f)) c.in-More.is c.in_ok-force_step.ensures.steps in
+    let t = stepped old new (Ok More) steps in
     record {
-      scans = scans_more g.D.Device.moment g.D.Device.left_since c.args.device.now c.loop.device c.force_step.new.device (area_start c.args.log.now) (area_start old) (area_end c.args.log.now) (area_end old) (durable_batches c.args.log.now) (durable_batches old) (in_flight c.args.log.now) (coming old)
-          inv.start inv.end inv.batches (coming-in_flight old inv.calls ∙ inv.in_flight) inv.scans e.moments;
       on = e.on;
-      calls = way.3;
-      well = c.in_ok-force_step.ensures.well refl;
-      start = e.start ∙ inv.start;
-      end = e.end ∙ inv.end;
-      size = e.area ∙ inv.size;
-      batches = batches ∙ inv.batches;
-      durable = step.0 ∙ inv.durable;
-      in_flight = way.0 ∙ inv.in_flight;
-      waiting = way.1 ∙ inv.waiting;
-      used = way.4 ∙ inv.used;
-      faults = c.in_ok-force_step.ensures.quiet refl ∙ inv.faults;
-      moments = frame_more g.D.Device.moment g.D.Device.left_since g.D.Device.may_leave g.met.D.Device.only_now (area_start c.args.log.now) (area_size c.args.log.now) c.args.device.now c.loop.device c.force_step.new.device (area_start c.loop.log) (area_size c.loop.log) inv.start inv.size inv.moments inv.elsewhere e.time e.elsewhere;
-      elsewhere = follows_more (g.D.Device.may_leave c.args.device.now) (g.D.Device.may_leave c.loop.device) (g.D.Device.may_leave c.force_step.new.device) (area_start c.args.log.now) (area_size c.args.log.now) (area_start c.loop.log) (area_size c.loop.log) inv.start inv.size inv.elsewhere e.elsewhere;
-      rest = torn_more (g.D.Device.seen c.args.device.now) (g.D.Device.seen c.loop.device) (g.D.Device.seen c.force_step.new.device) (area_start c.args.log.now) (area_size c.args.log.now) (area_start c.loop.log) (area_size c.loop.log) inv.start inv.size inv.rest e.rest;
+      calls = (t.step.2 inv.calls).3;
+      well = t.well refl;
+      same = same_on (seen_of was) (seen_of old) (seen_of new) inv.calls inv.same steps;
+      faults = c.in_ok-force_step.ensures.cause.quiet refl ∙ inv.faults;
+      scans = scans_more D.moment D.left_since o m n (area_start was) (area_start old) (area_end was) (area_end old) (durable_batches was) (durable_batches old) (in_flight was) (coming old)
+          start (ap (λ (x : LogSeen). x.end) inv.same) (ap (λ (x : LogSeen). x.batches) inv.same) (coming-in_flight old inv.calls ∙ ap (λ (x : LogSeen). x.flight) inv.same) inv.scans e.moments;
+      moments = frame_more D.moment D.left_since D.may_leave g.met.D.Device.only_now (area_start was) (area_size was) o m n (area_start old) (area_size old) start size inv.moments inv.elsewhere e.within.time e.within.elsewhere;
+      elsewhere = follows_more (D.may_leave o) (D.may_leave m) (D.may_leave n) (area_start was) (area_size was) (area_start old) (area_size old) start size inv.elsewhere e.within.elsewhere;
+      rest = torn_more (D.seen o) (D.seen m) (D.seen n) (area_start was) (area_size was) (area_start old) (area_size old) start size inv.rest e.within.rest;
     }
 
 pub returns : goal.returns
@@ -82,52 +75,52 @@ returns g c =
     let e = c.force_step.ensures in
     let old = c.loop.log in
     let new = c.force_step.new.self in
-    let end = done old new c.in_ok-force_step.field-0 c.in_default.not-More inv.calls c.in_ok-force_step.ensures.step c.in_ok-force_step.ensures.batches in
+    let was = c.args.log.now in
+    let D = g.D.Device in
+    let o = c.args.device.now in let m = c.loop.device in let n = c.force_step.new.device in
+    let start = ap (λ (x : LogSeen). x.start) inv.same in
+    let size = ap (λ (x : LogSeen). x.end - x.start) inv.same in
+    let f = stepped old new c.force_step.result e.steps in
+    let end = done (seen_of was) (seen_of old) (seen_of new) inv.calls inv.same c.in_ok-force_step.field-0 c.in_default.not-More c.in_ok-force_step.ensures.steps in
     record {
       on = e.on;
-      start = e.start ∙ inv.start;
-      end = e.end ∙ inv.end;
-      batches = end.0 ∙ ap (λ (l : List (List Record)). l ++ in_flight old ∷ []) inv.batches ∙ ap (λ (l : List Record). durable_batches c.args.log.now ++ l ∷ []) inv.in_flight;
-      in_flight = end.1;
-      waiting = end.2 ∙ inv.waiting;
-      durable = end.3 ∙ ap (λ (l : List Record). l ++ in_flight old) inv.durable ∙ ap (λ (l : List Record). durable c.args.log.now ++ l) inv.in_flight;
-      used = end.4 ∙ inv.used;
-      calls = end.5;
-      failed = c.in_ok-force_step.ensures.well refl;
-      alone = c.in_ok-force_step.ensures.alone (last old new c.in_ok-force_step.field-0 c.in_default.not-More inv.calls c.in_ok-force_step.ensures.step);
-      quiet = c.in_ok-force_step.ensures.quiet refl ∙ inv.faults;
-      moments = frame_more g.D.Device.moment g.D.Device.left_since g.D.Device.may_leave g.met.D.Device.only_now (area_start c.args.log.now) (area_size c.args.log.now) c.args.device.now c.loop.device c.force_step.new.device (area_start c.loop.log) (area_size c.loop.log) inv.start inv.size inv.moments inv.elsewhere e.time e.elsewhere;
-      scans = scans_more g.D.Device.moment g.D.Device.left_since c.args.device.now c.loop.device c.force_step.new.device (area_start c.args.log.now) (area_start old) (area_end c.args.log.now) (area_end old) (durable_batches c.args.log.now) (durable_batches old) (in_flight c.args.log.now) (coming old)
-          inv.start inv.end inv.batches (coming-in_flight old inv.calls ∙ inv.in_flight) inv.scans e.moments;
-      elsewhere = follows_more (g.D.Device.may_leave c.args.device.now) (g.D.Device.may_leave c.loop.device) (g.D.Device.may_leave c.force_step.new.device) (area_start c.args.log.now) (area_size c.args.log.now) (area_start c.loop.log) (area_size c.loop.log) inv.start inv.size inv.elsewhere e.elsewhere;
-      rest = torn_more (g.D.Device.seen c.args.device.now) (g.D.Device.seen c.loop.device) (g.D.Device.seen c.force_step.new.device) (area_start c.args.log.now) (area_size c.args.log.now) (area_start c.loop.log) (area_size c.loop.log) inv.start inv.size inv.rest e.rest;
+      start = f.start ∙ start;
+      end = f.end ∙ ap (λ (x : LogSeen). x.end) inv.same;
+      log = end.0;
+      alone = c.in_ok-force_step.ensures.alone end.1;
+      quiet = c.in_ok-force_step.ensures.cause.quiet refl ∙ inv.faults;
+      moments = frame_more D.moment D.left_since D.may_leave g.met.D.Device.only_now (area_start was) (area_size was) o m n (area_start old) (area_size old) start size inv.moments inv.elsewhere e.within.time e.within.elsewhere;
+      scans = scans_more D.moment D.left_since o m n (area_start was) (area_start old) (area_end was) (area_end old) (durable_batches was) (durable_batches old) (in_flight was) (coming old)
+          start (ap (λ (x : LogSeen). x.end) inv.same) (ap (λ (x : LogSeen). x.batches) inv.same) (coming-in_flight old inv.calls ∙ ap (λ (x : LogSeen). x.flight) inv.same) inv.scans e.moments;
+      elsewhere = follows_more (D.may_leave o) (D.may_leave m) (D.may_leave n) (area_start was) (area_size was) (area_start old) (area_size old) start size inv.elsewhere e.within.elsewhere;
+      rest = torn_more (D.seen o) (D.seen m) (D.seen n) (area_start was) (area_size was) (area_start old) (area_size old) start size inv.rest e.within.rest;
       cause = λ is. absurd (cc);
       only_device = tt;
     }
 
 pub returns-in_err-force_step : goal.returns-in_err-force_step
-returns-in_err-force_step g c = record {
-  on = search rules;
-  start = search rules;
-  end = search rules;
-  batches = search rules;
-  in_flight = search rules;
-  waiting = search rules;
-  durable = search rules;
-  used = search rules;
-  calls = search rules;
-  failed = search rules;
-  alone = search rules;
-  quiet = search rules;
-  moments = let inv = c.loop.invariant in
-      frame_more g.D.Device.moment g.D.Device.left_since g.D.Device.may_leave g.met.D.Device.only_now (area_start c.args.log.now) (area_size c.args.log.now) c.args.device.now c.loop.device c.force_step.new.device (area_start c.loop.log) (area_size c.loop.log) inv.start inv.size inv.moments inv.elsewhere c.force_step.ensures.time c.force_step.ensures.elsewhere;
-  scans = let inv = c.loop.invariant in
-      let old = c.args.log.now in
-      let mid = c.loop.log in
-      scans_more g.D.Device.moment g.D.Device.left_since c.args.device.now c.loop.device c.force_step.new.device (area_start old) (area_start mid) (area_end old) (area_end mid) (durable_batches old) (durable_batches mid) (in_flight old) (coming mid)
-      inv.start inv.end inv.batches (coming-in_flight mid inv.calls ∙ inv.in_flight) inv.scans c.force_step.ensures.moments;
-  elsewhere = search rules;
-  rest = search rules;
-  cause = search rules;
-  only_device = search rules;
-}
+returns-in_err-force_step g c =
+    let inv = c.loop.invariant in
+    let e = c.force_step.ensures in
+    let old = c.loop.log in
+    let was = c.args.log.now in
+    let D = g.D.Device in
+    let o = c.args.device.now in let m = c.loop.device in let n = c.force_step.new.device in
+    let start = ap (λ (x : LogSeen). x.start) inv.same in
+    let size = ap (λ (x : LogSeen). x.end - x.start) inv.same in
+    let f = stepped old c.force_step.new.self c.force_step.result e.steps in
+    record {
+      on = search rules;
+      start = f.start ∙ start;
+      end = f.end ∙ ap (λ (x : LogSeen). x.end) inv.same;
+      log = search rules;
+      alone = search rules;
+      quiet = search rules;
+      moments = frame_more D.moment D.left_since D.may_leave g.met.D.Device.only_now (area_start was) (area_size was) o m n (area_start old) (area_size old) start size inv.moments inv.elsewhere e.within.time e.within.elsewhere;
+      scans = scans_more D.moment D.left_since o m n (area_start was) (area_start old) (area_end was) (area_end old) (durable_batches was) (durable_batches old) (in_flight was) (coming old)
+          start (ap (λ (x : LogSeen). x.end) inv.same) (ap (λ (x : LogSeen). x.batches) inv.same) (coming-in_flight old inv.calls ∙ ap (λ (x : LogSeen). x.flight) inv.same) inv.scans e.moments;
+      elsewhere = follows_more (D.may_leave o) (D.may_leave m) (D.may_leave n) (area_start was) (area_size was) (area_start old) (area_size old) start size inv.elsewhere e.within.elsewhere;
+      rest = torn_more (D.seen o) (D.seen m) (D.seen n) (area_start was) (area_size was) (area_start old) (area_size old) start size inv.rest e.within.rest;
+      cause = λ is. ⊎_elim (λ more. let same = inv.faults in omega (arith, more, same)) (λ was. absurd (one_outcome _ was inv.well)) (c.in_err-force_step.ensures.cause.cause refl);
+      only_device = search rules;
+    }

@@ -1,7 +1,7 @@
 use Rattle.std.proofs.Common.{◌≡◌, ◌∙◌, ◌+◌, ◌∷◌, [], ◌++◌, ℕ, take, length, set, ap, sym, subst, arith, length-take-le}
 use Rattle.std.proofs.lemmas.List.{take_more}
 use Rattle.mt_frame.specs.declared.records.Record.{Record}
-use Rattle.mt_pool.specs.Views.{IsPool, Shows, view, pages}
+use Rattle.mt_pool.specs.Views.{IsPool, Shows, frames, view, pages}
 use Rattle.mt_pool.specs.declared.pool.Pool.{Pool}
 use Rattle.mt_pool.specs.Turns.{IsImageOnly, KnowsImages}
 use Rattle.mt_pool.proofs.KnownImages.{knows_any, image_at, page_only}
@@ -36,6 +36,7 @@ loop-entry-preserved c =
             views = λ seen q. ap (λ (p : Pool). view p seen q) w.pool-is ∙ e.views seen q ∙ v.views seen q;
             place = ap (λ (p : Pool). p.place) w.pool-is ∙ e.place ∙ v.place;
             pages = ap pages w.pool-is ∙ same ∙ v.pages;
+            many = ap frames w.pool-is ∙ ap (λ (o : _). length o.items) e.bytes ∙ v.many;
             knows = subst (λ (p : Pool). KnowsImages p (take (i + 1) images)) (sym w.pool-is) (subst (KnowsImages w.note_image.new.self) (sym more)
                 (knows_any c.loop-entry.pool w.note_image.new.self (take i images) _ _ w.in-Page.page _ _ _ _ named.2 (let p = v.pages in let q = named.1 in omega arith) v.pool.waits same
                 (e.waits ∙ ap (λ (n : ℕ). set c.loop-entry.pool.waits.items w.in-Page.page n) at) v.knows));

@@ -1,5 +1,5 @@
 use Rattle.std.proofs.Common.{◌≡◌, ℕ, List, take}
-use Rattle.mt_pool.specs.Views.{IsPool, Shows, view, pages}
+use Rattle.mt_pool.specs.Views.{IsPool, Shows, frames, view, pages}
 use Rattle.mt_pool.specs.Turns.{KnowsImages}
 use Rattle.mt_pool.proofs.next_area.note_images.Given as goal
 
@@ -11,5 +11,6 @@ invariant-loop-entry l = record {
   views : (seen : List ℕ) (q : ℕ) → view l.pool seen q ≡ view l.fn.pool seen q;
   place : l.pool.place ≡ l.fn.pool.place;
   pages : pages l.pool ≡ pages l.fn.pool;
+  many : frames l.pool ≡ frames l.fn.pool;
   knows : KnowsImages l.pool (take l.entry-index l.images);
 }

@@ -1,4 +1,4 @@
-use Rattle.std.proofs.Common.{rules, ◌≡◌, ◌+◌, ◌∙◌, ◌++◌, ◌∷◌, [], ℕ, List, Option, None, drop, refl, sym, ap, subst, arith, append_assoc, append-nil, false}
+use Rattle.std.proofs.Common.{rules, ◌≡◌, ◌+◌, ◌-◌, ◌∙◌, ◌++◌, ◌∷◌, [], ℕ, List, Option, None, drop, refl, sym, ap, subst, arith, append_assoc, false}
 use Rattle.std.specs.List.{AllByRecursion}
 use Rattle.std.proofs.lemmas.List.{drop_more}
 use Rattle.mt_base.specs.declared.edits.Edit.{Edit}
@@ -8,10 +8,12 @@ use Rattle.mt_frame.specs.declared.records.Record.{Record}
 use Rattle.mt_frame.specs.History.{may_stand, MayFollow}
 use Rattle.mt_frame.specs.PageRecords.{change_records, lent_image, range_record, represented}
 use Rattle.mt_log.specs.Holds.{HasItsPage}
+use Rattle.mt_log.specs.Seen.{LogSeen, bytes_in}
 use Rattle.mt_log.specs.Words.{appended}
+use Rattle.mt_log.proofs.Prefix.{sound_with_record}
 use Rattle.mt_pool.specs.Writes.{records_size, IsLonger}
 use Rattle.mt_pool.specs.declared.page_changes.Change.{Change}
-use Rattle.mt_pool.proofs.Logged.{longer_appended, longer_more, size_append, next_may, next_page}
+use Rattle.mt_pool.proofs.Logged.{longer_appended, longer_more, longer_used, none_more, sound_seen, size_append, next_may, next_page}
 use Rattle.mt_pool.proofs.page_changes.append_all.Goals as goal
 
 -- the records that are left, this one first
@@ -23,25 +25,23 @@ first_of ch image es i e entry next is =
     ∙ ap (λ (r : Record). r ∷ change_records ch.txn ch.op ch.page None ch.old.now ch.new.now (drop (i + 1) es)) (sym is)
 
 pub returns-in_err-reserve : goal.returns-in_err-reserve
-returns-in_err-reserve c = record {
+returns-in_err-reserve c = let e = c.reserve.ensures in record {
   longer = search rules;
   used = search rules;
   place = search rules;
-  sound = λ pages sound each may. c.reserve.ensures.sound pages sound;
-  err_longer = search rules;
-  err_used = search rules;
-  area = search rules;
+  sound = λ pages sound each may. sound_seen pages c.args.log.now c.reserve.new.self e.same sound;
+  err = search rules;
   only_memory = search rules;
 }
 
 pub loop-edit-init : goal.loop-edit-init
 loop-edit-init c = let e = c.reserve.ensures in record {
-  done = ([], refl, record { stands = e.stands; durable_same = e.durable; flying_same = e.in_flight; waiting_more = e.waiting ∙ sym (append-nil _) }, omega (arith, e.used));
+  done = ([], refl, none_more c.args.log.now c.reserve.new.self e.same, omega (arith, ap bytes_in e.same));
   place = λ lt. absurd (omega arith);
-  area = e.area;
+  area = ap (λ (x : LogSeen). x.end - x.start) e.same;
   each = c.requires.grammar;
   room = let room = c.in_ok-reserve.ensures.room in omega (arith, c.requires.short, room);
-  sound = λ pages sound each may. e.sound pages sound;
+  sound = λ pages sound each may. sound_seen pages c.args.log.now c.reserve.new.self e.same sound;
 }
 
 pub append_page-requires-clause-fits : goal.append_page-requires-clause-fits
@@ -70,14 +70,14 @@ loop-edit-preserved c =
     let whole = d.1 ∙ ap (λ (l : List Record). d.0 ++ l) first in
     let f = c.append_page.ensures in
     let o = c.in_ok-place.ensures in
-    let one : IsLonger c.loop-edit.log c.append_page.new.self (r ∷ []) = record { stands = f.stands; durable_same = f.durable; flying_same = f.in_flight; waiting_more = o.waiting } in
+    let one : IsLonger c.loop-edit.log c.append_page.new.self (r ∷ []) = o.log in
     let more = longer_more c.args.log.now c.loop-edit.log c.append_page.new.self d.0 (r ∷ []) d.2 one in
     record {
-      done = (d.0 ++ r ∷ [], whole ∙ sym (append_assoc d.0 (r ∷ []) rest), more, omega (arith, d.3, o.used, size_append d.0 (r ∷ [])));
+      done = (d.0 ++ r ∷ [], whole ∙ sym (append_assoc d.0 (r ∷ []) rest), more, omega (arith, d.3, longer_used c.loop-edit.log c.append_page.new.self r o.log, size_append d.0 (r ∷ [])));
       place = λ lt. o.place;
-      area = f.area ∙ v.area;
+      area = ap (λ (x : LogSeen). x.end - x.start) o.log ∙ v.area;
       each = (subst (AllByRecursion IsRecord) first v.each).1;
       room = omega (arith, v.room, ap records_size first, f.room_left);
-      sound = λ pages sound each may. f.sound pages (v.sound pages sound each may) (next_page pages d.0 rest r (subst (AllByRecursion (HasItsPage pages)) whole each))
-          (ap (λ (l : List Record). may_stand false l r) (longer_appended c.args.log.now c.loop-edit.log d.0 d.2) ∙ next_may (appended c.args.log.now) d.0 rest r (subst (MayFollow false (appended c.args.log.now)) whole may));
+      sound = λ pages sound each may. sound_with_record pages c.loop-edit.log c.append_page.new.self r o.log (subst (AllByRecursion IsRecord) first v.each).0 (next_page pages d.0 rest r (subst (AllByRecursion (HasItsPage pages)) whole each))
+          (ap (λ (l : List Record). may_stand false l r) (longer_appended c.args.log.now c.loop-edit.log d.0 d.2) ∙ next_may (appended c.args.log.now) d.0 rest r (subst (MayFollow false (appended c.args.log.now)) whole may)) (v.sound pages sound each may);
     }

@@ -1,10 +1,11 @@
-use Rattle.std.proofs.Common.{rules, ◌≡◌, ◌<◌, ◌≤◌, ◌∙◌, ◌+◌, ◌-◌, ◌*◌, ◌++◌, inl, ℕ, List, length, refl, ap, sym, subst, arith}
+use Rattle.std.proofs.Common.{rules, ◌≡◌, ◌<◌, ◌≤◌, ◌∙◌, ◌+◌, ◌-◌, ◌*◌, ◌++◌, [], inl, ℕ, List, length, refl, ap, sym, subst, arith}
 use Rattle.mt_disk.specs.Disk.{Torn, LeavesOnly, Only}
 use Rattle.mt_disk.proofs.Frame.{follows_less, torn_refl}
-use Rattle.mt_frame.specs.declared.records.Record.{Record}
 use Rattle.mt_log.specs.Area.{TornFrom}
 use Rattle.mt_log.specs.Masters.{IsRuling, area_start, area_size}
-use Rattle.mt_log.specs.Words.{in_flight, waiting}
+use Rattle.mt_log.specs.Batch.{joined}
+use Rattle.mt_log.specs.Seen.{LogSeen}
+use Rattle.mt_log.proofs.Begun.{begun_empty, begun_facts}
 use Rattle.mt_log.proofs.Frames.{frame_none, frame_one, frame_then}
 use Rattle.mt_log.proofs.Turns.{area_within, ruling_fits}
 use Rattle.mt_pool.specs.Images.{slot}
@@ -29,7 +30,7 @@ begin_area-requires g c =
 pub returns : goal.returns
 returns g c = record {
   begun = let ruling = c.args.ruling.now in
-      let e = c.begin_area.ensures in let log = c.in_ok-log.ensures in let p = c.in_ok-pool.ensures in
+      let e = c.begin_area.ensures in let is = c.in_ok-log.ensures.log in let log = begun_facts c.named_by-area.result [] c.in_ok-log.log (is ∙ sym (begun_empty c.named_by-area.result)) in let p = c.in_ok-pool.ensures in
       let a = c.named_by-area.ensures in
       let before = g.D.Device.seen c.args.device.now in
       let after = g.D.Device.seen c.begin_area.new.device in
@@ -41,10 +42,10 @@ returns g c = record {
       ∙ ap (λ (l : List ℕ). slot 8192 l q) c.sync.ensures.seen in
       let synced : Only before (g.D.Device.may_leave c.sync.new.self) = c.in_ok-sync.ensures.durable in
       record {
-        kept = kept_begin g.D.Device.seen g.D.Device.may_leave (slot 8192 before) _ log.on (log.sound _)
+        kept = kept_begin g.D.Device.seen g.D.Device.may_leave (slot 8192 before) _ c.in_ok-log.ensures.on (log.sound _ (tt, tt) tt)
             (omega (arith, p.place, p.pages, log.start, apart)) (omega (arith, p.pages, few))
             p.pool (p.shows after (let w = area_within before ruling c.requires in let size = e.rest.size in omega (arith, apart, w, size, a.end, ap (λ (l : List ℕ). length l) c.sync.ensures.seen)))
-            refl log.durable log.in_flight log.waiting p.waits
+            refl (ap (λ (x : LogSeen). joined x.batches) is) log.none_flies log.none_waits p.waits
             (λ q lt. views q (omega (arith, lt, p.pages)))
             (λ q lt d left. ap (λ (n : ℕ). slot n d q) p.place ∙
             slot_stays _ _ 8192 ruling.pages q before (g.D.Device.may_leave c.sync.new.self) (g.D.Device.may_leave c.begin_area.new.device) synced e.elsewhere apart (omega (arith, lt, p.pages)) d left)
@@ -52,8 +53,8 @@ returns g c = record {
             (rules_on ruling _ _ (g.D.Device.may_leave c.sync.new.self) (g.D.Device.may_leave c.begin_area.new.device) (omega (arith, apart)) e.elsewhere
             (λ d left. subst (λ (x : List ℕ). IsRuling x ruling) (sym (synced d left)) c.requires));
         views = views;
-        none = ap (λ (l : List Record). l ++ (in_flight c.in_ok-log.log ++ waiting c.in_ok-log.log)) log.durable ∙ ap (λ (l : List Record). l ++ waiting c.in_ok-log.log) log.in_flight ∙ log.waiting;
-        used_head = log.used;
+        none = ap (λ (x : LogSeen). joined x.batches ++ (x.flight ++ x.waits)) is;
+        used_head = log.bytes;
         size = log.size ∙ bytes c.named_by-area.result.start c.named_by-area.result.end (area_start ruling) (area_size ruling) a.start a.end;
         page_count = p.pages;
         frame_count = p.frames;

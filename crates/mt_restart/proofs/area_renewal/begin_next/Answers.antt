@@ -1,8 +1,10 @@
-use Rattle.std.proofs.Common.{◌≡◌, ◌-◌, ◌∙◌, ◌∷◌, ℕ, Bool, List, [], length, refl, subst, arith}
+use Rattle.std.proofs.Common.{◌≡◌, ◌-◌, ◌∙◌, ◌∷◌, ℕ, Bool, List, [], length, ap, refl, subst, arith}
 use Rattle.std.specs.List.{AllByRecursion}
 use Rattle.mt_disk.specs.Disk.{Torn}
 use Rattle.mt_log.specs.Batch.{Scans}
 use Rattle.mt_log.specs.Holds.{HasItsPage}
+use Rattle.mt_log.specs.Seen.{landed}
+use Rattle.mt_log.proofs.Begun.{begun_facts}
 use Rattle.mt_log.specs.NextSlot.{next_slot}
 use Rattle.mt_log.specs.Masters.{area_end, area_size, area_start}
 use Rattle.mt_restart.specs.Turned.{AreInPlace, OnlySlots}
@@ -38,7 +40,7 @@ pub returns-clause-begun : goal.returns-clause-begun
 returns-clause-begun g c =
     let D = g.D.Device in let o = c.args.device.now in let w = c.write_and_sync.new.device in let n = c.begin_prepared.new.device in
     let r = c.args.ruling.now in let items = c.args.pages.now in let m = c.args.marks.now in let k = c.requires.marked.1 in let p = c.requires.prepared in let area = p.place in let log = c.in_ok-log.log in
-    let e = c.in_ok-log.ensures.log area m.images.items p.first in
+    let e = begun_facts area m.images.items log (c.in_ok-log.ensures.log ∙ ap landed p.first.seen) in
     let start : area.start ≡ area_start (next_slot r) = p.start in
     let end : area.end ≡ area_end (next_slot r) = p.end in
     let size : area.end - area.start ≡ area_size r = omega (arith, start, end) in

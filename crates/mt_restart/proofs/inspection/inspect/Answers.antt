@@ -14,15 +14,15 @@ returns-clause-surveyed g c = λ relations counters b can.
     let replayed = c.in_ok-replayed.replayed in
     let e = c.in_ok-replayed.ensures in
     if_ok_map c.survey_of.result
-    (λ survey outcome. surveys_shown c.only_own_pages_matter.ensures relations counters b (g.D.Device.seen c.args.device.now) replayed.ruling replayed.figures replayed.restored.pages.items survey e.replayed (e.found relations counters b can) outcome)
+    (λ survey outcome. surveys_shown c.only_own_pages_matter.ensures relations counters b (g.D.Device.seen c.args.device.now) replayed.ruling replayed.restored.pages.items survey e.replayed (e.found relations counters b can) outcome)
     c.survey_of.ensures.surveyed
 
 pub returns-clause-inspected : goal.returns-clause-inspected
 returns-clause-inspected g c =
     let replayed = c.in_ok-replayed.replayed in
     if_ok_map c.survey_of.result
-    (λ survey outcome. inspected_of (g.D.Device.seen c.args.device.now) replayed.ruling replayed.figures replayed.restored.pages.items survey c.in_ok-replayed.ensures.replayed outcome)
+    (λ survey outcome. inspected_of (g.D.Device.seen c.args.device.now) replayed.ruling replayed.restored.pages.items survey c.in_ok-replayed.ensures.replayed outcome)
     c.survey_of.ensures.surveyed
 
 pub returns-clause-unformatted : goal.returns-clause-unformatted
-returns-clause-unformatted g c = λ none. absurd (ruled (g.D.Device.seen c.args.device.now) c.in_ok-replayed.replayed.ruling c.in_ok-replayed.ensures.rules none)
+returns-clause-unformatted g c = λ none. absurd (ruled (g.D.Device.seen c.args.device.now) c.in_ok-replayed.replayed.ruling c.in_ok-replayed.ensures.log.area.rules none)

@@ -1,4 +1,3 @@
-use Rattle.std.proofs.Common.{refl}
 use Rattle.std.proofs.lemmas.Result.{err_from_is_err_and}
 use Rattle.mt_restart.proofs.log_report.report.Goals as goal
 
@@ -8,13 +7,4 @@ returns-in_err-ruling-clause-no_other_refusal g c = λ relations counters b can.
     rw (p.1, p.2) (c.in_err-ruling.ensures.no_other_refusal relations counters b can)
 
 pub returns-clause-outcome : goal.returns-clause-outcome
-returns-clause-outcome g c = record {
-  slot = c.in_ok-ruling.ruling;
-  figures = c.in_ok-ruling.figures;
-  log = c.in_ok-ruling.ensures.log;
-  epoch = refl;
-  area = refl;
-  batches = refl;
-  records = refl;
-  commits = refl;
-}
+returns-clause-outcome g c = c.report_of.ensures (g.D.Device.seen c.args.device.now) c.in_ok-ruling.ensures.log

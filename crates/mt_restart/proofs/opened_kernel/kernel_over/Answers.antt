@@ -1,6 +1,7 @@
 use Rattle.std.proofs.Common.{◌∙◌, length, sym, ap, subst}
 use Rattle.mt_base.specs.Limits.{IsRelationCount}
 use Rattle.mt_index.specs.Checks.{bytes_of}
+use Rattle.mt_op.specs.Operations.{operation_frames}
 use Rattle.mt_op.specs.declared.operations.Operations.{Operations}
 use Rattle.mt_restart.proofs.Based.{base_of_good}
 use Rattle.mt_restart.proofs.opened_kernel.kernel_over.Goals as goal
@@ -34,3 +35,6 @@ returns-clause-ruling g c = ap (λ (o : Operations g.row.D.Denot). o.store.rulin
 
 pub returns-clause-well : goal.returns-clause-well
 returns-clause-well g c = c.assemble.ensures.fails ∙ c.parts_over-operations.ensures.well
+
+pub returns-clause-frames : goal.returns-clause-frames
+returns-clause-frames g c = λ n found. ap (λ (o : Operations g.row.D.Denot). operation_frames o) c.assemble.ensures.operations ∙ c.parts_over-operations.ensures.frames n found

@@ -3,10 +3,10 @@ use Rattle.mt_base.specs.declared.refusal.Refusal.{Refusal}
 use Rattle.mt_disk.specs.Disk.{LeavesOnly}
 use Rattle.mt_index.specs.Checks.{bytes_of}
 use Rattle.mt_restart.proofs.Based.{base_of_good}
-use Rattle.mt_restart.proofs.Calls.{not_refused, refused_so}
+use Rattle.mt_restart.proofs.Refusals.{not_refused, refused_so}
 use Rattle.mt_restart.proofs.Opened.{base_in_bounds, opened_as}
 use Rattle.mt_restart.proofs.Counted.{begins_on}
-use Rattle.mt_restart.proofs.Founded.{never_full}
+use Rattle.mt_restart.proofs.Unlost.{never_full}
 use Rattle.mt_restart.specs.Recovered.{StandsStill}
 use Rattle.mt_restart.proofs.opened_kernel.open.Goals as goal
 
@@ -74,3 +74,6 @@ returns-in-Err-clause-quiet g c = λ not. c.recover.ensures.quiet (refused_so c.
 
 pub returns-in-Ok-clause-once : goal.returns-in-Ok-clause-once
 returns-in-Ok-clause-once g c = λ slot rules. c.kernel_over.ensures.ruling ∙ c.in-Ok.ensures.next slot rules
+
+pub returns-in-Ok-clause-frames : goal.returns-in-Ok-clause-frames
+returns-in-Ok-clause-frames g c = c.kernel_over.ensures.frames c.args.frames c.in-Ok.ensures.recovered

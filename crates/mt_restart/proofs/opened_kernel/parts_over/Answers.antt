@@ -2,6 +2,7 @@ use Rattle.std.proofs.Common.{◌≡◌, ◌∙◌, length, ap, sym, arith}
 use Rattle.mt_index.specs.Checks.{bytes_of}
 use Rattle.mt_log.specs.Words.{has_failed}
 use Rattle.mt_op.specs.Begun.{ShowsOpening}
+use Rattle.mt_pool.specs.Begun.{store_frames}
 use Rattle.mt_pool.specs.Kept.{IsKept}
 use Rattle.mt_pool.specs.Views.{pages}
 use Rattle.mt_pool.specs.declared.store.Store.{Store}
@@ -43,5 +44,6 @@ returns g c =
       opens = λ b holds bounds. opens_again seen may r.0 d v r.1 s o.log many kept shows c.join.result j.store j.locks j.claimed j.right b holds bounds;
       device = ap (λ (x : Store g.row.D.Denot). x.device) c.join.ensures.store ∙ c.over_images-store.ensures.device;
       ruling = ap (λ (x : Store g.row.D.Denot). x.ruling) c.join.ensures.store ∙ c.over_images-store.ensures.ruling;
+      frames = λ n found. ap (λ (x : Store g.row.D.Denot). store_frames x) j.store ∙ o.frames ∙ found.beside.many;
       well = ap (λ (x : Store g.row.D.Denot). has_failed x.log) j.store ∙ ap has_failed o.log ∙ r.1.turned.next.well;
     }

@@ -8,7 +8,7 @@ use Rattle.mt_restart.specs.Found.{AreMarked, CanTurn, IsPrepared}
 use Rattle.mt_restart.specs.Recovered.{IsCauseToStop}
 use Rattle.mt_restart.specs.Turned.{AreImagesOf}
 use Rattle.mt_restart.specs.declared.restart_writes.Marks.{Marks}
-use Rattle.mt_restart.proofs.Calls.{one_outcome}
+use Rattle.mt_log.proofs.Calls.{one_outcome}
 use Rattle.mt_restart.proofs.recovery.find.Goals as goal
 
 -- the marks of the passes, with the images of the lost pages
@@ -57,7 +57,6 @@ returns-then-not-can_turn g c = record {
         refl,
         record {
           ruling = x.ruling;
-          figures = x.figures;
           items = x.restored.pages.items;
           batches = r.marked.batches;
           marks = record { imaged = x.imaged; lost = x.lost; images = c.in_ok-images.images };
@@ -93,7 +92,7 @@ pub returns : goal.returns
 returns g c = record {
   found = let D = g.D.Device in let x = c.in_ok-replayed.replayed in let r = c.in_ok-replayed.ensures in
       record {
-        restored = record { slot = x.ruling; figures = x.figures; replayed = r.replayed };
+        restored = record { slot = x.ruling; replayed = r.replayed };
         batches = r.marked.batches;
         marked = marks_are (D.seen c.args.device.now) x.ruling x.restored.pages.items c.deref.result.now (record { imaged = x.imaged; lost = x.lost; images = c.in_ok-images.images }) c.changed.result.now c.deref.ensures.value c.changed.ensures r.marked c.in_ok-images.ensures.images;
         turns = subst (CanTurn x.ruling) c.deref-2.ensures.value (c.can_turn.ensures.0 c.if-not-can_turn.false);

@@ -4,7 +4,7 @@ use Rattle.mt_replay.specs.Stands.{CanRestart}
 use Rattle.mt_restart.specs.Found.{HasTurned}
 use Rattle.mt_restart.specs.Recovered.{AreRestored, IsCauseToStop}
 use Rattle.mt_base.specs.declared.refusal.Refusal.{Refusal}
-use Rattle.mt_restart.proofs.Calls.{not_either}
+use Rattle.mt_restart.proofs.Refusals.{not_either}
 use Rattle.mt_log.specs.Masters.{IsRuling}
 use Rattle.mt_log.specs.NextSlot.{next_slot}
 use Rattle.mt_restart.proofs.Ruled.{one_rules}

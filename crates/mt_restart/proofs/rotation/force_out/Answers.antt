@@ -3,7 +3,7 @@ use Rattle.mt_base.specs.declared.refusal.Refusal.{Refusal}
 use Rattle.mt_log.specs.Words.{durable}
 use Rattle.std.proofs.lemmas.Result.{err_from_is_err_and}
 use Rattle.mt_txn.proofs.GoingOn.{nobody_still}
-use Rattle.mt_restart.proofs.Calls.{not_either, not_refused}
+use Rattle.mt_restart.proofs.Refusals.{not_either, not_refused}
 use Rattle.mt_restart.proofs.Rotations.{IsNear, force_cause, grows_forced, idle_durable, keeps_forced, keeps_itself, near_forced, near_start}
 use Rattle.mt_restart.proofs.rotation.force_out.Goals as goal
 

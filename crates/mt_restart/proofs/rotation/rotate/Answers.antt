@@ -1,6 +1,7 @@
 use Rattle.std.proofs.Common.{◌∙◌, inl, inr, refl, sym}
 use Rattle.mt_base.specs.declared.refusal.Refusal.{Refusal}
-use Rattle.mt_restart.proofs.Calls.{not_refused, one_outcome, refused_so}
+use Rattle.mt_log.proofs.Calls.{one_outcome}
+use Rattle.mt_restart.proofs.Refusals.{not_refused, refused_so}
 use Rattle.mt_restart.proofs.EarlyCauses.{early_busy, early_failed, early_none}
 use Rattle.mt_restart.proofs.Rotations.{found_behind, keeps_itself, rotates_behind}
 use Rattle.mt_restart.proofs.rotation.rotate.Goals as goal
@@ -51,3 +52,6 @@ returns-in-Err-clause-rotated g c =
 
 pub returns-in-Err-clause-moments : goal.returns-in-Err-clause-moments
 returns-in-Err-clause-moments g c = λ first starts. c.force_out.ensures.keeps.found first starts c.args.kernel.schema
+
+pub returns-in-Ok-clause-frames : goal.returns-in-Ok-clause-frames
+returns-in-Ok-clause-frames g c = c.turn_over.ensures.frames

@@ -8,11 +8,12 @@ use Rattle.mt_log.specs.Masters.{IsRuling}
 use Rattle.mt_model.specs.History.{after}
 use Rattle.mt_model.specs.Model.{Base}
 use Rattle.mt_op.specs.Begun.{AreImages}
+use Rattle.mt_op.specs.Operations.{operation_frames}
 use Rattle.mt_op.specs.declared.operations.Operations.{Operations}
 use Rattle.mt_txn.specs.Restarted.{FindsMeanwhile}
 use Rattle.mt_txn.specs.Shown.{Restarts}
 use Rattle.mt_restart.specs.Recovered.{IsRecovered}
-use Rattle.mt_restart.proofs.Calls.{not_refused, refused_so}
+use Rattle.mt_restart.proofs.Refusals.{not_refused, refused_so}
 use Rattle.mt_restart.proofs.Opened.{base_in_bounds}
 use Rattle.mt_restart.proofs.EarlyCauses.{early_none}
 use Rattle.mt_restart.proofs.Rotations.{can_attach, device_now, device_was, fails_as, fault_cause, found_over, goes_on, goes_over, keeps_attached, represents, rest_of, stop_cause}
@@ -108,5 +109,11 @@ returns-in_default g c =
         );
         quiet = λ not. ap D.faults now ∙ c.recover.ensures.quiet (refused_so c.recover.result c.in-Err.refusal Refusal.DeviceFailed c.in-Err.is not) ∙ ap D.faults (device_was k rest d is);
       };
+      frames = λ wrong. absurd cc;
       moments = found;
     }
+
+pub returns-in-Ok-clause-frames : goal.returns-in-Ok-clause-frames
+returns-in-Ok-clause-frames g c = λ _.
+    let found = subst (λ (d : _). IsRecovered g.D.Device.seen g.D.Device.may_leave c.args.frames d c.in-Ok.recovered) (sym c.part-device.ensures.device) c.in-Ok.ensures.recovered in
+    ap (λ (o : Operations g.row.D.Denot). operation_frames o) c.join-kernel.ensures.operations ∙ c.parts_over-operations.ensures.frames c.args.frames found

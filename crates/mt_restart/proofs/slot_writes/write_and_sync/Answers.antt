@@ -1,7 +1,7 @@
 use Rattle.std.proofs.Common.{rules, sym, subst}
 use Rattle.mt_disk.proofs.Frame.{goes_on}
 use Rattle.mt_restart.specs.Turned.{AreInPlace, ButForSlots}
-use Rattle.mt_restart.proofs.Calls.{if_ok}
+use Rattle.mt_log.proofs.Calls.{if_ok}
 use Rattle.mt_restart.proofs.slot_writes.write_and_sync.Goals as goal
 
 pub returns : goal.returns

@@ -10,5 +10,5 @@ returns-in-Ok-clause-begins c = ∣ record {
   unused = c.new-device.ensures.taken;
   kernel = c.in-Ok.kernel;
   begun = c.in-Ok.ensures.begun;
-  took = sym (c.taken.ensures ∙ ap (λ (d : StoppingDevice MemDevice). taken_by d) c.into_device.ensures);
+  took = sym (c.taken.ensures ∙ ap (λ (d : StoppingDevice MemDevice). taken_by d) c.into_device.ensures.device);
 } ∣₁

@@ -19,8 +19,8 @@ commits_reported-requires c = record { same = ap (λ (as' : List Answer). length
 pub returns-clause-run : goal.returns-clause-run
 returns-clause-run c =
     let standing = c.in-Ok.made.0 in let content = c.in_ok-content.content.items in
-    let there : c.into_inner-device.result ≡ below (device_at standing) = c.into_inner-device.ensures ∙ ap below c.into_device-stopped.ensures in
-    let stops : StopsAt c.args.limit (device_at standing) = subst (λ (d : StoppingDevice MemDevice). StopsAt c.args.limit d) c.into_device-stopped.ensures (subst (λ (l : ℕ). StopsAt l c.into_device-stopped.result) c.if-limit.false c.limit.ensures.stops) in
+    let there : c.into_inner-device.result ≡ below (device_at standing) = c.into_inner-device.ensures ∙ ap below c.into_device-stopped.ensures.device in
+    let stops : StopsAt c.args.limit (device_at standing) = subst (λ (d : StoppingDevice MemDevice). StopsAt c.args.limit d) c.into_device-stopped.ensures.device (subst (λ (l : ℕ). StopsAt l c.into_device-stopped.result) c.if-limit.false c.limit.ensures.stops) in
     let may : MayLeave (below (device_at standing)) content = subst (λ (d : MemDevice). MayLeave d content) there c.in_ok-content.ensures.may in
     let left : LeftBy (below (device_at standing)) c.args.fill content = subst (λ (d : MemDevice). LeftBy d c.args.fill content) there c.in_ok-content.ensures.exact in
     crash_of (λ d t x le now. inl now) (λ d x since. only_present d.device.state d.device.past.items x since) c.args.schema.now c.new-device.result c.args.events.now c.in-Ok.made.1.items standing c.args.limit c.args.fill _

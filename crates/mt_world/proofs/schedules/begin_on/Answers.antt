@@ -2,8 +2,8 @@ use Rattle.std.proofs.Common.{◌≡◌, ◌<◌, ◌∙◌, inl, inr, ⊎_elim,
 use Rattle.mt_base.specs.declared.refusal.Refusal.{Refusal}
 use Rattle.mt_base.specs.declared.refusal.Refusal.TheVariants as refusal
 use Rattle.mt_disk.proofs.Frame.{leaves_more}
-use Rattle.mt_restart.specs.Formats.{FormatBegins}
-use Rattle.mt_restart.specs.Schemas.{counters_in, device_bytes, relations_in, schema_base}
+use Rattle.mt_format.specs.Formats.{FormatBegins}
+use Rattle.mt_format.specs.Schemas.{counters_in, device_bytes, relations_in, schema_base}
 use Rattle.mt_world.proofs.BeginLemmas.{begun_of, cause_of, if_ok, left_of, long_of}
 use Rattle.mt_world.specs.Crashes.{BeginsOrStands, HasFormatted, StandsFirst}
 use Rattle.mt_world.proofs.schedules.begin_on.Goals as goal

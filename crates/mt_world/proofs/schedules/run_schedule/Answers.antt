@@ -1,5 +1,5 @@
 use Rattle.std.proofs.Common.{ℕ, subst}
-use Rattle.mt_restart.specs.Schemas.{relations_in, schema_base}
+use Rattle.mt_format.specs.Schemas.{relations_in, schema_base}
 use Rattle.mt_world.specs.Schedules.{HasRunTo}
 use Rattle.mt_world.proofs.BeginLemmas.{from_format}
 use Rattle.mt_world.proofs.schedules.run_schedule.Goals as goal

@@ -17,6 +17,10 @@ use Rattle.mt_core.proofs.Leaving.{gone_in, gone_closed}
 use Rattle.mt_core.proofs.Resting.{rests_in}
 use Rattle.mt_core.proofs.Underway.{runs_none}
 use Rattle.mt_live.specs.Lives.{member_of}
+use Rattle.mt_frame.specs.declared.records.Record.TheVariants as record_of
+use Rattle.mt_log.specs.Batch.{joined}
+use Rattle.mt_log.specs.Seen.{LogSeen, bytes_in}
+use Rattle.mt_pool.proofs.Logged.{longer_used}
 use Rattle.mt_log.specs.Words.{appended}
 use Rattle.mt_core.proofs.Sounds.{opening_of, named_of, unended_of}
 use Rattle.mt_core.proofs.Aborted.{may_end}
@@ -37,9 +41,9 @@ overflow_sub-self g c = ∥∥₁_elim c.requires.safe (hlevel props) (λ (origi
 
 pub returns-in_err-append-clause-err : goal.returns-in_err-append-clause-err
 returns-in_err-append-clause-err g c = λ origin base safe. let p = err_from_is_err_and c.from_residual.result c.from_residual.ensures.1 in let k = c.args.self.now in let e = c.append.ensures in let f = c.in_err-append.ensures in
-    let same = f.err_used in
+    let same = ap bytes_in f.err in
     subst (λ r. OnErr r (IsIn g.D.Device.seen g.D.Device.may_leave origin base (state_of k base) (record k { operations = c.append.new.self }))) (sym p.1)
-    (rests_in g.D.Device.seen g.D.Device.may_leave origin base k (record k { operations = c.append.new.self }) safe (e.right origin.pages origin.relations origin.counters safe.fit.right) (f.rests origin.pages) e.claimed (omega arith) e.area)
+    (rests_in g.D.Device.seen g.D.Device.may_leave origin base k (record k { operations = c.append.new.self }) safe (e.right origin.pages origin.relations origin.counters safe.fit.right) (f.rests origin.pages) e.claimed (omega arith) (ap (λ (x : LogSeen). x.end - x.start) f.err))
 
 pub returns-clause-gone : goal.returns-clause-gone
 returns-clause-gone g c = λ origin base safe. let k = c.args.self.now in let e = c.append.ensures in let f = c.in_ok-append.ensures in let m = c.leave.ensures in
@@ -51,7 +55,7 @@ returns-clause-gone g c = λ origin base safe. let k = c.args.self.now in let e 
     let gone_now = gone_in seen may_leave origin base k z c.args.txn safe c.requires.at_work c.requires.idle c.requires.nothing m.standing m.member m.begun m.count c.release.ensures.released refl
     (sym (none_pending origin.first (state_of k base) c.args.txn safe.fit.kept idle c.requires.nothing)) (omega arith) in
     let low = txn_low seen may_leave origin base k c.args.txn safe.fit c.requires.at_work in
-    let log = safe.fit.log in let now = f.used in let area = e.area in
+    let log = safe.fit.log in let now = longer_used k.operations.store.log c.append.new.self.store.log (record_of.AbortEnd c.args.txn) f.log in let area = ap (λ (x : LogSeen). x.end - x.start) f.log in
     let ended_now = ended_in seen may_leave origin base z (record z { operations = c.append.new.self }) c.args.txn gone_now.consistent closed (subst (λ n. c.args.txn ≤ n) (sym m.begun) low) c.requires.idle
     (e.right origin.pages origin.relations origin.counters safe.fit.right) (f.notes origin.pages) (λ u ku apart. e.others origin.pages origin.relations origin.counters u ku apart) e.claimed (omega arith) in
     record { consistent = ended_now.consistent; state = gone_now.state ∙ ended_now.state }
@@ -84,13 +88,13 @@ returns-in_err-append-clause-err_left g c = let k = c.args.self.now in let p = e
 
 pub returns-in_err-append-clause-restartable : goal.returns-in_err-append-clause-restartable
 returns-in_err-append-clause-restartable g c = λ origin base later safe_k safe_n r. let k = c.args.self.now in
-    rests_same g.D.Device.seen g.D.Device.may_leave origin k (record k { operations = c.append.new.self }) base later safe_k safe_n (c.in_err-append.ensures.rests origin.pages) c.append.ensures.area
-    (lasts_same k (record k { operations = c.append.new.self }) c.append.ensures.durable) (record { book = refl; commits = refl }) refl r
+    rests_same g.D.Device.seen g.D.Device.may_leave origin k (record k { operations = c.append.new.self }) base later safe_k safe_n (c.in_err-append.ensures.rests origin.pages) (ap (λ (x : LogSeen). x.end - x.start) c.in_err-append.ensures.err)
+    (lasts_same k (record k { operations = c.append.new.self }) (ap (λ (x : LogSeen). joined x.batches) c.in_err-append.ensures.err)) (record { book = refl; commits = refl }) refl r
 
 pub returns-clause-restartable : goal.returns-clause-restartable
 returns-clause-restartable g c = λ origin base later safe_k safe_n r. let k = c.args.self.now in let f = c.in_ok-append.ensures in let m = c.leave.ensures in
     let n : Core g.row.D.Denot = record k { operations = c.append.new.self; live = c.leave.new.self; locks = c.release.new.self; reserved = k.reserved - 128 } in
-    aborted g.D.Device.seen g.D.Device.may_leave origin k n base later c.args.txn safe_k safe_n (record { total = (f.notes origin.pages).area.total; bytes = c.append.ensures.area; lasts = lasts_same k n c.append.ensures.durable }) (f.notes origin.pages).records m.member m.count m.standing (record { book = refl; commits = refl }) c.requires.at_work c.requires.nothing r
+    aborted g.D.Device.seen g.D.Device.may_leave origin k n base later c.args.txn safe_k safe_n (record { total = (f.notes origin.pages).area.total; bytes = ap (λ (x : LogSeen). x.end - x.start) f.log; lasts = lasts_same k n (ap (λ (x : LogSeen). joined x.batches) f.log) }) (f.notes origin.pages).records m.member m.count m.standing (record { book = refl; commits = refl }) c.requires.at_work c.requires.nothing r
 
 pub returns-in_err-append-clause-locks : goal.returns-in_err-append-clause-locks
 returns-in_err-append-clause-locks g c = (c.in_err-append.ensures.rests (λ p. [])).locks

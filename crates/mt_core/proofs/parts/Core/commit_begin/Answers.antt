@@ -10,6 +10,9 @@ use Rattle.mt_core.proofs.Committing.{committing_in}
 use Rattle.mt_core.proofs.Enough.{end_enough}
 use Rattle.mt_core.proofs.Resting.{rests_in}
 use Rattle.mt_core.proofs.Rooms.{rooms_in}
+use Rattle.mt_log.specs.Batch.{joined}
+use Rattle.mt_log.specs.Seen.{LogSeen, bytes_in}
+use Rattle.mt_pool.proofs.Logged.{longer_used}
 use Rattle.mt_log.specs.Words.{appended, durable, in_flight, waiting}
 use Rattle.mt_core.proofs.Sounds.{opening_of, named_of, unended_of}
 use Rattle.mt_core.proofs.Committing.{may_commit}
@@ -33,8 +36,8 @@ pub returns-in_err-place-clause-state : goal.returns-in_err-place-clause-state
 returns-in_err-place-clause-state g c = λ origin base safe. let k = c.args.self.now in let a = c.reserve.ensures in let b = c.reserve-2.ensures in let e = c.append.ensures in let f = c.in_err-place.ensures in
     let z : Core g.row.D.Denot = record k { commits = c.reserve.new.self; book = c.reserve-2.new.self } in
     let roomier = rooms_in g.D.Device.seen g.D.Device.may_leave origin base k z safe refl a.items b.items b.len b.capacity in
-    let same = f.err_used in
-    let rests = rests_in g.D.Device.seen g.D.Device.may_leave origin base z (record z { operations = c.append.new.self }) roomier.consistent (e.right origin.pages origin.relations origin.counters safe.fit.right) (f.rests origin.pages) e.claimed (omega arith) e.area in
+    let same = ap bytes_in f.err in
+    let rests = rests_in g.D.Device.seen g.D.Device.may_leave origin base z (record z { operations = c.append.new.self }) roomier.consistent (e.right origin.pages origin.relations origin.counters safe.fit.right) (f.rests origin.pages) e.claimed (omega arith) (ap (λ (x : LogSeen). x.end - x.start) f.err) in
     record { consistent = rests.consistent; state = roomier.state ∙ rests.state }
 
 pub overflow_sub-self : goal.overflow_sub-self
@@ -49,12 +52,12 @@ returns-clause-state g c = λ origin base safe. let k = c.args.self.now in let a
     let enough = end_enough seen may_leave origin base k c.args.txn safe.fit c.requires.at_work in
     let records = ap (λ (rs : List Record). length rs) (f.notes origin.pages).records in
     let more = length_push (appended k.operations.store.log) (record_of.Commit c.args.txn) in
-    let place = f.place in let now = f.used in
+    let place = f.place in let now = longer_used k.operations.store.log c.append.new.self.store.log (record_of.Commit c.args.txn) f.log in
     let pushed : n.commits.items ≡ k.commits.items ++ it ∷ [] = p.items ∙ (λ i. a.items i ++ it ∷ []) in
     let count = ap (λ (cs : List Commit). length cs) pushed in let count_now = length_push k.commits.items it in
     let room = ok.ok in let len = c.len.ensures in let same_len = b.len in let old = ap (λ (cs : List Commit). length cs) a.items in
     committing_in seen may_leave origin base k n it safe c.requires.at_work c.requires.idle (e.right origin.pages origin.relations origin.counters safe.fit.right) (f.notes origin.pages)
-    (λ u ku apart. e.others origin.pages origin.relations origin.counters u ku apart) e.claimed (omega arith) e.area m.member m.begun m.standing m.count pushed (omega arith) b.items (omega arith) (omega arith)
+    (λ u ku apart. e.others origin.pages origin.relations origin.counters u ku apart) e.claimed (omega arith) (ap (λ (x : LogSeen). x.end - x.start) f.log) m.member m.begun m.standing m.count pushed (omega arith) b.items (omega arith) (omega arith)
 
 pub append-requires-clause-kept : goal.append-requires-clause-kept
 append-requires-clause-kept g c = opening_of g.D.Device.seen g.D.Device.may_leave c.args.self.now c.requires.safe
@@ -74,10 +77,11 @@ returns-clause-queue g c = let it : Commit = record { txn = c.args.txn; place = 
 pub returns-in_err-place-clause-restartable : goal.returns-in_err-place-clause-restartable
 returns-in_err-place-clause-restartable g c = λ origin base later safe_k safe_n r. let k = c.args.self.now in
     let n : Core g.row.D.Denot = record k { operations = c.append.new.self; commits = c.reserve.new.self; book = c.reserve-2.new.self } in
-    rests_same g.D.Device.seen g.D.Device.may_leave origin k n base later safe_k safe_n (c.in_err-place.ensures.rests origin.pages) c.append.ensures.area (lasts_same k n c.append.ensures.durable) (record { book = c.reserve-2.ensures.items; commits = c.reserve.ensures.items }) refl r
+    rests_same g.D.Device.seen g.D.Device.may_leave origin k n base later safe_k safe_n (c.in_err-place.ensures.rests origin.pages) (ap (λ (x : LogSeen). x.end - x.start) c.in_err-place.ensures.err) (lasts_same k n (ap (λ (x : LogSeen). joined x.batches) c.in_err-place.ensures.err)) (record { book = c.reserve-2.ensures.items; commits = c.reserve.ensures.items }) refl r
 
 pub returns-clause-restartable : goal.returns-clause-restartable
 returns-clause-restartable g c = λ origin base later safe_k safe_n r. let k = c.args.self.now in let a = c.reserve.ensures in let b = c.reserve-2.ensures in let f = c.in_ok-place.ensures in let m = c.set_state.ensures in let p = c.push_reserved.ensures in
+    let same = ap (λ (x : LogSeen). joined x.batches) f.log in
     let it : Commit = record { txn = c.args.txn; place = c.in_ok-place.place } in
     let n : Core g.row.D.Denot = record k { operations = c.append.new.self; live = c.set_state.new.self; commits = c.push_reserved.new.self; book = c.reserve-2.new.self; reserved = k.reserved - 14 } in
     let pushed : n.commits.items ≡ k.commits.items ++ it ∷ [] = p.items ∙ (λ i. a.items i ++ it ∷ []) in
@@ -86,5 +90,5 @@ returns-clause-restartable g c = λ origin base later safe_k safe_n r. let k = c
     let front = length-append (durable k.operations.store.log) (in_flight k.operations.store.log ++ waiting k.operations.store.log) in
     let place = f.place in
     let behind : length (durable k.operations.store.log) < it.place = omega (arith, place, records, more, front) in
-    committed g.D.Device.seen g.D.Device.may_leave origin k n base later it safe_k safe_n (record { total = (f.notes origin.pages).area.total; bytes = c.append.ensures.area; lasts = lasts_same k n c.append.ensures.durable }) (f.notes origin.pages).records m.member m.count m.standing b.items pushed c.requires.at_work
-    c.append.ensures.durable behind r
+    committed g.D.Device.seen g.D.Device.may_leave origin k n base later it safe_k safe_n (record { total = (f.notes origin.pages).area.total; bytes = ap (λ (x : LogSeen). x.end - x.start) f.log; lasts = lasts_same k n same }) (f.notes origin.pages).records m.member m.count m.standing b.items pushed c.requires.at_work
+    same behind r

@@ -43,7 +43,7 @@ overflow_sub-self g c = ∥∥₁_elim c.requires.cleared (hlevel props) (λ (or
     let owned : IsOwned k.live.members k.live.standing r = subst (IsOwned k.live.members k.live.standing) (sym y.alone.there) (y.fit.owned c.args.place r y.alone.within) in
     let copy : undo_bytes c.drop_out-op.result ≡ undo_bytes r.op = ap undo_bytes c.drop_out-op.ensures.op in
     let enough = kept_enough g.D.Device.seen g.D.Device.may_leave origin base k c.args.place r y.fit y.alone.within y.alone.there fore in
-    let bytes = c.bytes_to_undo.ensures in omega arith)
+    let bytes = c.log_bytes_for.ensures in omega arith)
 
 pub returns : goal.returns
 returns g c = record {
@@ -65,11 +65,11 @@ returns g c = record {
       let ended = ended_given seen g.D.Device.may_leave origin.pages origin.relations origin.counters k.operations c.drop_out-op.new.self c.give_back.new.self r
       (record { right = right; held = e.held origin.pages; others = λ u ku other. e.others origin.pages origin.relations origin.counters u ku other; locks = e.locks; store = e.store })
       (f.right origin.pages origin.relations origin.counters right) f.store f.locks in
-      let n : Core g.row.D.Denot = record k { operations = c.give_back.new.self; running = c.remove-scope.new.self; escrow = c.let_go.new.escrow; reserved = k.reserved - c.bytes_to_undo.result } in
+      let n : Core g.row.D.Denot = record k { operations = c.give_back.new.self; running = c.remove-scope.new.self; escrow = c.let_go.new.escrow; reserved = k.reserved - c.log_bytes_for.result } in
       let enough = kept_enough seen g.D.Device.may_leave origin base k c.args.place r y.fit y.alone.within y.alone.there fore in
       let copy : undo_bytes c.drop_out-op.result ≡ undo_bytes r.op = ap undo_bytes e.op in
       let copy_pages : undo_pages c.op-2.result.now ≡ undo_pages r.op = ap undo_pages c.op-2.ensures in
-      let bytes = c.bytes_to_undo.ensures in
+      let bytes = c.log_bytes_for.ensures in
       let here : r ≡ x = c.remove-scope.ensures.value ∙ sym (get_or_default k.running.items c.args.place x r y.alone.within) ∙ sym is in
       subst (λ (z : OpScope). DropsIn seen g.D.Device.may_leave origin base (state_of k base) n z.txn) here
       (dropped_in seen g.D.Device.may_leave origin base k n c.args.place r y fore c.remove-scope.ensures.items ended (omega arith) (omega arith)

@@ -44,7 +44,7 @@ overflow_sub-self-2 g c = ∥∥₁_elim c.requires.ready (hlevel props) (λ (or
     let owned : IsOwned k.live.members k.live.standing r = subst (IsOwned k.live.members k.live.standing) (sym y.alone.there) (y.fit.owned c.args.place r y.alone.within) in
     let copy : undo_bytes c.end-op.result ≡ undo_bytes r.op = ap undo_bytes c.end-op.ensures.op in
     let enough = kept_enough g.D.Device.seen g.D.Device.may_leave origin base k c.args.place r y.fit y.alone.within y.alone.there fore in
-    let bytes = c.bytes_to_undo.ensures in omega arith)
+    let bytes = c.log_bytes_for.ensures in omega arith)
 
 pub note-requires : goal.note-requires
 note-requires g c = record {
@@ -74,14 +74,14 @@ returns g c = record {
       let ended_now = ended_given seen g.D.Device.may_leave origin.pages origin.relations origin.counters k.operations c.end-op.new.self c.give_back.new.self r
       (record { right = right; held = e.held origin.pages; others = λ u ku other. e.others origin.pages origin.relations origin.counters u ku other; locks = e.locks; store = e.store })
       (f.right origin.pages origin.relations origin.counters right) f.store f.locks in
-      let n : Core g.row.D.Denot = record k { operations = c.give_back.new.self; live = c.note.new.self; running = c.remove-scope.new.self; reserved = k.reserved - (c.bytes_to_undo.result - c.bytes_kept.result) } in
+      let n : Core g.row.D.Denot = record k { operations = c.give_back.new.self; live = c.note.new.self; running = c.remove-scope.new.self; reserved = k.reserved - (c.log_bytes_for.result - c.bytes_kept.result) } in
       let entry : Entry = record { txn = r.txn; op = r.op; reply = c.args.reply } in
       let copy_pages : undo_pages c.end-op.result ≡ undo_pages r.op = ap undo_pages e.op in
       let copy_bytes : undo_bytes c.end-op.result ≡ undo_bytes r.op = ap undo_bytes e.op in
       let less_pages = weighs_less undo_pages entry in let less_bytes = weighs_less undo_bytes entry in
       let claimed_enough = undo_claimed seen g.D.Device.may_leave origin base k c.args.place r y.alone.within y.alone.there fore y.claims in
       let enough = kept_enough seen g.D.Device.may_leave origin base k c.args.place r y.fit y.alone.within y.alone.there fore in
-      let pages = c.pages_to_undo.ensures.pages in let stay_pages : c.pages_kept.result ≡ call_pages (r.op, c.args.reply) = c.pages_kept.ensures ∙ ap (λ (o : Op). call_pages (o, c.args.reply)) e.op in let bytes = c.bytes_to_undo.ensures in let stay_bytes : c.bytes_kept.result ≡ call_bytes (r.op, c.args.reply) = c.bytes_kept.ensures ∙ ap (λ (o : Op). call_bytes (o, c.args.reply)) e.op in
+      let pages = c.pages_to_undo.ensures.pages in let stay_pages : c.pages_kept.result ≡ call_pages (r.op, c.args.reply) = c.pages_kept.ensures ∙ ap (λ (o : Op). call_pages (o, c.args.reply)) e.op in let bytes = c.log_bytes_for.ensures in let stay_bytes : c.bytes_kept.result ≡ call_bytes (r.op, c.args.reply) = c.bytes_kept.ensures ∙ ap (λ (o : Op). call_bytes (o, c.args.reply)) e.op in
       let same = e.claimed in let back = f.claimed in
       let here : r ≡ x = c.remove-scope.ensures.value ∙ sym (get_or_default k.running.items c.args.place x r y.alone.within) ∙ sym is in
       subst (λ (z : OpScope). IsIn seen g.D.Device.may_leave origin (base_after base z.op) (ended (state_of k base) z.txn z.op) n) here
@@ -90,7 +90,7 @@ returns g c = record {
       (subst (λ (X : Type 0). X) (λ i. IsChanged k.live.members c.note.new.self.members (c.txn-txn.ensures i) (λ z. with_call z (c.number-number.ensures i) (c.end-op.ensures.op i, c.args.reply))) m.member) m.begun m.count);
   notes = λ x is.
       let r = c.remove-scope.result in let m = c.note.ensures in let k = c.args.self.now in
-      let n : Core g.row.D.Denot = record k { operations = c.give_back.new.self; live = c.note.new.self; running = c.remove-scope.new.self; reserved = k.reserved - (c.bytes_to_undo.result - c.bytes_kept.result) } in
+      let n : Core g.row.D.Denot = record k { operations = c.give_back.new.self; live = c.note.new.self; running = c.remove-scope.new.self; reserved = k.reserved - (c.log_bytes_for.result - c.bytes_kept.result) } in
       let here : r ≡ x = c.remove-scope.ensures.value ∙ sym (get_or_default k.running.items c.args.place x r c.requires.within) ∙ sym is in
       subst (λ (z : OpScope). NotesEnd k n z c.args.reply) here (record {
         same = record { book = refl; commits = refl };

@@ -1,5 +1,4 @@
 use Rattle.std.proofs.Common.{rules, ◌≡◌, ◌∙◌, ◌+◌, ◌*◌, ℕ, refl, ap, sym, subst, arith}
-use Rattle.mt_model.specs.Model.{IsWithin}
 use Rattle.mt_op.proofs.Driving.{fresh_same}
 use Rattle.mt_op.specs.Operations.{world, claimed}
 use Rattle.mt_op.specs.World.{IsFresh}
@@ -7,7 +6,6 @@ use Rattle.mt_steps.specs.Plans.{own_needs, undo_pages}
 use Rattle.mt_core.specs.Consistent.{without_call}
 use Rattle.mt_core.specs.Runs.{undo_bytes}
 use Rattle.mt_core.specs.declared.parts.Core.{Core}
-use Rattle.mt_op.specs.declared.scope.OpScope.{OpScope}
 use Rattle.mt_core.proofs.Calling.{called_in, next_fresh, needs_few}
 use mathlib.Core.Logic.{∥∥₁_elim}
 use Rattle.std.proofs.Common.{◌<◌, ◌≤◌}
@@ -29,7 +27,7 @@ returns-then-not-takes g c = record {
   may = search rules;
   cause = λ origin base locks escrow granted. let k = c.args.self.now in let seen = g.D.Device.seen in
       let pages : c.pages_for.result + c.pages_to_undo.result ≡ pages_asked c.args.op c.args.split = (λ i. c.pages_for.ensures i + c.pages_to_undo.ensures.pages i) in
-      let bytes : c.bytes_to_undo-bytes.result ≡ undo_bytes c.args.op = c.bytes_to_undo-bytes.ensures in
+      let bytes : c.log_bytes_for-bytes.result ≡ undo_bytes c.args.op = c.log_bytes_for-bytes.ensures in
       let full = c.if-not-takes.ensures.full in (
         subst (λ n. claimed k.operations + n ≤ pages_free seen origin k) pages (c.in-Ok.ensures.fits origin.pages origin.relations origin.counters granted.was.fit.right),
         omega (arith, bytes, full),
@@ -81,9 +79,9 @@ returns-in-Ok-begin_op g c = record {
       let fresh_old : IsFresh (world seen origin.pages k.operations) c.args.txn (k.last + 1) 0 = next_fresh seen g.D.Device.may_leave origin base (without_call locks escrow k) c.args.txn (k.last + 1) fit granted.may.at_work (omega arith) in
       let fresh : IsFresh (world seen origin.pages c.claim.new.self) c.args.txn c.new.result 0 = subst (λ (n : ℕ). IsFresh (world seen origin.pages c.claim.new.self) c.args.txn n 0) (sym c.new.ensures) (fresh_same seen k.operations c.claim.new.self origin.pages c.args.txn (k.last + 1) 0 m.store m.locks fresh_old) in
       let pages : c.pages_for.result + c.pages_to_undo.result ≡ own_needs c.args.op c.args.split + undo_pages c.args.op = (λ i. c.pages_for.ensures i + c.pages_to_undo.ensures.pages i) in
-      let bytes : c.bytes_to_undo-bytes.result ≡ undo_bytes c.args.op = c.bytes_to_undo-bytes.ensures in
+      let bytes : c.log_bytes_for-bytes.result ≡ undo_bytes c.args.op = c.log_bytes_for-bytes.ensures in
       let left : s.left ≡ undo_bytes c.args.op = e.left in
-      let n : Core g.row.D.Denot = record k { operations = c.claim.new.self; running = c.push_reserved.new.self; reserved = k.reserved + c.bytes_to_undo-bytes.result } in
+      let n : Core g.row.D.Denot = record k { operations = c.claim.new.self; running = c.push_reserved.new.self; reserved = k.reserved + c.log_bytes_for-bytes.result } in
       called_in seen g.D.Device.may_leave origin base locks escrow k n c.args.txn c.args.op c.args.split s
       granted c.push_reserved.ensures.items
       (record {
@@ -102,7 +100,7 @@ returns-in-Ok-begin_op g c = record {
       }) c.requires.few (ap (λ (x : ℕ). k.reserved + x) bytes) (let takes = c.if-not-takes.ensures.takes in omega arith);
   may = λ origin base locks escrow granted. let k = c.args.self.now in let seen = g.D.Device.seen in
       let pages : c.pages_for.result + c.pages_to_undo.result ≡ pages_asked c.args.op c.args.split = (λ i. c.pages_for.ensures i + c.pages_to_undo.ensures.pages i) in
-      let bytes : c.bytes_to_undo-bytes.result ≡ undo_bytes c.args.op = c.bytes_to_undo-bytes.ensures in
+      let bytes : c.log_bytes_for-bytes.result ≡ undo_bytes c.args.op = c.log_bytes_for-bytes.ensures in
       let takes = c.if-not-takes.ensures.takes in (
         subst (λ n. claimed k.operations + n ≤ pages_free seen origin k) pages (c.in-Ok.ensures.fits origin.pages origin.relations origin.counters granted.was.fit.right),
         omega (arith, bytes, takes),

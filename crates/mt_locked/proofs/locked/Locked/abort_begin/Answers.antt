@@ -1,6 +1,9 @@
-use Rattle.std.proofs.Common.{◌∙◌}
+use Rattle.std.proofs.Common.{◌∙◌, ap}
 use Rattle.mt_locked.proofs.Keeping.{stays}
-use Rattle.mt_locked.proofs.Standings.{goes_on}
+use Rattle.mt_locked.proofs.Standings.{asked, goes_on, on_err_led}
+use Rattle.mt_locked.specs.Seen.{LockedSeen}
+use Rattle.mt_txn.specs.Seen.{seen_of}
+use Rattle.mt_txn.specs.declared.kernel.Kernel.{Kernel}
 use Rattle.mt_locked.proofs.locked.Locked.abort_begin.Goals as goal
 
 pub invariant_of-self-2 : goal.invariant_of-self-2
@@ -10,9 +13,15 @@ invariant_of-self-2 g c =
     let on = goes_on D.seen D.may_leave b list c.self.inside.standing k n c.in-Stands.is (stays D.seen D.may_leave b k n c.abort_begin.ensures.state) c.abort_begin.ensures.restarts i.4 in
     (i.0, i.1, i.2, i.3, on.0)
 
-pub returns : goal.returns
-returns g c =
+pub returns-clause-kernel : goal.returns-clause-kernel
+returns-clause-kernel g c =
+    let D = g.D.Device in let e = c.abort_begin.ensures in
+    asked D.seen D.may_leave c.self.inside.standing c.in-Stands.kernel c.abort_begin.new.self c.self.inside.end.view.list _ _ _ c.in-Stands.is c.self.view_is
+    (record { may = e.may; why = e.cause; aborts = e.aborts; err = on_err_led c.abort_begin.result (λ same. ap (λ (x : Kernel _ _). seen_of x) same) e.err })
+
+pub returns-clause-book : goal.returns-clause-book
+returns-clause-book g c =
     let D = g.D.Device in let b = g.J.Naming.base in let i = c.self.invariant in
     let list = c.self.inside.end.view.list in let k = c.in-Stands.kernel in let n = c.abort_begin.new.self in
     let on = goes_on D.seen D.may_leave b list c.self.inside.standing k n c.in-Stands.is (stays D.seen D.may_leave b k n c.abort_begin.ensures.state) c.abort_begin.ensures.restarts i.4 in
-    on.1 ∙ c.self.view_is
+    on.1 ∙ ap (λ (l : LockedSeen _). l.book) c.self.view_is

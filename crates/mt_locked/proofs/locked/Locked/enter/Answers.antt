@@ -60,7 +60,7 @@ returns-clause-book g c =
     let there = subst (λ (x : Held). slice_get (book_in standing (dones x.view.list)) c.check-at.result ≡ Some e.done) s.same (h.is.0 c.if-not-has.false) in
     let on = entered_on D.seen D.may_leave b list e c.check-at.result standing s.stands there i.4 in
     let now = n.list ∙ ap (λ (x : Held). x.view.list ++ e ∷ []) s.same in
-    ap (λ (l : List Entry). book_in standing (dones l)) now ∙ (on.1 ∙ ap (λ (l : LockedSeen). l.book) c.self.view_is)
+    ap (λ (l : List Entry). book_in standing (dones l)) now ∙ (on.1 ∙ ap (λ (l : LockedSeen _). l.book) c.self.view_is)
 
 pub returns-clause-entered : goal.returns-clause-entered
 returns-clause-entered g c =
@@ -76,11 +76,11 @@ returns-clause-entered g c =
     let book = subst (λ (x : Held). IsLegal b (book_in standing (dones x.view.list))) s.same (h.legal c.if-not-has.false) in
     let on = entered_on D.seen D.may_leave b list e c.check-at.result standing s.stands there i.4 in
     let front = subst (IsPrefix (dones (list ++ e ∷ []))) on.1 (front_of D.seen D.may_leave b (dones (list ++ e ∷ [])) standing on.0) in
-    let locked : LockedSeen = seen_in standing list in
+    let locked : LockedSeen _ = seen_in standing list in
     let old : PassSeen = record { number = c.pass.inside.number; seen = c.pass.inside.seat.view.list } in
     let new : PassSeen = record { number = c.pass.inside.number; seen = c.enter.new.seat.view.list } in
     let seen = n.seen ∙ ap (λ (x : Held). x.view.list ++ e ∷ []) s.same in
     let held : Holds old.number old.seen list = subst (λ (x : ℕ × List Entry). Holds x.0 old.seen x.1) (λ j. (c.pass.invariant.2 j, ap (λ (x : Held). x.view.list) s.same j)) n.others in
     let long : length list + 1 ≡ c.args.place = (let x = s.stands in let y = c.if-at-place.false in let z = c.if-place-eq0.false in omega arith) in
     let at : Entered b locked c.args.place old e new = entered b locked c.args.place old new e held refl seen front book long in
-    subst (λ (x : LockedSeen × PassSeen × Entry). Entered b x.0 c.args.place x.1 x.2 new) (λ j. (c.self.view_is j, c.pass.view_is j, c.into_entry-number.ensures j)) at
+    subst (λ (x : LockedSeen _ × PassSeen × Entry). Entered b x.0 c.args.place x.1 x.2 new) (λ j. (c.self.view_is j, c.pass.view_is j, c.into_entry-number.ensures j)) at

@@ -13,16 +13,16 @@ use Rattle.mt_locked.proofs.locked.Locked.into_met.Goals as goal
 pub returns-in-Stands-clause-own : goal.returns-in-Stands-clause-own
 returns-in-Stands-clause-own g c =
     let h = dones c.self.inside.end.view.list in
-    let book = ap (λ (s : Standing _ _). book_in s h) (sym c.in-Stands.is) ∙ ap (λ (l : LockedSeen). l.book) c.self.view_is in
-    let list = ap (λ (l : LockedSeen). l.list) c.self.view_is in
+    let book = ap (λ (s : Standing _ _). book_in s h) (sym c.in-Stands.is) ∙ ap (λ (l : LockedSeen _). l.book) c.self.view_is in
+    let list = ap (λ (l : LockedSeen _). l.list) c.self.view_is in
     let P : List Entry → PassSeen → Type 0 = λ l p. Holds p.number p.seen l in
     (c.args.self.list, c.requires.whole.all ∙ sym book, subst (λ (l : List Entry). All (P l) c.args.passes.items) list c.meet_all.ensures)
 
 pub returns-in-Stands-clause-count : goal.returns-in-Stands-clause-count
 returns-in-Stands-clause-count g c =
     let h = dones c.self.inside.end.view.list in
-    let book = ap (λ (s : Standing _ _). book_in s h) (sym c.in-Stands.is) ∙ ap (λ (l : LockedSeen). l.book) c.self.view_is in
-    let list = ap (λ (l : LockedSeen). l.list) c.self.view_is in
+    let book = ap (λ (s : Standing _ _). book_in s h) (sym c.in-Stands.is) ∙ ap (λ (l : LockedSeen _). l.book) c.self.view_is in
+    let list = ap (λ (l : LockedSeen _). l.list) c.self.view_is in
     let P : List Entry → PassSeen → Type 0 = λ l p. Holds p.number p.seen l in
     let held = subst (λ (l : List Entry). All (P l) c.args.passes.items) list c.meet_all.ensures in
     ap length (book ∙ sym c.requires.whole.all) ∙ (dones-length c.args.self.list ∙ all_counted g.J.Naming.book c.args.self.list c.args.passes.items c.requires.all held)

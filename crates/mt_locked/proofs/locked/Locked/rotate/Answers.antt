@@ -29,14 +29,14 @@ pub returns-then-ne-clause-did : goal.returns-then-ne-clause-did
 returns-then-ne-clause-did g c = λ did. c.replace_with-outcome.ensures.did did g.J.Naming.base (dones c.self.inside.end.view.list) c.self.invariant.4
 
 pub returns-then-ne-clause-gone : goal.returns-then-ne-clause-gone
-returns-then-ne-clause-gone g c = λ left. c.replace_with-outcome.ensures.gone (sym (ap (λ (l : LockedSeen). l.is_left) c.settle.ensures) ∙ left)
+returns-then-ne-clause-gone g c = λ left. c.replace_with-outcome.ensures.gone (sym (ap (λ (l : LockedSeen _). l.kernel) c.settle.ensures) ∙ left)
 
 pub returns-then-ne-clause-book : goal.returns-then-ne-clause-book
 returns-then-ne-clause-book g c =
     let D = g.D.Device in let b = g.J.Naming.base in let i = c.self.invariant in let s = c.check-entered.ensures in
     let list = c.self.inside.end.view.list in let new = c.replace_with-outcome.new.dest in
     let kept = c.replace_with-outcome.ensures.keeps b (dones list) (dones-length list ∙ sym s.stands) i.4 in
-    ap (λ (l : LockedSeen). l.book) c.settle.ensures ∙ (ap (λ (x : Held). book_in new (dones x.view.list)) s.same ∙ (kept.1 ∙ ap (λ (l : LockedSeen). l.book) c.self.view_is))
+    ap (λ (l : LockedSeen _). l.book) c.settle.ensures ∙ (ap (λ (x : Held). book_in new (dones x.view.list)) s.same ∙ (kept.1 ∙ ap (λ (l : LockedSeen _). l.book) c.self.view_is))
 
 pub returns-else-ne-clause-why : goal.returns-else-ne-clause-why
 returns-else-ne-clause-why g c = c.replace_with-outcome.ensures.why
@@ -52,4 +52,4 @@ returns-else-ne-clause-book g c =
     let D = g.D.Device in let b = g.J.Naming.base in let i = c.self.invariant in let s = c.check-entered.ensures in
     let list = c.self.inside.end.view.list in let new = c.replace_with-outcome.new.dest in
     let kept = c.replace_with-outcome.ensures.keeps b (dones list) (dones-length list ∙ sym s.stands) i.4 in
-    ap (λ (x : Held). book_in new (dones x.view.list)) s.same ∙ (kept.1 ∙ ap (λ (l : LockedSeen). l.book) c.self.view_is)
+    ap (λ (x : Held). book_in new (dones x.view.list)) s.same ∙ (kept.1 ∙ ap (λ (l : LockedSeen _). l.book) c.self.view_is)

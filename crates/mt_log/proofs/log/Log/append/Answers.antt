@@ -1,14 +1,17 @@
-use Rattle.std.proofs.Common.{length, ap, refl, arith, length-append}
+use Rattle.std.proofs.Common.{length, ap, arith, length-append}
 use Rattle.mt_frame.specs.Grammar.{record_text}
 use Rattle.mt_frame.proofs.TextLengths.{length-record_text}
-use Rattle.mt_log.specs.Words.{durable_batches, in_flight, waiting, room}
-use Rattle.mt_log.proofs.Prefix.{sound_appended}
+use Rattle.mt_log.specs.Words.{room, seen_of}
+use Rattle.mt_log.proofs.Bytes.{used-fields}
 use Rattle.mt_log.proofs.log.Log.append.Goals as goal
 
-pub returns-clause-sound : goal.returns-clause-sound
-unfolding durable_batches in_flight waiting
-returns-clause-sound c = λ pages sound page may.
-    sound_appended pages c.args.self.now _ c.args.entry refl refl c.and-self.ensures c.requires.grammar page may sound
+pub invariant_of-self-2-clause-fits : goal.invariant_of-self-2-clause-fits
+unfolding seen_of
+invariant_of-self-2-clause-fits c =
+    let s = c.args.self.now in
+    let old = s.pending in
+    let new = c.push_text.new.text in
+    omega (arith, used-fields s, c.requires.fits, s.in_order, s.fits, s.head, ap length c.in_ok-push_text.ensures.ok, length-append old.items (record_text c.args.entry), length-record_text c.args.entry, old.ok.0, new.ok.0)
 
 pub returns-clause-room_left : goal.returns-clause-room_left
 unfolding room

@@ -1,15 +1,20 @@
-use Rattle.std.proofs.Common.{◌∙◌, ◌++◌, ℕ, List, [], ap, sym, drop, refl, arith}
+use Rattle.std.proofs.Common.{◌∙◌, ◌++◌, ℕ, List, [], ap, sym, drop, length, arith, length-append}
 use Rattle.std.proofs.lemmas.List.{drop-append-le, flat_map_more}
 use Rattle.mt_frame.specs.Grammar.{body_text, record_text}
 use Rattle.mt_frame.specs.PageRecords.{represented}
-use Rattle.mt_log.specs.Words.{durable_batches, in_flight, waiting}
-use Rattle.mt_log.proofs.Prefix.{sound_appended}
+use Rattle.mt_frame.proofs.TextLengths.{length-record_text}
+use Rattle.mt_log.specs.Words.{seen_of}
+use Rattle.mt_log.proofs.Bytes.{used-fields}
 use Rattle.mt_log.proofs.log.Log.append_page.Goals as goal
 
-pub returns-clause-sound : goal.returns-clause-sound
-unfolding durable_batches in_flight waiting
-returns-clause-sound c = λ pages sound page may.
-    sound_appended pages c.args.self.now _ (represented c.args.entry.now) refl refl c.and_as-self.ensures c.requires.grammar page may sound
+pub invariant_of-self-2-clause-fits : goal.invariant_of-self-2-clause-fits
+unfolding seen_of
+invariant_of-self-2-clause-fits c =
+    let s = c.args.self.now in
+    let entry = represented c.args.entry.now in
+    let old = s.pending in
+    let new = c.push_page_text.new.text in
+    omega (arith, used-fields s, c.requires.fits, s.in_order, s.fits, s.head, ap length c.in_ok-push_page_text.ensures.ok, length-append old.items (record_text entry), length-record_text entry, old.ok.0, new.ok.0)
 
 pub invariant_of-self-2-clause-text : goal.invariant_of-self-2-clause-text
 invariant_of-self-2-clause-text c =

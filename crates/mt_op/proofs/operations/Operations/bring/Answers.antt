@@ -5,11 +5,11 @@ use Rattle.mt_op.proofs.operations.Operations.bring.Goals as goal
 pub returns-in-Ok-There : goal.returns-in-Ok-There
 returns-in-Ok-There g c = record {
   right = λ opening relations counters k. let f = c.fetch.ensures in let seen = g.D.Device.seen in
-      right_rests seen g.D.Device.may_leave opening relations counters c.args.self.now _ k (f.kept opening k.kept) (store_rests seen opening c.args.self.now c.fetch.new.self f.log f.pages (λ q lt. f.views q)) refl refl;
+      right_rests seen g.D.Device.may_leave opening relations counters c.args.self.now _ k (f.keeps.kept opening k.kept) (store_rests seen opening c.args.self.now c.fetch.new.self f.log f.pages (λ q lt. f.views q)) refl refl;
   kept = search rules;
   rests = search rules;
   moments = search rules;
-  once = c.fetch.ensures.time.at_once;
+  once = c.fetch.ensures.once.at_once;
   there = search rules;
   full = search rules;
   place = search rules;
@@ -26,11 +26,11 @@ returns-in-Ok-There g c = record {
 pub returns-in-Ok-Flush : goal.returns-in-Ok-Flush
 returns-in-Ok-Flush g c = record {
   right = λ opening relations counters k. let f = c.fetch.ensures in let seen = g.D.Device.seen in
-      right_rests seen g.D.Device.may_leave opening relations counters c.args.self.now _ k (f.kept opening k.kept) (store_rests seen opening c.args.self.now c.fetch.new.self f.log f.pages (λ q lt. f.views q)) refl refl;
+      right_rests seen g.D.Device.may_leave opening relations counters c.args.self.now _ k (f.keeps.kept opening k.kept) (store_rests seen opening c.args.self.now c.fetch.new.self f.log f.pages (λ q lt. f.views q)) refl refl;
   kept = search rules;
   rests = search rules;
   moments = search rules;
-  once = c.fetch.ensures.time.at_once;
+  once = c.fetch.ensures.once.at_once;
   there = search rules;
   full = search rules;
   place = search rules;
@@ -47,11 +47,11 @@ returns-in-Ok-Flush g c = record {
 pub returns-in-Err : goal.returns-in-Err
 returns-in-Err g c = record {
   right = λ opening relations counters k. let f = c.fetch.ensures in let seen = g.D.Device.seen in
-      right_rests seen g.D.Device.may_leave opening relations counters c.args.self.now _ k (f.kept opening k.kept) (store_rests seen opening c.args.self.now c.fetch.new.self f.log f.pages (λ q lt. f.views q)) refl refl;
+      right_rests seen g.D.Device.may_leave opening relations counters c.args.self.now _ k (f.keeps.kept opening k.kept) (store_rests seen opening c.args.self.now c.fetch.new.self f.log f.pages (λ q lt. f.views q)) refl refl;
   kept = search rules;
   rests = search rules;
   moments = search rules;
-  once = c.fetch.ensures.time.at_once;
+  once = c.fetch.ensures.once.at_once;
   there = search rules;
   full = search rules;
   place = search rules;

@@ -4,8 +4,8 @@ use mathlib.Core.Logic.{∥∥₁_elim}
 use Rattle.mt_op.proofs.Surveyed.{idle_free, idle_opening, idle_page}
 use Rattle.mt_op.proofs.operations.Operations.held_page.Goals as goal
 
-pub copy-requires-clause-kept : goal.copy-requires-clause-kept
-copy-requires-clause-kept g c = ∥∥₁_elim c.requires.idle (hlevel props) (λ (relations, idle). idle_opening g.D.Device.seen g.D.Device.may_leave relations c.args.self.now idle)
+pub copy-requires-clause-open : goal.copy-requires-clause-open
+copy-requires-clause-open g c = ∥∥₁_elim c.requires.idle (hlevel props) (λ (relations, idle). idle_opening g.D.Device.seen g.D.Device.may_leave relations c.args.self.now idle)
 
 pub returns-in-Ok-clause-held : goal.returns-in-Ok-clause-held
 returns-in-Ok-clause-held g c = λ opening relations counters right.

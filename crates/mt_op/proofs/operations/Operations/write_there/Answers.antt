@@ -3,6 +3,10 @@ use Rattle.std.specs.Prelude.{Contains, Err}
 use Rattle.std.proofs.lemmas.List.Elements.{Contains-get_or}
 use Rattle.std.proofs.lemmas.Result.{err_from_is_err_and}
 use Rattle.mt_base.specs.declared.refusal.Refusal.TheVariants as refusal
+use Rattle.mt_log.specs.Batch.{joined}
+use Rattle.mt_log.specs.Seen.{LogSeen, bytes_in}
+use Rattle.mt_pool.proofs.Logged.{longer_appended}
+use Rattle.mt_op.proofs.LogSeen.{same_appended}
 use Rattle.mt_pool.specs.Views.{view}
 use Rattle.mt_pool.specs.Writes.{due_image}
 use Rattle.mt_space.specs.declared.changes.PageChange.{PageChange}
@@ -32,11 +36,12 @@ returns-in_err-write g c = let d = g.D.Device in let f = c.in_err-write.ensures 
     let p = err_from_is_err_and c.from_residual.result c.from_residual.ensures.1 in
     let is = p.1 ∙ ap Err (p.2 ∙ f.only_memory) in
     let n = with_store o c.write.new.self in
+    let same = same_appended o.store.log c.write.new.self.log f.err_log in
     record {
       ahead = subst (GoesAhead d.seen d.may_leave d.moment d.left_since d.faults o n s s) (sym is)
           (idle_ahead d.seen d.may_leave d.moment d.left_since d.faults o n s
-          (λ opening relations counters right. right_rests d.seen d.may_leave opening relations counters o n right (f.kept opening right.kept) (store_stays d.seen d.may_leave opening o c.write.new.self f.device f.err_pool f.err_appended) refl refl)
-          (λ opening. store_stays d.seen d.may_leave opening o c.write.new.self f.device f.err_pool f.err_appended) f.moments (once_same _ _ (ap d.moment f.device)) f.err_used f.area f.durable refl refl (Err refusal.NoMemory) tt c.requires.writing c.requires.budget
+          (λ opening relations counters right. right_rests d.seen d.may_leave opening relations counters o n right (f.keeps.kept opening right.kept) (store_stays d.seen d.may_leave opening o c.write.new.self f.device f.err_pool same) refl refl)
+          (λ opening. store_stays d.seen d.may_leave opening o c.write.new.self f.device f.err_pool same) f.keeps.moments (once_same _ _ (ap d.moment f.device)) (ap bytes_in f.err_log) (ap (λ (x : LogSeen). x.end - x.start) f.err_log) (ap (λ (x : LogSeen). joined x.batches) f.err_log) refl refl (Err refusal.NoMemory) tt c.requires.writing c.requires.budget
           (λ is. absurd cc) (inl refl) (no_fault _ _ (Err refusal.NoMemory) refl (ap d.faults f.device)));
       device = f.device;
       map = refl;
@@ -58,19 +63,20 @@ overflow_sub-scope g c =
 pub returns : goal.returns
 returns g c = let f = c.in_ok-write.ensures in let seen = g.D.Device.seen in let may_leave = g.D.Device.may_leave in
     let o = c.args.self.now in let s = c.args.scope.now in let d = c.index-change.result.now in
+    let more = longer_appended o.store.log c.write.new.self.log _ f.log in
     let short = next_short seen may_leave o s d c.requires.right c.requires.writing c.requires.more c.index-change.ensures in
     let t = record s { left = s.left + c.used-before.result - c.used.result; written = s.written + 1; standing = s.standing + 1 } in
     record {
       ahead = record {
-        steps = λ opening relations counters right k few some. let m = store_writes seen may_leave opening o c.write.new.self s d f.device f.there f.view f.others f.appended in (
-          writes_right seen may_leave opening relations counters o c.write.new.self s d m right k c.requires.writing c.requires.more c.index-change.ensures (f.kept opening right.kept),
+        steps = λ opening relations counters right k few some. let m = store_writes seen may_leave opening o c.write.new.self s d f.device f.there f.view f.others more in (
+          writes_right seen may_leave opening relations counters o c.write.new.self s d m right k c.requires.writing c.requires.more c.index-change.ensures (f.keeps.kept opening right.kept),
           writes_goes relations counters _ _ s t d m right.sound k c.requires.writing c.requires.more c.index-change.ensures
               (record { op = record { txn = refl; number = refl; op = refl; undoes = refl; split = refl; total = refl }; room = refl; guards = refl; seen = refl; changes = refl; reply = refl }) c.requires.writing refl refl,
         );
-        moments = f.moments;
+        moments = f.keeps.moments;
         log = let within = write_within s _ _ _ c.requires.writing c.requires.budget c.requires.more short.size f.used in omega arith;
-        area = f.area;
-        durable = f.durable;
+        area = ap (λ (x : LogSeen). x.end - x.start) f.log;
+        durable = ap (λ (x : LogSeen). joined x.batches) f.log;
         budget = write_left s t _ _ _ c.requires.writing c.requires.budget c.requires.more short.size f.used refl refl c.requires.writing refl (λ i. (s.left + c.used-before.ensures i) - c.used.ensures i);
         claims = refl;
         full = λ is. absurd cc;
@@ -78,7 +84,7 @@ returns g c = let f = c.in_ok-write.ensures in let seen = g.D.Device.seen in let
         stage = inr c.requires.writing;
         work = writing_work s t c.requires.writing c.requires.writing refl refl c.requires.more;
         records = let page = view o.store.pool (seen o.store.device) d.page in
-            inr (d, due_image o.store.pool d.page page, page, subst (λ (x : PageChange). Contains (changes_in s) x) (sym c.index-change.ensures) (Contains-get_or (changes_in s) s.written d c.requires.more), f.appended);
+            inr (d, due_image o.store.pool d.page page, page, subst (λ (x : PageChange). Contains (changes_in s) x) (sym c.index-change.ensures) (Contains-get_or (changes_in s) s.written d c.requires.more), more);
         locks = refl;
         room = refl;
         asks = tt;
@@ -96,8 +102,8 @@ returns g c = let f = c.in_ok-write.ensures in let seen = g.D.Device.seen in let
       only_memory = tt;
     }
 
-pub write-requires-clause-kept : goal.write-requires-clause-kept
-write-requires-clause-kept g c = (known g.D.Device.seen g.D.Device.may_leave c.args.self.now c.args.scope.now c.requires.right).kept
+pub write-requires-clause-open : goal.write-requires-clause-open
+write-requires-clause-open g c = (known g.D.Device.seen g.D.Device.may_leave c.args.self.now c.args.scope.now c.requires.right).kept
 
 pub write-requires-clause-numbers : goal.write-requires-clause-numbers
 write-requires-clause-numbers g c = let k = known g.D.Device.seen g.D.Device.may_leave c.args.self.now c.args.scope.now c.requires.right in (k.txn, k.op)

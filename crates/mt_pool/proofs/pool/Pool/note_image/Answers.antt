@@ -12,5 +12,6 @@ returns c = record {
   waits = search rules;
   flush = search rules;
   there = search rules;
+  bytes = search rules;
   place = search rules;
 }

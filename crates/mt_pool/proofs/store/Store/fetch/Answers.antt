@@ -1,20 +1,23 @@
 use Rattle.std.proofs.Common.{[], refl, sym, append-nil}
 use Rattle.mt_log.specs.Words.{durable}
 use Rattle.mt_pool.proofs.Kept.{each_moment, kept_read}
+use Rattle.mt_pool.specs.Kept.{IsKept}
 use Rattle.mt_pool.proofs.Steady.{steady}
 use Rattle.mt_pool.proofs.store.Store.fetch.Goals as goal
 
-pub returns-clause-kept : goal.returns-clause-kept
-returns-clause-kept g c = λ opening k. let f = c.fetch.ensures in
-    kept_read g.D.Device.seen g.D.Device.may_leave opening c.args.self.now k c.fetch.new.self c.fetch.new.device f.pool f.shows f.waits f.place f.pages f.views f.seen f.crash
-
-pub returns-clause-moments : goal.returns-clause-moments
-returns-clause-moments g c = λ opening k. let f = c.fetch.ensures in
-    each_moment g.D.Device.seen g.D.Device.may_leave g.D.Device.moment g.D.Device.left_since g.met.D.Device.only_now opening c.args.self.now _ k (returns-clause-kept g c opening k) refl refl f.place f.pages refl
-    [] (sym (append-nil (durable c.args.self.now.log))) f.time
+pub returns-clause-keeps : goal.returns-clause-keeps
+returns-clause-keeps g c =
+    let kept : (opening : _) → IsKept g.D.Device.seen g.D.Device.may_leave opening c.args.self.now → IsKept g.D.Device.seen g.D.Device.may_leave opening _ = λ opening k. let f = c.fetch.ensures in
+    kept_read g.D.Device.seen g.D.Device.may_leave opening c.args.self.now k c.fetch.new.self c.fetch.new.device f.pool f.shows f.waits f.place f.pages f.views f.seen f.crash in
+    record {
+      kept = kept;
+      moments = λ opening k. let f = c.fetch.ensures in
+          each_moment g.D.Device.seen g.D.Device.may_leave g.D.Device.moment g.D.Device.left_since g.met.D.Device.only_now opening c.args.self.now _ k (kept opening k) refl refl f.place f.pages refl
+          [] (sym (append-nil (durable c.args.self.now.log))) f.time;
+    }
 
 pub fetch-requires-clause-pool : goal.fetch-requires-clause-pool
-fetch-requires-clause-pool g c = (steady g.D.Device.seen g.D.Device.may_leave c.args.self.now c.requires.kept).frames
+fetch-requires-clause-pool g c = (steady g.D.Device.seen g.D.Device.may_leave c.args.self.now c.requires.open).frames
 
 pub fetch-requires-clause-shows : goal.fetch-requires-clause-shows
-fetch-requires-clause-shows g c = (steady g.D.Device.seen g.D.Device.may_leave c.args.self.now c.requires.kept).shows
+fetch-requires-clause-shows g c = (steady g.D.Device.seen g.D.Device.may_leave c.args.self.now c.requires.open).shows

@@ -37,12 +37,12 @@ pub returns-in-Err-survey-clause-failed : goal.returns-in-Err-survey-clause-fail
 returns-in-Err-survey-clause-failed g c = λ is.
     let faults = g.D.Device.faults in let k = c.in-Ok.kernel in let n = c.survey.new.self in
     subst (λ (x : ℕ). x < faults c.into_device.result) c.in-Ok.ensures.quiet
-    (subst (λ d. faults k.core.operations.store.device < faults d) (sym c.into_device.ensures)
+    (subst (λ d. faults k.core.operations.store.device < faults d) (sym c.into_device.ensures.device)
     (survey_fault faults _ k.core n.core c.in-Err-survey.why c.in-Ok.ensures.well c.in-Err-survey.ensures.cause is))
 
 pub returns-in-Err-survey-clause-quiet : goal.returns-in-Err-survey-clause-quiet
 returns-in-Err-survey-clause-quiet g c = λ other.
-    ap g.D.Device.faults c.into_device.ensures ∙ c.survey.ensures.quiet (refused_other c.survey.result c.in-Err-survey.why c.in-Err-survey.is other) ∙ c.in-Ok.ensures.quiet
+    ap g.D.Device.faults c.into_device.ensures.device ∙ c.survey.ensures.quiet (refused_other c.survey.result c.in-Err-survey.why c.in-Err-survey.is other) ∙ c.in-Ok.ensures.quiet
 
 pub returns-in-Err-clause-settled : goal.returns-in-Err-clause-settled
 returns-in-Err-clause-settled g c = λ relations counters b can other x leaves. ∣ c.in-Err.ensures.settled relations counters b can other x leaves ∣₁
@@ -52,13 +52,13 @@ returns-in-Err-survey-clause-settled g c = λ relations counters b can other x l
     let D = g.D.Device in let k = c.in-Ok.kernel in let device = c.survey.new.self.core.operations.store.device in
     let opened = c.in-Ok.ensures.opened relations counters b can in
     found_on D.seen D.may_leave D.moment D.left_since relations counters b k device opened (first_book D.seen D.may_leave b k opened.shows) (g.met.D.Device.counts_now device)
-    (λ first restarts. c.survey.ensures.moments first restarts k.schema) x (subst (λ d. D.may_leave d x) c.into_device.ensures leaves)
+    (λ first restarts. c.survey.ensures.moments first restarts k.schema) x (subst (λ d. D.may_leave d x) c.into_device.ensures.device leaves)
 
 pub returns-clause-settled : goal.returns-clause-settled
 returns-clause-settled g c = λ relations counters b can other x leaves.
     let D = g.D.Device in let k = c.in-Ok.kernel in let device = c.survey.new.self.core.operations.store.device in
     let opened = c.in-Ok.ensures.opened relations counters b can in
-    let back = rw c.into_device-in-Err-new.ensures at leaves in
+    let back = rw c.into_device-in-Err-new.ensures.device at leaves in
     let left : D.may_leave device x = rw c.in-Err-new.ensures.same at back in
     found_on D.seen D.may_leave D.moment D.left_since relations counters b k device opened (first_book D.seen D.may_leave b k opened.shows) (g.met.D.Device.counts_now device)
     (λ first restarts. c.survey.ensures.moments first restarts k.schema) x left

@@ -1,5 +1,6 @@
 use Rattle.std.proofs.Common.{refl}
 use mathlib.Core.Logic.{∥∥₁_map}
+use Rattle.mt_pool.proofs.Flushing.{flushed}
 use Rattle.mt_core.proofs.Lessening.{undo_same}
 use Rattle.mt_txn.proofs.Showing.{sound_of, led, well_led, stays_led}
 use Rattle.mt_txn.proofs.Restarting.{meanwhile, no_call, restarts_on, stays_goes}
@@ -18,10 +19,10 @@ pub returns-in-Err-clause-state : goal.returns-in-Err-clause-state
 returns-in-Err-clause-state g c = λ first s shows. led g.D.Device.seen g.D.Device.may_leave c.args.self.now.relations c.args.self.now.counters c.args.self.now.core c.flush_step-outcome.new.self (λ z. z) first s (stays_led g.D.Device.seen g.D.Device.may_leave c.args.self.now.relations c.args.self.now.counters c.args.self.now.core c.flush_step-outcome.new.self c.flush_step-outcome.ensures.state) shows
 
 pub returns-in-Ok-clause-undo : goal.returns-in-Ok-clause-undo
-returns-in-Ok-clause-undo g c = undo_same c.args.self.now.core c.flush_step-outcome.new.self c.flush_step-outcome.ensures.rest c.flush_step-outcome.ensures.there
+returns-in-Ok-clause-undo g c = undo_same c.args.self.now.core c.flush_step-outcome.new.self c.flush_step-outcome.ensures.rest (flushed _ _ _ c.flush_step-outcome.result c.flush_step-outcome.ensures.steps).there
 
 pub returns-in-Err-clause-undo : goal.returns-in-Err-clause-undo
-returns-in-Err-clause-undo g c = undo_same c.args.self.now.core c.flush_step-outcome.new.self c.flush_step-outcome.ensures.rest c.flush_step-outcome.ensures.there
+returns-in-Err-clause-undo g c = undo_same c.args.self.now.core c.flush_step-outcome.new.self c.flush_step-outcome.ensures.rest (flushed _ _ _ c.flush_step-outcome.result c.flush_step-outcome.ensures.steps).there
 
 pub returns-in-Ok-clause-restarts : goal.returns-in-Ok-clause-restarts
 returns-in-Ok-clause-restarts g c = λ first r. let D = g.D.Device in let k = c.args.self.now in

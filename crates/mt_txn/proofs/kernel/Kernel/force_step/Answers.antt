@@ -1,9 +1,12 @@
 use mathlib.Core.Logic.{∥∥₁_map}
 use Rattle.mt_disk.specs.Disk.{LeavesOnly}
+use Rattle.mt_log.proofs.Stepped.{stepped}
+use Rattle.mt_log.specs.Words.{IsStep, appended}
+use Rattle.mt_log.specs.declared.log.Forced.TheVariants.{Durable, Idle, More}
 use Rattle.mt_pool.specs.Kept.{Explains}
 use Rattle.mt_pool.specs.declared.store.Store.{Store}
 use Rattle.std.proofs.Common.{refl}
-use Rattle.std.proofs.Common.{◌++◌, ◌∙◌, ℕ, List, ap, sym, subst, arith}
+use Rattle.std.proofs.Common.{rules, ◌++◌, ◌∙◌, ℕ, List, ap, sym, subst, arith}
 use Rattle.std.specs.Prelude.{Ok}
 use Rattle.std.proofs.lemmas.Result.{err_from_is_err_and}
 use Rattle.mt_core.specs.Booked.{booked_each, durable_txns}
@@ -12,7 +15,7 @@ use Rattle.mt_txn.specs.Well.{ShowsIn}
 use Rattle.mt_core.proofs.Lessening.{undo_same}
 use Rattle.mt_txn.proofs.Answering.{err_forced}
 use Rattle.mt_txn.proofs.Showing.{sound_of, led, well_led, stays_led}
-use Rattle.mt_txn.proofs.Restarting.{meanwhile, no_call, place_durable, restarts_on, stays_goes}
+use Rattle.mt_txn.proofs.Restarting.{meanwhile, no_call, place_durable, restarts_on, stays_goes, step_of}
 use Rattle.mt_txn.proofs.kernel.Kernel.force_step.Goals as goal
 
 pub force_step-outcome-requires : goal.force_step-outcome-requires
@@ -35,7 +38,7 @@ pub leave_durable-requires-clause-safe : goal.leave_durable-requires-clause-safe
 leave_durable-requires-clause-safe g c = sound_of g.D.Device.seen g.D.Device.may_leave c.args.self.now.relations c.args.self.now.counters c.force_step-outcome.new.self (well_led g.D.Device.seen g.D.Device.may_leave c.args.self.now.relations c.args.self.now.counters c.args.self.now.core c.force_step-outcome.new.self (λ z. z) (stays_led g.D.Device.seen g.D.Device.may_leave c.args.self.now.relations c.args.self.now.counters c.args.self.now.core c.force_step-outcome.new.self c.force_step-outcome.ensures.state) c.args.self.now.well)
 
 pub invariant_of-self-in-Durable : goal.invariant_of-self-in-Durable
-invariant_of-self-in-Durable g c = record { well = well_led g.D.Device.seen g.D.Device.may_leave c.args.self.now.relations c.args.self.now.counters c.force_step-outcome.new.self c.leave_durable.new.self (λ z. booked_each z (durable_txns c.force_step-outcome.new.self.commits.items c.in-Durable.place)) (λ origin base safe. (base, c.leave_durable.ensures.left origin base safe)) (well_led g.D.Device.seen g.D.Device.may_leave c.args.self.now.relations c.args.self.now.counters c.args.self.now.core c.force_step-outcome.new.self (λ z. z) (stays_led g.D.Device.seen g.D.Device.may_leave c.args.self.now.relations c.args.self.now.counters c.args.self.now.core c.force_step-outcome.new.self c.force_step-outcome.ensures.state) c.args.self.now.well); starts = ∥∥₁_map c.args.self.now.starts (λ (first, r). let D = g.D.Device in let k = c.args.self.now in (first, restarts_on D.seen D.may_leave k.relations k.counters first c.force_step-outcome.new.self c.leave_durable.new.self (λ origin base safe. (base, (c.leave_durable.ensures.left origin base safe).consistent)) (c.leave_durable.ensures.restartable (place_durable k.core.operations.store.log c.force_step-outcome.new.self.operations.store.log c.in-Durable.place c.force_step-outcome.result (c.in_ok-outcome.was ∙ ap Ok c.in-Durable.is) c.force_step-outcome.ensures.step)) (restarts_on D.seen D.may_leave k.relations k.counters first k.core c.force_step-outcome.new.self (stays_goes D.seen D.may_leave k.core c.force_step-outcome.new.self c.force_step-outcome.ensures.state) (c.force_step-outcome.ensures.restartable) r))); schema = c.args.self.now.schema }
+invariant_of-self-in-Durable g c = record { well = well_led g.D.Device.seen g.D.Device.may_leave c.args.self.now.relations c.args.self.now.counters c.force_step-outcome.new.self c.leave_durable.new.self (λ z. booked_each z (durable_txns c.force_step-outcome.new.self.commits.items c.in-Durable.place)) (λ origin base safe. (base, c.leave_durable.ensures.left origin base safe)) (well_led g.D.Device.seen g.D.Device.may_leave c.args.self.now.relations c.args.self.now.counters c.args.self.now.core c.force_step-outcome.new.self (λ z. z) (stays_led g.D.Device.seen g.D.Device.may_leave c.args.self.now.relations c.args.self.now.counters c.args.self.now.core c.force_step-outcome.new.self c.force_step-outcome.ensures.state) c.args.self.now.well); starts = ∥∥₁_map c.args.self.now.starts (λ (first, r). let D = g.D.Device in let k = c.args.self.now in (first, restarts_on D.seen D.may_leave k.relations k.counters first c.force_step-outcome.new.self c.leave_durable.new.self (λ origin base safe. (base, (c.leave_durable.ensures.left origin base safe).consistent)) (c.leave_durable.ensures.restartable (place_durable k.core.operations.store.log c.force_step-outcome.new.self.operations.store.log c.in-Durable.place c.force_step-outcome.result (c.in_ok-outcome.was ∙ ap Ok c.in-Durable.is) c.force_step-outcome.ensures.steps)) (restarts_on D.seen D.may_leave k.relations k.counters first k.core c.force_step-outcome.new.self (stays_goes D.seen D.may_leave k.core c.force_step-outcome.new.self c.force_step-outcome.ensures.state) (c.force_step-outcome.ensures.restartable) r))); schema = c.args.self.now.schema }
 
 pub returns-in-More-clause-forced : goal.returns-in-More-clause-forced
 returns-in-More-clause-forced g c = λ first s shows. led g.D.Device.seen g.D.Device.may_leave c.args.self.now.relations c.args.self.now.counters c.args.self.now.core c.force_step-outcome.new.self (λ z. z) first s (stays_led g.D.Device.seen g.D.Device.may_leave c.args.self.now.relations c.args.self.now.counters c.args.self.now.core c.force_step-outcome.new.self c.force_step-outcome.ensures.state) shows
@@ -73,7 +76,7 @@ returns-in-Idle-clause-restarts g c = λ first r. let D = g.D.Device in let k = 
 
 pub returns-in-Durable-clause-restarts : goal.returns-in-Durable-clause-restarts
 returns-in-Durable-clause-restarts g c = λ first r. let D = g.D.Device in let k = c.args.self.now in
-    restarts_on D.seen D.may_leave k.relations k.counters first c.force_step-outcome.new.self c.leave_durable.new.self (λ origin base safe. (base, (c.leave_durable.ensures.left origin base safe).consistent)) (c.leave_durable.ensures.restartable (place_durable k.core.operations.store.log c.force_step-outcome.new.self.operations.store.log c.in-Durable.place c.force_step-outcome.result (c.in_ok-outcome.was ∙ ap Ok c.in-Durable.is) c.force_step-outcome.ensures.step))
+    restarts_on D.seen D.may_leave k.relations k.counters first c.force_step-outcome.new.self c.leave_durable.new.self (λ origin base safe. (base, (c.leave_durable.ensures.left origin base safe).consistent)) (c.leave_durable.ensures.restartable (place_durable k.core.operations.store.log c.force_step-outcome.new.self.operations.store.log c.in-Durable.place c.force_step-outcome.result (c.in_ok-outcome.was ∙ ap Ok c.in-Durable.is) c.force_step-outcome.ensures.steps))
     (restarts_on D.seen D.may_leave k.relations k.counters first k.core c.force_step-outcome.new.self (stays_goes D.seen D.may_leave k.core c.force_step-outcome.new.self c.force_step-outcome.ensures.state) (c.force_step-outcome.ensures.restartable) r)
 
 pub returns-then-has_failed-clause-moments : goal.returns-then-has_failed-clause-moments
@@ -100,3 +103,30 @@ pub returns-in-Durable-clause-moments : goal.returns-in-Durable-clause-moments
 returns-in-Durable-clause-moments g c = λ first r schema. let D = g.D.Device in let k = c.args.self.now in
     meanwhile D.seen D.may_leave k.relations k.counters first D.moment D.left_since g.met.D.Device.only_now k.core _
     (λ opening kept. subst (λ (s : Store g.row.D.Denot). LeavesOnly D.moment D.left_since k.core.operations.store.device s.device (Explains opening k.core.operations.store)) (sym c.leave_durable.ensures.store) (c.force_step-outcome.ensures.moments opening kept)) r schema
+
+pub returns-in_err-outcome-clause-appended : goal.returns-in_err-outcome-clause-appended
+returns-in_err-outcome-clause-appended g c = (stepped c.args.self.now.core.operations.store.log c.force_step-outcome.new.self.operations.store.log c.force_step-outcome.result c.force_step-outcome.ensures.steps).same_records
+
+pub returns-in-More-clause-appended : goal.returns-in-More-clause-appended
+returns-in-More-clause-appended g c = (stepped c.args.self.now.core.operations.store.log c.force_step-outcome.new.self.operations.store.log c.force_step-outcome.result c.force_step-outcome.ensures.steps).same_records
+
+pub returns-in-Durable-clause-appended : goal.returns-in-Durable-clause-appended
+returns-in-Durable-clause-appended g c = ap (λ (s : Store g.row.D.Denot). appended s.log) c.leave_durable.ensures.store
+    ∙ (stepped c.args.self.now.core.operations.store.log c.force_step-outcome.new.self.operations.store.log c.force_step-outcome.result c.force_step-outcome.ensures.steps).same_records
+
+pub returns-in-More-clause-log : goal.returns-in-More-clause-log
+returns-in-More-clause-log g c =
+    (step_of c.args.self.now.core.operations.store.log c.force_step-outcome.new.self.operations.store.log More c.force_step-outcome.result (c.in_ok-outcome.was ∙ ap Ok c.in-More.is) c.force_step-outcome.ensures.steps, search rules)
+
+pub returns-in-Idle-clause-log : goal.returns-in-Idle-clause-log
+returns-in-Idle-clause-log g c =
+    (step_of c.args.self.now.core.operations.store.log c.force_step-outcome.new.self.operations.store.log Idle c.force_step-outcome.result (c.in_ok-outcome.was ∙ ap Ok c.in-Idle.is) c.force_step-outcome.ensures.steps, search rules)
+
+pub returns-in-Durable-clause-log : goal.returns-in-Durable-clause-log
+returns-in-Durable-clause-log g c = let old = c.args.self.now.core.operations.store.log in let place = c.in-Durable.place in (
+  place,
+  subst (λ (s : Store g.row.D.Denot). IsStep old (Durable place) s.log) (sym c.leave_durable.ensures.store)
+      (step_of old c.force_step-outcome.new.self.operations.store.log (Durable place) c.force_step-outcome.result (c.in_ok-outcome.was ∙ ap Ok c.in-Durable.is) c.force_step-outcome.ensures.steps),
+  search rules,
+  search rules,
+)

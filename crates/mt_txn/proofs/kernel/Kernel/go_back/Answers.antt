@@ -52,7 +52,7 @@ returns-in_err-outcome-clause-steps g c = record {
   once = c.take_back_step-outcome.ensures.once;
   others = others_of c.args.self.now.core.running.items c.take_back_step-outcome.new.self.running.items c.args.place c.args.txn c.requires.within (λ r at. (c.requires.own r at).0) c.take_back_step-outcome.ensures.others;
   aborted = λ first s shows. let p = err_from_is_err_and c.from_residual.result c.from_residual.ensures.1 in
-      err_aborted g.D.Device.seen g.D.Device.may_leave first s c.args.txn _ c.from_residual.result p.0 p.1 (subst (BackShown g.D.Device.seen g.D.Device.may_leave c.args.self.now.relations c.args.self.now.counters c.take_back_step-outcome.new.self first s c.args.txn) c.in_err-outcome.was (back_shown g.D.Device.seen g.D.Device.may_leave c.args.self.now.relations c.args.self.now.counters c.args.self.now.core c.take_back_step-outcome.new.self first s c.args.txn c.args.place c.take_back_step-outcome.result c.requires.within (λ r there. (c.requires.own r there).0) c.take_back_step-outcome.ensures.back shows));
+      err_aborted _ s c.args.txn c.from_residual.result p.0 p.1 (subst (BackShown g.D.Device.seen g.D.Device.may_leave c.args.self.now.relations c.args.self.now.counters c.take_back_step-outcome.new.self first s c.args.txn) c.in_err-outcome.was (back_shown g.D.Device.seen g.D.Device.may_leave c.args.self.now.relations c.args.self.now.counters c.args.self.now.core c.take_back_step-outcome.new.self first s c.args.txn c.args.place c.take_back_step-outcome.result c.requires.within (λ r there. (c.requires.own r there).0) c.take_back_step-outcome.ensures.back shows));
 }
 
 pub returns-in-More-clause-steps : goal.returns-in-More-clause-steps

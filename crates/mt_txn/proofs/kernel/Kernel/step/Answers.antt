@@ -22,6 +22,7 @@ use Rattle.mt_log.specs.Words.{appended}
 use Rattle.mt_core.specs.Writes.{StepWrites}
 use Rattle.mt_txn.proofs.Stepping.{others_of, reported_writes}
 use Rattle.mt_txn.specs.Writes.{WritesOnePage}
+use Rattle.mt_txn.specs.Well.{ShowsIn}
 use Rattle.mt_txn.proofs.kernel.Kernel.step.Goals as goal
 
 pub step-outcome-requires-clause-safe : goal.step-outcome-requires-clause-safe
@@ -38,13 +39,13 @@ invariant_of-self g c = record { well = step_well g.D.Device.seen g.D.Device.may
 
 pub returns-in_err-reply-clause-stepped : goal.returns-in_err-reply-clause-stepped
 returns-in_err-reply-clause-stepped g c = λ first s shows. let p = err_from_is_err_and c.from_residual.result c.from_residual.ensures.1 in
-    err_stepped g.D.Device.seen g.D.Device.may_leave first s c.args.txn _ c.from_residual.result p.0 p.1 (subst (StepShown g.D.Device.seen g.D.Device.may_leave c.args.self.now.relations c.args.self.now.counters c.step-outcome.new.self first s c.args.txn) (c.in_err-reply.was) (step_shown g.D.Device.seen g.D.Device.may_leave c.args.self.now.relations c.args.self.now.counters c.args.self.now.core c.step-outcome.new.self first s c.args.txn c.in-Some-place_of.place c.step-outcome.result c.in-Some-place_of.ensures.place.0 c.in-Some-place_of.ensures.place.1 (forward_of g.D.Device.seen g.D.Device.may_leave c.args.self.now.relations c.args.self.now.counters c.args.self.now.core c.args.txn c.in-Some-place_of.place c.args.self.now.well c.in-Some-place_of.ensures.place.0 c.in-Some-place_of.ensures.place.1 c.in_default.ensures.opened) c.step-outcome.ensures.steps shows))
+    err_stepped (λ z. ShowsIn g.D.Device.seen g.D.Device.may_leave c.args.self.now.relations c.args.self.now.counters first z c.step-outcome.new.self) s c.args.txn c.from_residual.result p.0 p.1 (subst (StepShown g.D.Device.seen g.D.Device.may_leave c.args.self.now.relations c.args.self.now.counters c.step-outcome.new.self first s c.args.txn) (c.in_err-reply.was) (step_shown g.D.Device.seen g.D.Device.may_leave c.args.self.now.relations c.args.self.now.counters c.args.self.now.core c.step-outcome.new.self first s c.args.txn c.in-Some-place_of.place c.step-outcome.result c.in-Some-place_of.ensures.place.0 c.in-Some-place_of.ensures.place.1 (forward_of g.D.Device.seen g.D.Device.may_leave c.args.self.now.relations c.args.self.now.counters c.args.self.now.core c.args.txn c.in-Some-place_of.place c.args.self.now.well c.in-Some-place_of.ensures.place.0 c.in-Some-place_of.ensures.place.1 c.in_default.ensures.opened) c.step-outcome.ensures.steps shows))
 
 pub returns-in-Ended-clause-stepped : goal.returns-in-Ended-clause-stepped
 returns-in-Ended-clause-stepped g c = λ first s shows. subst (StepShown g.D.Device.seen g.D.Device.may_leave c.args.self.now.relations c.args.self.now.counters c.step-outcome.new.self first s c.args.txn) (c.in_ok-reply.was ∙ ap Ok c.in-Ended.is) (step_shown g.D.Device.seen g.D.Device.may_leave c.args.self.now.relations c.args.self.now.counters c.args.self.now.core c.step-outcome.new.self first s c.args.txn c.in-Some-place_of.place c.step-outcome.result c.in-Some-place_of.ensures.place.0 c.in-Some-place_of.ensures.place.1 (forward_of g.D.Device.seen g.D.Device.may_leave c.args.self.now.relations c.args.self.now.counters c.args.self.now.core c.args.txn c.in-Some-place_of.place c.args.self.now.well c.in-Some-place_of.ensures.place.0 c.in-Some-place_of.ensures.place.1 c.in_default.ensures.opened) c.step-outcome.ensures.steps shows)
 
 pub returns-in-Going-clause-stepped : goal.returns-in-Going-clause-stepped
-returns-in-Going-clause-stepped g c = λ first s shows. going_stepped g.D.Device.seen g.D.Device.may_leave first s c.args.txn _ _ c.in-Going.going c.stepped.result c.stepped.ensures (subst (StepShown g.D.Device.seen g.D.Device.may_leave c.args.self.now.relations c.args.self.now.counters c.step-outcome.new.self first s c.args.txn) (c.in_ok-reply.was ∙ ap Ok c.in-Going.is) (step_shown g.D.Device.seen g.D.Device.may_leave c.args.self.now.relations c.args.self.now.counters c.args.self.now.core c.step-outcome.new.self first s c.args.txn c.in-Some-place_of.place c.step-outcome.result c.in-Some-place_of.ensures.place.0 c.in-Some-place_of.ensures.place.1 (forward_of g.D.Device.seen g.D.Device.may_leave c.args.self.now.relations c.args.self.now.counters c.args.self.now.core c.args.txn c.in-Some-place_of.place c.args.self.now.well c.in-Some-place_of.ensures.place.0 c.in-Some-place_of.ensures.place.1 c.in_default.ensures.opened) c.step-outcome.ensures.steps shows))
+returns-in-Going-clause-stepped g c = λ first s shows. going_stepped (λ z. ShowsIn g.D.Device.seen g.D.Device.may_leave c.args.self.now.relations c.args.self.now.counters first z c.step-outcome.new.self) s c.args.txn _ c.in-Going.going c.stepped.result c.stepped.ensures (subst (StepShown g.D.Device.seen g.D.Device.may_leave c.args.self.now.relations c.args.self.now.counters c.step-outcome.new.self first s c.args.txn) (c.in_ok-reply.was ∙ ap Ok c.in-Going.is) (step_shown g.D.Device.seen g.D.Device.may_leave c.args.self.now.relations c.args.self.now.counters c.args.self.now.core c.step-outcome.new.self first s c.args.txn c.in-Some-place_of.place c.step-outcome.result c.in-Some-place_of.ensures.place.0 c.in-Some-place_of.ensures.place.1 (forward_of g.D.Device.seen g.D.Device.may_leave c.args.self.now.relations c.args.self.now.counters c.args.self.now.core c.args.txn c.in-Some-place_of.place c.args.self.now.well c.in-Some-place_of.ensures.place.0 c.in-Some-place_of.ensures.place.1 c.in_default.ensures.opened) c.step-outcome.ensures.steps shows))
 
 pub returns-in-Ended-clause-work : goal.returns-in-Ended-clause-work
 returns-in-Ended-clause-work g c = let k = c.args.self.now.core in let n = c.step-outcome.new.self in let all = pages k.operations.store.pool in

@@ -58,7 +58,7 @@ returns-in_err-undo_begin-clause-steps g c = record {
   once = once_same _ _ (ap g.D.Device.moment (ap (λ (s : Store g.row.D.Denot). s.device) c.undo_begin.ensures.store));
   others = c.undo_begin.ensures.others;
   aborted = λ first s shows. let p = err_from_is_err_and c.from_residual.result c.from_residual.ensures.1 in
-      err_aborted g.D.Device.seen g.D.Device.may_leave first s c.args.txn _ c.from_residual.result p.0 p.1 (led g.D.Device.seen g.D.Device.may_leave c.args.self.now.relations c.args.self.now.counters c.args.self.now.core c.undo_begin.new.self (λ z. z) first s (stays_led g.D.Device.seen g.D.Device.may_leave c.args.self.now.relations c.args.self.now.counters c.args.self.now.core c.undo_begin.new.self c.undo_begin.ensures.state) shows);
+      err_aborted _ s c.args.txn c.from_residual.result p.0 p.1 (led g.D.Device.seen g.D.Device.may_leave c.args.self.now.relations c.args.self.now.counters c.args.self.now.core c.undo_begin.new.self (λ z. z) first s (stays_led g.D.Device.seen g.D.Device.may_leave c.args.self.now.relations c.args.self.now.counters c.args.self.now.core c.undo_begin.new.self c.undo_begin.ensures.state) shows);
 }
 
 pub returns-then-branch-clause-steps : goal.returns-then-branch-clause-steps
@@ -110,7 +110,7 @@ returns-in_err-abort_end-clause-steps g c = record {
   once = once_same _ _ (ap g.D.Device.moment (c.abort_end.ensures.device ∙ ap (λ (s : Store g.row.D.Denot). s.device) c.undo_begin.ensures.store));
   others = λ u other. ap (λ v. steps_in v.items u) c.abort_end.ensures.running ∙ c.undo_begin.ensures.others u other;
   aborted = λ first s shows. let p = err_from_is_err_and c.from_residual-in_err-abort_end.result c.from_residual-in_err-abort_end.ensures.1 in
-      err_aborted g.D.Device.seen g.D.Device.may_leave first s c.args.txn _ c.from_residual-in_err-abort_end.result p.0 p.1 (led g.D.Device.seen g.D.Device.may_leave c.args.self.now.relations c.args.self.now.counters c.undo_begin.new.self c.abort_end.new.self (λ z. z) first s (λ origin base safe. (base, c.in_err-abort_end.ensures.err origin base safe)) (led g.D.Device.seen g.D.Device.may_leave c.args.self.now.relations c.args.self.now.counters c.args.self.now.core c.undo_begin.new.self (λ z. z) first s (stays_led g.D.Device.seen g.D.Device.may_leave c.args.self.now.relations c.args.self.now.counters c.args.self.now.core c.undo_begin.new.self c.undo_begin.ensures.state) shows));
+      err_aborted _ s c.args.txn c.from_residual-in_err-abort_end.result p.0 p.1 (led g.D.Device.seen g.D.Device.may_leave c.args.self.now.relations c.args.self.now.counters c.undo_begin.new.self c.abort_end.new.self (λ z. z) first s (λ origin base safe. (base, c.in_err-abort_end.ensures.err origin base safe)) (led g.D.Device.seen g.D.Device.may_leave c.args.self.now.relations c.args.self.now.counters c.args.self.now.core c.undo_begin.new.self (λ z. z) first s (stays_led g.D.Device.seen g.D.Device.may_leave c.args.self.now.relations c.args.self.now.counters c.args.self.now.core c.undo_begin.new.self c.undo_begin.ensures.state) shows));
 }
 
 pub returns-clause-steps : goal.returns-clause-steps

@@ -1,5 +1,0 @@
-use Rattle.mt_folder.specs.Folders.{AreKept}
-use Rattle.mt_cli.proofs.waits.Patience.copy.Given as goal
-
-abbrev pub invariant-loop : goal.invariant-loop
-invariant-loop g l = AreKept (g.F.Folder.files l.initial.folder) (g.F.Folder.files l.folder)

@@ -1,0 +1,4 @@
+pub mod CheckLemmas
+pub mod DumpLemmas
+pub mod ExplainLemmas
+pub mod HeldLemmas

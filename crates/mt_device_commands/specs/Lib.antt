@@ -1,0 +1,4 @@
+pub mod Checks
+pub mod Dumps
+pub mod Explains
+pub mod Formattings

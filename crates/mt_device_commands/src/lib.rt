@@ -1,0 +1,17 @@
+//! The commands on a device in a file that run no script: `check` and `explain` read a copy of it, `dump` opens it, and
+//! `format` makes one. Each answers a `Fault` of mt_report if it does not end well.
+//!
+//! A file that is open in another program is asked for again, for as long as a command has [`Patience`].
+#![tactic(auto)]
+
+mod check_command;
+mod dump_command;
+mod explain_command;
+mod format_command;
+mod waits;
+
+pub use check_command::perform_check;
+pub use dump_command::perform_dump;
+pub use explain_command::perform_explain;
+pub use format_command::perform_format;
+pub use waits::Patience;

@@ -1,0 +1,4 @@
+pub mod Firsts
+pub mod Formats
+pub mod Schemas
+pub mod Within

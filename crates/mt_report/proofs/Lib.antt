@@ -1,0 +1,3 @@
+pub mod AdviceLemmas
+pub mod EventLemmas
+pub mod ExcessLemmas

@@ -1,0 +1,7 @@
+pub mod Advice
+pub mod EventWords
+pub mod Events
+pub mod Excess
+pub mod ReadFaults
+pub mod Tellings
+pub mod WholeEvents

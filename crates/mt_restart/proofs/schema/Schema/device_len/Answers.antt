@@ -1,4 +1,0 @@
-use Rattle.mt_restart.proofs.schema.Schema.device_len.Goals as goal
-
-pub returns : goal.returns
-returns c = c.device_bytes.ensures

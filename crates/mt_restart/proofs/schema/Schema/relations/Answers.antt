@@ -1,4 +1,0 @@
-use Rattle.mt_restart.proofs.schema.Schema.relations.Goals as goal
-
-pub returns : goal.returns
-returns c = c.relations.ensures

@@ -19,7 +19,7 @@ use Rattle.mt_core.specs.declared.parts.Commit.{Commit}
 use Rattle.mt_txn.specs.Causes.{begin_cause, call_cause}
 use Rattle.mt_txn.specs.Due.{IsDueIn}
 use Rattle.mt_txn.specs.Events.{HasForced, IsAnsweredBy, IsForcedBy}
-use Rattle.mt_txn.specs.Shown.{Shows, Stays, is_failed}
+use Rattle.mt_txn.specs.Shown.{Shows, Stays, is_failed, kernel_device, kernel_log}
 use Rattle.mt_txn.specs.declared.answers.KernelForced.{KernelForced}
 use Rattle.mt_txn.specs.declared.answers.Stepped.{Stepped}
 use Rattle.mt_txn.specs.declared.answers.Stepped.TheVariants as step
@@ -84,8 +84,8 @@ module _ {D : Type 0} {g : Ghosts D} (seen : D → List ℕ) (may_leave : D → 
     pub commit : Commit
     pub queue : k.core.commits.items ≡ commit ∷ []
     pub own : commit.txn ≡ t
-    pub waits : length (durable k.core.operations.store.log) < commit.place
-    pub due : IsDueIn steps commit.place k.core.operations.store.log
+    pub waits : length (durable (kernel_log k)) < commit.place
+    pub due : IsDueIn steps commit.place (kernel_log k)
 
   -- it is being undone
   pub record IsGoing (p : Play) (t : ℕ) (k : Kernel D g) : Type 0 where
@@ -116,7 +116,7 @@ module _ {D : Type 0} {g : Ghosts D} (seen : D → List ℕ) (may_leave : D → 
 module _ {D : Type 0} {g : Ghosts D} (faults : D → ℕ) where
   -- a call of it was refused with 2, a force has failed, or a call of the device has
   abbrev pub HasBroken : Kernel D g → Type 0
-  HasBroken k = (is_failed k ≡ true) ⊎ (0 < faults k.core.operations.store.device)
+  HasBroken k = (is_failed k ≡ true) ⊎ (0 < faults (kernel_device k))
 
   -- it is given up for want of memory, or since the device has failed
   abbrev pub Fails : Kernel D g → Refusal → Type 0
@@ -128,8 +128,8 @@ module _ {D : Type 0} {g : Ghosts D} (seen : D → List ℕ) (may_leave : D → 
   -- a force step
   pub record IsForcing (k : Kernel D g) (result : Result KernelForced Refusal) (n : Kernel D g) : Type 0 where
     pub forced : (first : Base) (s : State) → Shows seen may_leave first s k → HasForced seen may_leave first s result n
-    pub log : IfOk result (λ forced. IsForcedBy k.core.operations.store.log k.core.commits.items forced n.core.operations.store.log n.core.commits.items)
-    pub appended : appended n.core.operations.store.log ≡ appended k.core.operations.store.log
+    pub log : IfOk result (λ forced. IsForcedBy (kernel_log k) k.core.commits.items forced (kernel_log n) n.core.commits.items)
+    pub appended : appended (kernel_log n) ≡ appended (kernel_log k)
     pub running : SameRunning k.core n.core
     pub states : SameUncommitted k.core n.core
     pub undo : LeavesUndo k.core n.core

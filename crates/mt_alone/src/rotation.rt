@@ -4,6 +4,7 @@ ghost use Rattle.mt_log.specs.Words.{area_size, used};
 ghost use Rattle.mt_restart.specs.Standings.{device_at};
 ghost use Rattle.mt_alone.specs.Plays.{Play};
 ghost use Rattle.mt_alone.specs.Turnovers.{IsLeftBy, IsTurned, StandsForMore};
+ghost use Rattle.mt_txn.specs.Shown.{kernel_log};
 
 use crate::script_run::RunFault;
 use mt_disk::Device;
@@ -39,7 +40,7 @@ impl<D: Device + Drop> NotServed<D> {
 
 /// Whether the log is due to be turned over, since more than half of its area is in use.
 pub(crate) fn is_due<D: Device>(kernel: &Kernel<D>) -> bool
-    ensures { let log = kernel.now.core.operations.store.log in IsTrue result ↔ (area_size log / 2 < used log) }
+    ensures { let log = kernel_log kernel.now in IsTrue result ↔ (area_size log / 2 < used log) }
 {
     kernel.used() > kernel.area_size() / 2
 }

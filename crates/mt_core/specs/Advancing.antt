@@ -31,6 +31,7 @@ use Rattle.mt_escrow.specs.Seen.{Escrowed}
 use Rattle.mt_live.specs.Adds.{add_before}
 use Rattle.mt_slock.specs.declared.holders.Holder.{Holder}
 use Rattle.mt_model.specs.declared.objects.Object.{Object}
+use Rattle.mt_core.specs.Seen.{core_device, core_log, core_page_locks, core_pool}
 
 -- leave for an operation is asked, if it is an add; an add that may not be made is refused
 pub record AsksLeave {T : Type 0} (was now : Escrowed) (txn : ℕ) (op : Op) (r : Result T Refusal) : Type 0 where
@@ -49,17 +50,17 @@ module _ {D : Type 0} (seen : D → List ℕ) (may_leave : D → List ℕ → Ty
     pub commits : n.commits ≡ k.commits
     pub full : result ≡ Ok stepped.Flush → WantsFrame k n
     pub works : (r q : OpScope) → r ≡ slice_index_or k.running.items place r → q ≡ slice_index_or n.running.items place q → Works r q result
-    pub locks : AtPlace k.running.items place (λ r. KeepsLocks r.number (IsNext k.operations.rooms k.operations.locks r) k.operations.locks n.operations.locks result)
+    pub locks : AtPlace k.running.items place (λ r. KeepsLocks r.number (IsNext k.operations.rooms (core_page_locks k) r) (core_page_locks k) (core_page_locks n) result)
     pub why : IfErr result IsCause
-    pub faults : TellsFaults (failures k.operations.store.device) (failures n.operations.store.device) result
+    pub faults : TellsFaults (failures (core_device k)) (failures (core_device n)) result
     pub advances : (origin : Origin) (base : Base) → IsConsistent seen may_leave origin base k → Advances seen may_leave origin base (state_of k base) n place result
     pub other : (origin : Origin) (base : Base) → IsConsistent seen may_leave origin base k → AtPlace k.running.items place (λ r. TellsOther n.running.items r.txn result)
     pub book : n.book ≡ k.book
-    pub durable : durable n.operations.store.log ≡ durable k.operations.store.log
+    pub durable : durable (core_log n) ≡ durable (core_log k)
     pub moments : LeavesExplained seen may_leave moment left_since k n
-    pub once : moment n.operations.store.device ≤ moment k.operations.store.device + 1
+    pub once : moment (core_device n) ≤ moment (core_device k) + 1
     pub others : AtPlace k.running.items place (λ r. KeepsOthers r.txn k.running.items n.running.items)
-    pub writes : WritesOnce (appended k.operations.store.log) (appended n.operations.store.log) result
+    pub writes : WritesOnce (appended (core_log k)) (appended (core_log n)) result
     pub appends : (origin : Origin) (base : Base) → IsConsistent seen may_leave origin base k → AtPlace n.running.items place (λ r. StepAppends origin k n r result)
 
 module _ {D : Type 0} (seen : D → List ℕ) (may_leave : D → List ℕ → Type 0) (failures : D → ℕ) (moment : D → ℕ) (left_since : D → ℕ → List ℕ → Type 0) where
@@ -67,25 +68,25 @@ module _ {D : Type 0} (seen : D → List ℕ) (may_leave : D → List ℕ → Ty
   pub record IsTakenBack (k n : Core D) (place : ℕ) (result : Result TakenBack Refusal) : Type 0 where
     pub live : n.live ≡ k.live
     pub commits : n.commits ≡ k.commits
-    pub locks : n.operations.locks ≡ k.operations.locks
+    pub locks : core_page_locks n ≡ core_page_locks k
     pub full : result ≡ Ok back.Flush → WantsFrame k n
     pub length : length n.running.items ≡ length k.running.items
     pub same : (origin : Origin) (base : Base) → IsConsistent seen may_leave origin base k → (r q : OpScope) → r ≡ slice_index_or k.running.items place r → q ≡ slice_index_or n.running.items place q → SameOp r q
     pub puts : (r q : OpScope) → r ≡ slice_index_or k.running.items place r → q ≡ slice_index_or n.running.items place q → LeavesStanding r q result
     pub why : IfErr result IsCause
-    pub faults : TellsFaults (failures k.operations.store.device) (failures n.operations.store.device) result
+    pub faults : TellsFaults (failures (core_device k)) (failures (core_device n)) result
     pub back : (origin : Origin) (base : Base) → IsConsistent seen may_leave origin base k → GoesBack seen may_leave origin base (state_of k base) n place result
     pub book : n.book ≡ k.book
-    pub durable : durable n.operations.store.log ≡ durable k.operations.store.log
+    pub durable : durable (core_log n) ≡ durable (core_log k)
     pub moments : LeavesExplained seen may_leave moment left_since k n
-    pub once : moment n.operations.store.device ≤ moment k.operations.store.device + 1
+    pub once : moment (core_device n) ≤ moment (core_device k) + 1
     pub others : AtPlace k.running.items place (λ r. KeepsOthers r.txn k.running.items n.running.items)
     pub appends : (origin : Origin) (base : Base) → IsConsistent seen may_leave origin base k → QuietlyAppends origin.pages k n
 
 -- The operation at a place, which was ready and no inverse, ended with this reply.
 pub record EndsReady {D : Type 0} (seen : D → List ℕ) (may_leave : D → List ℕ → Type 0) (k n : Core D) (place : ℕ) (reply : Reply) : Type 0 where
   pub items : n.running.items ≡ remove k.running.items place
-  pub locks : AtPlace k.running.items place (λ r. n.operations.locks ≡ locks_without r.number k.operations.locks)
+  pub locks : AtPlace k.running.items place (λ r. core_page_locks n ≡ locks_without r.number (core_page_locks k))
   pub store : n.operations.store ≡ k.operations.store
   pub states : SameStates k n
   pub commits : n.commits ≡ k.commits
@@ -95,7 +96,7 @@ pub record EndsReady {D : Type 0} (seen : D → List ℕ) (may_leave : D → Lis
 -- The inverse at a place, which was ready, ended.
 pub record EndsInverse {D : Type 0} (seen : D → List ℕ) (may_leave : D → List ℕ → Type 0) (k n : Core D) (place : ℕ) : Type 0 where
   pub items : n.running.items ≡ remove k.running.items place
-  pub locks : AtPlace k.running.items place (λ r. n.operations.locks ≡ locks_without r.number k.operations.locks)
+  pub locks : AtPlace k.running.items place (λ r. core_page_locks n ≡ locks_without r.number (core_page_locks k))
   pub store : n.operations.store ≡ k.operations.store
   pub states : SameStates k n
   pub commits : n.commits ≡ k.commits
@@ -106,7 +107,7 @@ pub record EndsInverse {D : Type 0} (seen : D → List ℕ) (may_leave : D → L
 pub record DropsOut {D : Type 0} (seen : D → List ℕ) (may_leave : D → List ℕ → Type 0) (k n : Core D) (place : ℕ) : Type 0 where
   pub items : n.running.items ≡ remove k.running.items place
   pub store : n.operations.store ≡ k.operations.store
-  pub locks : AtPlace k.running.items place (λ r. n.operations.locks ≡ locks_without r.number k.operations.locks)
+  pub locks : AtPlace k.running.items place (λ r. core_page_locks n ≡ locks_without r.number (core_page_locks k))
   pub live : n.live ≡ k.live
   pub commits : n.commits ≡ k.commits
   pub drops : (origin : Origin) (base : Base) → IsClearedAt seen may_leave origin base k place → AtPlace k.running.items place (λ r. DropsIn seen may_leave origin base (state_of k base) n r.txn)
@@ -120,14 +121,14 @@ pub record LeavesFirst {D : Type 0} (seen : D → List ℕ) (may_leave : D → L
   pub running : n.running ≡ k.running
   pub states : SameUncommitted k n
   pub undo : LeavesUndo k n
-  pub restartable : (c : Commit) (cs : List Commit) → k.commits.items ≡ c ∷ cs → c.place ≤ length (durable k.operations.store.log) → StaysRestartable seen may_leave k n
+  pub restartable : (c : Commit) (cs : List Commit) → k.commits.items ≡ c ∷ cs → c.place ≤ length (durable (core_log k)) → StaysRestartable seen may_leave k n
 
 -- An operation of a transaction was called, its object locked first.
 pub record LocksObject {D : Type 0} (seen : D → List ℕ) (may_leave : D → List ℕ → Type 0) (k n : Core D) (txn : ℕ) (op : Op) (split : Bool) (r : Result Called Refusal) : Type 0 where
   pub called : (origin : Origin) (base : Base) → IsConsistent seen may_leave origin base k → MayRun origin k txn op → IsCalled seen may_leave origin base (state_of k base) n txn op r
   pub answer : (origin : Origin) (base : Base) → IsConsistent seen may_leave origin base k → MayRun origin k txn op → IsAnswered seen origin k (log_kept k) txn op split r
   pub live : n.live ≡ k.live
-  pub runs : CallRuns txn (2 * pages k.operations.store.pool + 9) k.running.items n.running.items r
+  pub runs : CallRuns txn (2 * pages (core_pool k) + 9) k.running.items n.running.items r
   pub same_commits : SameCommits k n
   pub store : n.operations.store ≡ k.operations.store
   pub book : n.book ≡ k.book
@@ -140,7 +141,7 @@ pub record StartsCall {D : Type 0} (seen : D → List ℕ) (may_leave : D → Li
   pub back : IfErr r (λ gone. gone.1 ≡ end)
   pub err : OnErr r (IsRestored seen may_leave k n)
   pub live : n.live ≡ k.live
-  pub runs : OnOk r (RunsBehind txn (2 * pages k.operations.store.pool + 9) k.running.items n.running.items)
+  pub runs : OnOk r (RunsBehind txn (2 * pages (core_pool k) + 9) k.running.items n.running.items)
   pub same_commits : SameCommits k n
   pub store : n.operations.store ≡ k.operations.store
   pub book : n.book ≡ k.book
@@ -153,7 +154,7 @@ pub record AdmitsCall {D : Type 0} (seen : D → List ℕ) (may_leave : D → Li
   pub back : IfErr r (λ gone. gone.1 ≡ op)
   pub err : OnErr r (IsRestored seen may_leave k n)
   pub live : n.live ≡ k.live
-  pub runs : OnOk r (RunsBehind txn (2 * pages k.operations.store.pool + 9) k.running.items n.running.items)
+  pub runs : OnOk r (RunsBehind txn (2 * pages (core_pool k) + 9) k.running.items n.running.items)
   pub same_commits : SameCommits k n
   pub store : n.operations.store ≡ k.operations.store
   pub book : n.book ≡ k.book

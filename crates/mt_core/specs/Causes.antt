@@ -16,6 +16,7 @@ use Rattle.mt_core.specs.Consistent.{Origin, IsAskedFor}
 use Rattle.mt_core.specs.declared.calls.Called.{Called}
 use Rattle.mt_core.specs.declared.calls.Called.TheVariants as answer
 use Rattle.mt_core.specs.declared.parts.Core.{Core}
+use Rattle.mt_core.specs.Seen.{core_log, core_pool}
 
 -- what a call reserves, for its operation and for the inverse of that: pages, and bytes of the log
 abbrev pub pages_asked : Op → Bool → ℕ
@@ -26,7 +27,7 @@ bytes_asked op = 2 * undo_bytes op
 
 -- how many of the pages held are free
 abbrev pub pages_free : {D : Type 0} → (D → List ℕ) → Origin → Core D → ℕ
-pages_free seen origin k = free_pages (pages k.operations.store.pool) (held_in (world seen origin.pages k.operations))
+pages_free seen origin k = free_pages (pages (core_pool k)) (held_in (world seen origin.pages k.operations))
 
 -- so many are free beside those that are claimed
 abbrev pub HasPages : {D : Type 0} → (D → List ℕ) → Origin → Core D → ℕ → Type 0
@@ -34,7 +35,7 @@ HasPages seen origin k count = claimed k.operations + count ≤ pages_free seen 
 
 -- the log has room for so many bytes beside those that are used and kept
 abbrev pub HasBytes : {D : Type 0} → Core D → ℕ → ℕ → Type 0
-HasBytes k kept bytes = kept + bytes < area_size k.operations.store.log
+HasBytes k kept bytes = kept + bytes < area_size (core_log k)
 
 abbrev pub HasReserves : {D : Type 0} → (D → List ℕ) → Origin → Core D → ℕ → Op → Bool → Type 0
 HasReserves seen origin k kept op split = HasPages seen origin k (pages_asked op split) × HasBytes k kept (bytes_asked op)
@@ -42,7 +43,7 @@ HasReserves seen origin k kept op split = HasPages seen origin k (pages_asked op
 -- too few pages; or else too little of the log
 abbrev pub IsUnreserved : {D : Type 0} → (D → List ℕ) → Origin → Core D → ℕ → Op → Bool → Refusal → Type 0
 IsUnreserved seen origin k kept op split refusal.NoRoom = pages_free seen origin k < claimed k.operations + pages_asked op split
-IsUnreserved seen origin k kept op split refusal.LogFull = HasPages seen origin k (pages_asked op split) × (area_size k.operations.store.log ≤ kept + bytes_asked op)
+IsUnreserved seen origin k kept op split refusal.LogFull = HasPages seen origin k (pages_asked op split) × (area_size (core_log k) ≤ kept + bytes_asked op)
 IsUnreserved seen origin k kept op split refusal.NoMemory = ⊤
 IsUnreserved seen origin k kept op split _ = ⊥
 

@@ -53,6 +53,7 @@ use Rattle.mt_core.specs.declared.calls.Called.{Called}
 use Rattle.mt_core.specs.declared.calls.Called.TheVariants as answer
 use Rattle.mt_core.specs.declared.parts.Commit.{Commit}
 use Rattle.mt_core.specs.declared.parts.Core.{Core}
+use Rattle.mt_core.specs.Seen.{core_log, core_page_locks}
 
 -- What a kernel began on: the base on which its book begins, and the schema; and of its log's area the pages as they
 -- were when that began, the base that they held, and the commits that were in the book by then.
@@ -168,13 +169,13 @@ pub record IsFit {D : Type 0} (seen : D → List ℕ) (may_leave : D → List �
   pub kept : IsKept origin.first (state_of k base)
   pub owned : All (IsOwned k.live.members k.live.standing) k.running.items
   pub apart : AllPairs AreApart k.running.items
-  pub numbered : IsNumbered k.last k.live.begun k.live.members k.operations.locks (appended k.operations.store.log)
-  pub locked : AreHeldBy k.running.items k.operations.locks
+  pub numbered : IsNumbered k.last k.live.begun k.live.members (core_page_locks k) (appended (core_log k))
+  pub locked : AreHeldBy k.running.items (core_page_locks k)
   pub small : All (IsWithinSchema origin) k.live.standing
-  pub log : used k.operations.store.log + sum_by left_of k.running.items + k.reserved < area_size k.operations.store.log
+  pub log : used (core_log k) + sum_by left_of k.running.items + k.reserved < area_size (core_log k)
   pub reserves : k.reserved + sum_by taken_bytes k.running.items + END_LOG_BYTES * length k.commits.items
       ≡ sum_by kept_bytes k.running.items + sum_by entry_bytes k.live.standing + TRANSACTION_LOG_BYTES * length k.live.members
-  pub queued : IsQueued k.live.members (appended k.operations.store.log) k.commits.items
+  pub queued : IsQueued k.live.members (appended (core_log k)) k.commits.items
   pub numbers : AreLeft k.last k.live.begun k.reserved
   pub booked : vec_len k.book + length k.commits.items ≤ vec_capacity k.book
   pub escrowed : IsEscrowed origin.counters (committed_base origin.first (state_of k base)) k.escrow
@@ -185,7 +186,7 @@ pub record IsConsistent {D : Type 0} (seen : D → List ℕ) (may_leave : D → 
   pub fit : IsFit seen may_leave origin base k
   pub holds : Holds (held_in (world seen origin.pages k.operations)) base
   pub runs : All (IsRunning origin.relations origin.counters (world seen origin.pages k.operations) k.last) k.running.items
-  pub outcome : AreReported k.last k.live.members (appended k.operations.store.log)
+  pub outcome : AreReported k.last k.live.members (appended (core_log k))
   pub claims : claimed k.operations ≡ sum_by pages_of k.running.items + sum_by entry_pages k.live.standing
 
 -- each transaction is open, commits or is to be undone as before; but for one, which is in this state
@@ -215,7 +216,7 @@ IsSound seen may_leave k = ∥ ((origin : Origin) × (base : Base) × IsConsiste
 
 -- bytes of the log that are used and kept
 abbrev pub log_kept : {D : Type 0} → Core D → ℕ
-log_kept k = used k.operations.store.log + sum_by left_of k.running.items + k.reserved
+log_kept k = used (core_log k) + sum_by left_of k.running.items + k.reserved
 
 -- of the operation at a place
 abbrev pub AtPlace : List OpScope → ℕ → (OpScope → Type 0) → Type 0
@@ -249,7 +250,7 @@ pub record IsReady {D : Type 0} (seen : D → List ℕ) (may_leave : D → List 
   pub holds : Holds (held_in (world seen origin.pages k.operations)) (base_after base r.op)
   pub replies : reply_of base r.op ≡ reply
   pub small : HasSmallReply reply
-  pub outcome : IsReportedBefore k.last k.live.members (appended k.operations.store.log) r reply
+  pub outcome : IsReportedBefore k.last k.live.members (appended (core_log k)) r reply
   pub claims : claimed k.operations + own_needs r.op r.split ≡ sum_by pages_of k.running.items + sum_by entry_pages k.live.standing
 
 -- what is at a place is ready, with this reply
@@ -261,7 +262,7 @@ pub record IsCleared {D : Type 0} (seen : D → List ℕ) (may_leave : D → Lis
   pub fit : IsFit seen may_leave origin base k
   pub alone : IsAlone seen origin k place r Cleared
   pub holds : Holds (held_in (world seen origin.pages k.operations)) base
-  pub outcome : AreReported k.last k.live.members (appended k.operations.store.log)
+  pub outcome : AreReported k.last k.live.members (appended (core_log k))
   pub claims : claimed k.operations ≡ sum_by pages_of k.running.items + sum_by entry_pages k.live.standing
 
 -- what is at a place is taken back
@@ -338,7 +339,7 @@ pub record IsRestored {D : Type 0} (seen : D → List ℕ) (may_leave : D → Li
   pub same : n ≡ record k { operations = n.operations }
   pub right : (opening : PageBytes) (relations counters : ℕ) → IsRight seen may_leave opening relations counters k.operations → IsRight seen may_leave opening relations counters n.operations
   pub store : n.operations.store ≡ k.operations.store
-  pub page_locks : n.operations.locks ≡ k.operations.locks
+  pub page_locks : core_page_locks n ≡ core_page_locks k
   pub claimed : claimed n.operations ≡ claimed k.operations
 
 -- if it is refused or has to wait, nothing of it stays

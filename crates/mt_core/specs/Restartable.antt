@@ -25,6 +25,7 @@ use Rattle.mt_core.specs.Booked.{txns_of, durable_count}
 use Rattle.mt_core.specs.Consistent.{Origin, session_in, IsConsistent}
 use Rattle.mt_core.specs.Runs.{is_at_work}
 use Rattle.mt_core.specs.declared.parts.Core.{Core}
+use Rattle.mt_core.specs.Seen.{core_log, core_pool}
 
 -- ---- what did something
 
@@ -67,22 +68,22 @@ pub record TellsOf {D : Type 0} (origin : Origin) (k : Core D) (records : List R
 
 -- a restart over these records finds the base that they represent
 abbrev pub Recovers : {D : Type 0} → Origin → Core D → List Record → Type 0
-Recovers origin k records = IsRecoverable origin.relations origin.counters (pages k.operations.store.pool)
-    (area_size k.operations.store.log) origin.pages origin.begun records
+Recovers origin k records = IsRecoverable origin.relations origin.counters (pages (core_pool k))
+    (area_size (core_log k)) origin.pages origin.begun records
 
 -- The durable records name each commit that was booked since the area began. Of those under way they name each whose
 -- record is one of them.
 abbrev pub TellsBook : {D : Type 0} → Origin → Core D → Type 0
-TellsBook origin k = length k.book.items + durable_count k.commits.items (length (durable k.operations.store.log))
-    ≤ length origin.earlier + length (tells (durable k.operations.store.log)).books
+TellsBook origin k = length k.book.items + durable_count k.commits.items (length (durable (core_log k)))
+    ≤ length origin.earlier + length (tells (durable (core_log k))).books
 
 -- A restart over each beginning of the records finds its base, if the area has 4 MiB at least: at most 64
 -- transactions live, and such an area has room for the images of the pages that inverses change. The area began on
 -- what the commits from before it lead to.
 pub record IsRestartable {D : Type 0} (origin : Origin) (k : Core D) : Type 0 where
-  pub beginnings : MIN_AREA_MIB * MIB_BYTES ≤ area_size k.operations.store.log → EachBeginning (Recovers origin k) (appended k.operations.store.log)
+  pub beginnings : MIN_AREA_MIB * MIB_BYTES ≤ area_size (core_log k) → EachBeginning (Recovers origin k) (appended (core_log k))
   pub begun : origin.begun ≡ after origin.first origin.earlier
-  pub tells : TellsOf origin k (appended k.operations.store.log)
+  pub tells : TellsOf origin k (appended (core_log k))
   pub booked : TellsBook origin k
   pub few : length k.live.members ≤ MAX_LIVE
 
@@ -90,12 +91,12 @@ pub record IsRestartable {D : Type 0} (origin : Origin) (k : Core D) : Type 0 wh
 
 -- what was durable is
 abbrev pub Lasts : {D : Type 0} → Core D → Core D → Type 0
-Lasts k n = (more : List Record) × (durable n.operations.store.log ≡ durable k.operations.store.log ++ more)
+Lasts k n = (more : List Record) × (durable (core_log n) ≡ durable (core_log k) ++ more)
 
 -- as many pages, and an area as large in which no durable record was lost
 pub record SameArea {D : Type 0} (k n : Core D) : Type 0 where
-  pub total : pages n.operations.store.pool ≡ pages k.operations.store.pool
-  pub bytes : area_size n.operations.store.log ≡ area_size k.operations.store.log
+  pub total : pages (core_pool n) ≡ pages (core_pool k)
+  pub bytes : area_size (core_log n) ≡ area_size (core_log k)
   pub lasts : Lasts k n
 
 -- after these records others say nothing of transactions, and the pages held stay
@@ -128,11 +129,11 @@ Appends origin total old new s (Err why) = AppendsQuietly origin.pages old new
 -- nothing more
 pub record StepAppends {D : Type 0} (origin : Origin) (k n : Core D) (s : OpScope) (result : Result Stepped Refusal) : Type 0 where
   pub area : SameArea k n
-  pub appends : Appends origin (pages k.operations.store.pool) (appended k.operations.store.log) (appended n.operations.store.log) s result
+  pub appends : Appends origin (pages (core_pool k)) (appended (core_log k)) (appended (core_log n)) s result
 
 pub record QuietlyAppends {D : Type 0} (opening : PageBytes) (k n : Core D) : Type 0 where
   pub area : SameArea k n
-  pub appends : AppendsQuietly opening (appended k.operations.store.log) (appended n.operations.store.log)
+  pub appends : AppendsQuietly opening (appended (core_log k)) (appended (core_log n))
 
 -- ---- what an end leaves
 

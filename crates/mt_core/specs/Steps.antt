@@ -15,6 +15,7 @@ use Rattle.mt_core.specs.declared.steps.Going.{Going}
 use Rattle.mt_core.specs.declared.steps.Going.TheVariants as going
 use Rattle.mt_core.specs.declared.steps.Stepping.{Stepping}
 use Rattle.mt_core.specs.declared.steps.Stepping.TheVariants.{Going as GoingOn, Ended}
+use Rattle.mt_core.specs.Seen.{core_device, core_pool}
 
 -- It ends, with the model's reply on the base; or the base and all that stands are as before.
 abbrev pub Steps : {D : Type 0} → (D → List ℕ) → (D → List ℕ → Type 0) → Origin → Base → Core D → Core D → ℕ → Result Stepping Refusal → Type 0
@@ -34,11 +35,11 @@ UndoSteps seen may_leave origin base k n place (Err why) = IsIn seen may_leave o
 -- Whenever a crash comes meanwhile, what it leaves explains the pages as before.
 abbrev pub LeavesExplained : {D : Type 0} → (D → List ℕ) → (D → List ℕ → Type 0) → (D → ℕ) → (D → ℕ → List ℕ → Type 0) → Core D → Core D → Type 0
 LeavesExplained seen may_leave moment left_since k n = (opening : PageBytes) → IsKept seen may_leave opening k.operations.store
-    → LeavesOnly moment left_since k.operations.store.device n.operations.store.device (Explains opening k.operations.store)
+    → LeavesOnly moment left_since (core_device k) (core_device n) (Explains opening k.operations.store)
 
 -- Every frame holds a page that is yet to be flushed; pages, locks and log are as they were.
 abbrev pub WantsFrame : {D : Type 0} → Core D → Core D → Type 0
-WantsFrame k n = IsFull k.operations.store.pool × (n.operations ≡ k.operations)
+WantsFrame k n = IsFull (core_pool k) × (n.operations ≡ k.operations)
 
 -- ---- who is in the way
 

@@ -2,8 +2,7 @@
 use Rattle.std.specs.Prelude.{ℕ, ◌≡◌, List, []}
 use Rattle.mt_escrow.specs.Seen.{Escrowed}
 use Rattle.mt_model.specs.Model.{Base, IsBase}
-use Rattle.mt_log.specs.declared.log.Log.{Log}
-use Rattle.mt_op.specs.Operations.{IsRight, operation_device, operation_frames, operation_log}
+use Rattle.mt_op.specs.Operations.{IsRight}
 use Rattle.mt_op.specs.declared.operations.Operations.{Operations}
 use Rattle.mt_space.specs.Changes.{PageBytes}
 use Rattle.mt_steps.specs.Held.{Holds}
@@ -19,17 +18,6 @@ pub record IsRestOf {D : Type 0} (k : Core D) (r : Rest) : Type 0 where
   pub book : r.book ≡ k.book
   pub last : r.last ≡ k.last
   pub reserved : r.reserved ≡ k.reserved
-
--- the device and the log under it
-abbrev pub core_device : {D : Type 0} → Core D → D
-core_device k = operation_device k.operations
-
-abbrev pub core_log : {D : Type 0} → Core D → Log
-core_log k = operation_log k.operations
-
--- how many pages can be in frames
-abbrev pub core_frames : {D : Type 0} → Core D → ℕ
-core_frames k = operation_frames k.operations
 
 -- the new area begins with the book, on these pages and the base that they hold
 abbrev pub turned : {D : Type 0} → Origin → Base → PageBytes → Core D → Origin

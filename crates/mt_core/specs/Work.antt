@@ -16,6 +16,7 @@ use Rattle.mt_core.specs.declared.steps.Going.{Going}
 use Rattle.mt_core.specs.declared.steps.Going.TheVariants as going
 use Rattle.mt_core.specs.declared.steps.Stepping.{Stepping}
 use Rattle.mt_core.specs.declared.steps.Stepping.TheVariants.{Going as GoingOn, Ended}
+use Rattle.mt_core.specs.Seen.{core_pool}
 
 -- how many it makes at most, if nobody is in its way
 abbrev pub steps_in : List OpScope → ℕ → ℕ
@@ -70,7 +71,7 @@ abort_steps pages (r ∷ rs) t effects = cond (r.txn == t) (steps_with pages r e
 
 -- how many steps the abort of a transaction makes at most before its end, if nobody is in its way
 abbrev pub undo_steps : {D : Type 0} → Core D → ℕ → ℕ
-undo_steps k t = abort_steps (pages k.operations.store.pool) k.running.items t (effects_left (pages k.operations.store.pool) k.live.standing t)
+undo_steps k t = abort_steps (pages (core_pool k)) k.running.items t (effects_left (pages (core_pool k)) k.live.standing t)
 
 -- if none of them grows
 abbrev pub LeavesUndo : {D : Type 0} → Core D → Core D → Type 0
@@ -78,7 +79,7 @@ LeavesUndo k n = (t : ℕ) → undo_steps n t ≤ undo_steps k t
 
 -- what that is at most: the steps of an effect for each of its operations that stand, and for the one under way
 abbrev pub most_steps : {D : Type 0} → Core D → ℕ → ℕ
-most_steps k t = (length (kept (only t) k.live.standing) + 1) * (2 * pages k.operations.store.pool + 10)
+most_steps k t = (length (kept (only t) k.live.standing) + 1) * (2 * pages (core_pool k) + 10)
 
 -- what a step of an inverse leaves of them
 abbrev pub LowersUndo : ℕ → Result Stepping Refusal → ℕ → ℕ → Type 0

@@ -17,6 +17,7 @@ ghost use Rattle.mt_core.specs.Restartable.{StaysRestartable};
 ghost use Rattle.mt_core.specs.Work.{CallRuns};
 ghost use Rattle.mt_op.specs.declared.scope.OpScope.{OpScope};
 ghost use Rattle.mt_core.specs.Advancing.{AdmitsCall, AsksLeave, LocksObject, StartsCall};
+ghost use Rattle.mt_core.specs.Seen.{core_log, core_pool};
 
 use crate::ends::let_go;
 use crate::parts::Core;
@@ -110,7 +111,7 @@ impl<D: Device> Core<D> {
             → MayBeCalled origin self.old txn op.now
             → IsAnswered D.seen origin self.old (log_kept self.old) txn op.now split result }
         ensures states { SameStates self.old self.new }
-        ensures runs { CallRuns txn (2 * pages self.old.operations.store.pool + 9) self.old.running.items
+        ensures runs { CallRuns txn (2 * pages (core_pool self.old) + 9) self.old.running.items
             self.new.running.items result }
         ensures same_commits { SameCommits self.old self.new }
         ensures store { self.new.operations.store ≡ self.old.operations.store }
@@ -125,9 +126,9 @@ impl<D: Device> Core<D> {
 
     // Whether the log has room for so many bytes beside those that are kept.
     pub(crate) fn log_takes(&self, bytes: u64) -> bool
-        requires { log_kept self.now < area_size self.now.operations.store.log }
-        ensures takes { OnTrue result (log_kept self.now + bytes < area_size self.now.operations.store.log) }
-        ensures full { OnFalse result (area_size self.now.operations.store.log ≤ log_kept self.now + bytes) }
+        requires { log_kept self.now < area_size (core_log self.now) }
+        ensures takes { OnTrue result (log_kept self.now + bytes < area_size (core_log self.now)) }
+        ensures full { OnFalse result (area_size (core_log self.now) ≤ log_kept self.now + bytes) }
         ensures sum { OnTrue result (self.now.reserved + bytes < 2 ^ 64) }
     {
         let log = self.operations.log();

@@ -19,7 +19,6 @@ ghost use Rattle.mt_base.specs.declared.refusal.Refusal.{Refusal};
 ghost use Rattle.mt_core.specs.Consistent.{log_kept, SameCommits, SameRunning, SameStates, SameUncommitted, SetsState, IsSound, StaysIn, OnlyOperations, Origin, state_of, state_in, IsConsistent, IsIn};
 ghost use Rattle.mt_core.specs.Restartable.{StaysRestartable};
 ghost use Rattle.mt_core.specs.Steps.{LeavesExplained};
-ghost use Rattle.mt_core.specs.Turned.{core_log};
 ghost use Rattle.mt_core.specs.Booked.{booked_each, durable_count, durable_txns};
 ghost use Rattle.mt_core.specs.Runs.{is_open};
 ghost use Rattle.mt_core.specs.Work.{LeavesUndo, most_steps, undo_steps};
@@ -29,6 +28,7 @@ ghost use Rattle.mt_base.specs.declared.limits.TheConstants.{MAX_BEGUN, MAX_LIVE
 ghost use Rattle.mt_core.specs.declared.parts.Commit.{Commit};
 ghost use Rattle.mt_op.specs.declared.scope.OpScope.{OpScope};
 ghost use Rattle.mt_core.specs.Advancing.{LeavesFirst};
+ghost use Rattle.mt_core.specs.Seen.{core_device, core_log, core_pool, core_ruling};
 
 use crate::parts::{Commit, Core};
 use crate::reservations::{all_bytes_kept, all_pages_kept};
@@ -70,13 +70,13 @@ impl<D: Device> Core<D> {
             → OnOk result (IsIn D.seen D.may_leave origin base (begun (state_of self.old base) session) self.new) }
         ensures number { IfOk result (λ txn. txn ≡ self.old.live.begun + 1) }
         ensures may { OnOk result
-            (log_kept self.old + TRANSACTION_LOG_BYTES < area_size self.old.operations.store.log) }
+            (log_kept self.old + TRANSACTION_LOG_BYTES < area_size (core_log self.old)) }
         ensures cause { IfErr result (λ why. (why ≡ Refusal.NoMemory) ⊎ ((why ≡ Refusal.LogFull)
-            × (area_size self.old.operations.store.log ≤ log_kept self.old + TRANSACTION_LOG_BYTES))) }
+            × (area_size (core_log self.old) ≤ log_kept self.old + TRANSACTION_LOG_BYTES))) }
         ensures opened { IfOk result (λ txn. SetsState self.old self.new txn (Some Open)) }
         ensures same_running { SameRunning self.old self.new }
         ensures same_commits { SameCommits self.old self.new }
-        ensures device { self.new.operations.store.device ≡ self.old.operations.store.device }
+        ensures device { core_device self.new ≡ core_device self.old }
         ensures restartable { length self.old.live.members < MAX_LIVE
             → StaysRestartable D.seen D.may_leave self.old self.new }
         ensures err { OnErr result (self.new ≡ self.old) }
@@ -98,7 +98,7 @@ impl<D: Device> Core<D> {
         ensures same_commits { SameCommits self.old self.new }
         ensures few { (origin : Origin) (base : Base) → IsConsistent D.seen D.may_leave origin base self.old
             → undo_steps self.new txn ≤ most_steps self.old txn }
-        ensures device { self.new.operations.store.device ≡ self.old.operations.store.device }
+        ensures device { core_device self.new ≡ core_device self.old }
         ensures restartable { StaysRestartable D.seen D.may_leave self.old self.new }
     {
         self.live.set_state(txn, TxnState::Aborting);
@@ -116,19 +116,19 @@ impl<D: Device> Core<D> {
         ensures place { IfOk result (λ place.
             place ≡ length self.old.book.items + length self.old.commits.items + 1) }
         ensures queue { OnOk result ((c : Commit) × (c.txn ≡ txn)
-            × (c.place ≡ length (appended self.new.operations.store.log))
+            × (c.place ≡ length (appended (core_log self.new)))
             × (self.new.commits.items ≡ self.old.commits.items ++ c ∷ [])) }
-        ensures waits { OnOk result (waiting self.new.operations.store.log
-            ≡ waiting self.old.operations.store.log ++ record_of.Commit txn ∷ []) }
-        ensures durable { durable self.new.operations.store.log ≡ durable self.old.operations.store.log }
-        ensures in_flight { in_flight self.new.operations.store.log ≡ in_flight self.old.operations.store.log }
-        ensures calls { calls_left self.new.operations.store.log ≡ calls_left self.old.operations.store.log }
+        ensures waits { OnOk result (waiting (core_log self.new)
+            ≡ waiting (core_log self.old) ++ record_of.Commit txn ∷ []) }
+        ensures durable { durable (core_log self.new) ≡ durable (core_log self.old) }
+        ensures in_flight { in_flight (core_log self.new) ≡ in_flight (core_log self.old) }
+        ensures calls { calls_left (core_log self.new) ≡ calls_left (core_log self.old) }
         ensures err_appended { OnErr result (appended (core_log self.new) ≡ appended (core_log self.old)) }
         ensures commits { OnOk result (SetsState self.old self.new txn (Some Committing)) }
         ensures err { OnErr result (SameStates self.old self.new × SameCommits self.old self.new) }
         ensures same_running { SameRunning self.old self.new }
         ensures only_memory { IfErr result (λ why. why ≡ Refusal.NoMemory) }
-        ensures device { self.new.operations.store.device ≡ self.old.operations.store.device }
+        ensures device { core_device self.new ≡ core_device self.old }
         ensures restartable { StaysRestartable D.seen D.may_leave self.old self.new }
     {
         self.commits.reserve(1)?;
@@ -176,7 +176,7 @@ impl<D: Device> Core<D> {
         ensures states { SameUncommitted self.old self.new }
         ensures undo { LeavesUndo self.old self.new }
         // If the records up to this place are durable: none is booked that a crash may take away.
-        ensures restartable { place ≤ length (durable self.old.operations.store.log)
+        ensures restartable { place ≤ length (durable (core_log self.old))
             → StaysRestartable D.seen D.may_leave self.old self.new }
     {
         let count = durable_count(self.commits.as_slice(), place);
@@ -194,13 +194,13 @@ impl<D: Device> Core<D> {
         requires safe { IsSound D.seen D.may_leave self.old }
         ensures state { StaysIn D.seen D.may_leave self.old self.new }
         ensures rest { OnlyOperations self.old self.new }
-        ensures pool { self.new.operations.store.pool ≡ self.old.operations.store.pool }
-        ensures ruling { self.new.operations.store.ruling ≡ self.old.operations.store.ruling }
+        ensures pool { core_pool self.new ≡ core_pool self.old }
+        ensures ruling { core_ruling self.new ≡ core_ruling self.old }
         ensures steps { ForceSteps (seen_of (core_log self.old)) (seen_of (core_log self.new)) result }
-        ensures cause { ReportsFault D.Device (seen_of (core_log self.old)) self.old.operations.store.device
-            self.new.operations.store.device result }
+        ensures cause { ReportsFault D.Device (seen_of (core_log self.old)) (core_device self.old)
+            (core_device self.new) result }
         ensures moments { LeavesExplained D.seen D.may_leave D.moment D.left_since self.old self.new }
-        ensures once { D.moment self.new.operations.store.device ≤ D.moment self.old.operations.store.device + 1 }
+        ensures once { D.moment (core_device self.new) ≤ D.moment (core_device self.old) + 1 }
         ensures restartable { StaysRestartable D.seen D.may_leave self.old self.new }
     {
         self.operations.force_step()
@@ -211,15 +211,14 @@ impl<D: Device> Core<D> {
         requires safe { IsSound D.seen D.may_leave self.old }
         ensures state { StaysIn D.seen D.may_leave self.old self.new }
         ensures rest { OnlyOperations self.old self.new }
-        ensures log { self.new.operations.store.log ≡ self.old.operations.store.log }
-        ensures steps { FlushSteps (length (durable (core_log self.old))) self.old.operations.store.pool
-            self.new.operations.store.pool result }
+        ensures log { core_log self.new ≡ core_log self.old }
+        ensures steps { FlushSteps (length (durable (core_log self.old))) (core_pool self.old)
+            (core_pool self.new) result }
         ensures forced { result ≡ Ok flushed.Force
             → length (durable (core_log self.old)) < length (appended (core_log self.old)) }
-        ensures cause { HasCause (D.faults self.old.operations.store.device)
-            (D.faults self.new.operations.store.device) result }
+        ensures cause { HasCause (D.faults (core_device self.old)) (D.faults (core_device self.new)) result }
         ensures moments { LeavesExplained D.seen D.may_leave D.moment D.left_since self.old self.new }
-        ensures once { D.moment self.new.operations.store.device ≤ D.moment self.old.operations.store.device + 1 }
+        ensures once { D.moment (core_device self.new) ≤ D.moment (core_device self.old) + 1 }
         ensures restartable { StaysRestartable D.seen D.may_leave self.old self.new }
     {
         self.operations.flush_step()
@@ -231,17 +230,17 @@ impl<D: Device> Core<D> {
         requires safe { IsSound D.seen D.may_leave self.old }
         requires nobody { self.old.live.members ≡ [] }
         ensures surveyed { (origin : Origin) (base : Base) → IsConsistent D.seen D.may_leave origin base self.old
-            → IfOk result (IsSurvey origin.relations origin.counters (pages self.old.operations.store.pool)
+            → IfOk result (IsSurvey origin.relations origin.counters (pages (core_pool self.old))
             (held_in (world D.seen origin.pages self.old.operations)) base) }
         ensures state { StaysIn D.seen D.may_leave self.old self.new }
         ensures rest { OnlyOperations self.old self.new }
-        ensures log { self.new.operations.store.log ≡ self.old.operations.store.log }
-        ensures pool { self.new.operations.store.pool ≡ self.old.operations.store.pool }
-        ensures content { D.seen self.new.operations.store.device ≡ D.seen self.old.operations.store.device }
+        ensures log { core_log self.new ≡ core_log self.old }
+        ensures pool { core_pool self.new ≡ core_pool self.old }
+        ensures content { D.seen (core_device self.new) ≡ D.seen (core_device self.old) }
         ensures cause { IfErr result (λ why. (why ≡ Refusal.NoMemory) ⊎ (why ≡ Refusal.DeviceFailed)
-            × (D.faults self.old.operations.store.device < D.faults self.new.operations.store.device)) }
+            × (D.faults (core_device self.old) < D.faults (core_device self.new))) }
         ensures quiet { (result ≡ Err Refusal.DeviceFailed → ⊥)
-            → D.faults self.new.operations.store.device ≡ D.faults self.old.operations.store.device }
+            → D.faults (core_device self.new) ≡ D.faults (core_device self.old) }
         ensures moments { LeavesExplained D.seen D.may_leave D.moment D.left_since self.old self.new }
         ensures restartable { StaysRestartable D.seen D.may_leave self.old self.new }
     {

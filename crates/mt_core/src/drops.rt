@@ -13,6 +13,7 @@ ghost use Rattle.mt_core.specs.Steps.{LeavesExplained, WantsFrame};
 ghost use Rattle.mt_core.specs.Work.{KeepsOthers, LowersBack, undo_steps};
 ghost use Rattle.mt_op.specs.declared.scope.OpScope.{OpScope};
 ghost use Rattle.mt_core.specs.PageLocks.{GivesLocksBack};
+ghost use Rattle.mt_core.specs.Seen.{core_device, core_log};
 
 use crate::ends::let_go;
 use crate::parts::Core;
@@ -58,7 +59,8 @@ impl<D: Device> Core<D> {
     /// was kept for it and for its inverse. Its add, if it is one, is pending no more. The base that the pages
     /// hold stays.
     ///
-    /// Refused with 1 for want of memory, and with 2 if the device has failed; nothing has changed then.
+    /// Refused with 1 for want of memory, and with 2 if the device has failed. The state is as before then, though frames
+    /// may hold other pages.
     pub fn take_back_step(&mut self, place: usize) -> Result<TakenBack, Refusal>
         requires safe { IsSound D.seen D.may_leave self.old }
         requires within { place < length self.old.running.items }
@@ -73,13 +75,12 @@ impl<D: Device> Core<D> {
         ensures commits { self.new.commits ≡ self.old.commits }
         ensures full { result ≡ Ok TakenBack.Flush → WantsFrame self.old self.new }
         ensures why { IfErr result IsCause }
-        ensures faults { TellsFaults (D.faults self.old.operations.store.device)
-            (D.faults self.new.operations.store.device) result }
+        ensures faults { TellsFaults (D.faults (core_device self.old)) (D.faults (core_device self.new)) result }
         ensures others { AtPlace self.old.running.items place (λ r. KeepsOthers r.txn self.old.running.items
             self.new.running.items) }
-        ensures durable { durable self.new.operations.store.log ≡ durable self.old.operations.store.log }
+        ensures durable { durable (core_log self.new) ≡ durable (core_log self.old) }
         ensures moments { LeavesExplained D.seen D.may_leave D.moment D.left_since self.old self.new }
-        ensures once { D.moment self.new.operations.store.device ≤ D.moment self.old.operations.store.device + 1 }
+        ensures once { D.moment (core_device self.new) ≤ D.moment (core_device self.old) + 1 }
         ensures restartable { StaysRestartable D.seen D.may_leave self.old self.new }
     {
         match self.take_back(place)? {

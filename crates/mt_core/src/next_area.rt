@@ -2,6 +2,7 @@
 ghost use Rattle.std.specs.Prelude.{◌≡◌};
 ghost use Rattle.mt_core.specs.Consistent.{IsFresh};
 ghost use Rattle.mt_core.specs.Turned.{IsRestOf, Resumes};
+ghost use Rattle.mt_core.specs.Seen.{core_device};
 
 use crate::parts::Core;
 use mt_disk::Device;
@@ -26,7 +27,7 @@ impl<D: Device + Drop> Core<D> {
     /// The device, and the rest beside operations and escrow. What is under way is gone, and nothing of it is taken
     /// back. It takes no memory.
     pub fn part(self) -> (D, Rest)
-        ensures device { result.0 ≡ self.operations.store.device }
+        ensures device { result.0 ≡ core_device self }
         ensures rest { IsRestOf self result.1 }
     {
         let Core {
@@ -54,7 +55,7 @@ impl<D: Device + Drop> Core<D> {
     /// The device, for another opening. All that lives or is under way is gone, and nothing of it is taken back. It
     /// takes no memory.
     pub fn into_device(self) -> D
-        ensures { result ≡ self.operations.store.device }
+        ensures { result ≡ core_device self }
     {
         let (device, _rest) = self.part();
         device

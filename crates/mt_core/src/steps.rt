@@ -18,6 +18,7 @@ ghost use Rattle.mt_core.specs.Steps.{LeavesExplained, Steps, UndoSteps, TellsOt
 ghost use Rattle.mt_core.specs.PageLocks.{KeepsPageLocks};
 ghost use Rattle.mt_op.specs.Holds.{IsNext, KeepsLocks};
 ghost use Rattle.mt_op.specs.declared.scope.OpScope.{OpScope};
+ghost use Rattle.mt_core.specs.Seen.{core_device, core_log, core_pool};
 
 use crate::parts::Core;
 use mt_base::{OpNo, Refusal};
@@ -71,14 +72,13 @@ impl<D: Device> Core<D> {
         requires forward { AtPlace self.old.running.items place (λ r. r.undoes ≡ 0) }
         requires stage { AtPlace self.old.running.items place (λ r. (r.stage ≡ Planning) ⊎ (r.stage
             ≡ Writing)) }
-        ensures work { AtPlace self.old.running.items place (λ r. Lowers (pages self.old.operations.store.pool) result
+        ensures work { AtPlace self.old.running.items place (λ r. Lowers (pages (core_pool self.old)) result
             (steps_in self.old.running.items r.txn) (steps_in self.new.running.items r.txn)) }
         ensures states { SameStates self.old self.new }
         ensures commits { self.new.commits ≡ self.old.commits }
         ensures full { result ≡ Ok (Stepping.Going Going.Flush) → WantsFrame self.old self.new }
         ensures why { IfErr result IsCause }
-        ensures faults { TellsFaults (D.faults self.old.operations.store.device)
-            (D.faults self.new.operations.store.device) result }
+        ensures faults { TellsFaults (D.faults (core_device self.old)) (D.faults (core_device self.new)) result }
         ensures steps { (origin : Origin) (base : Base) → IsConsistent D.seen D.may_leave origin base self.old
             → Steps D.seen D.may_leave origin base self.old self.new place result }
         ensures other { (origin : Origin) (base : Base) → IsConsistent D.seen D.may_leave origin base self.old
@@ -86,11 +86,10 @@ impl<D: Device> Core<D> {
         ensures locks { AtPlace self.old.running.items place (λ r. KeepsPageLocks self.old self.new r result) }
         ensures others { AtPlace self.old.running.items place (λ r. KeepsOthers r.txn self.old.running.items
             self.new.running.items) }
-        ensures writes { StepWrites (appended self.old.operations.store.log)
-            (appended self.new.operations.store.log) result }
-        ensures durable { durable self.new.operations.store.log ≡ durable self.old.operations.store.log }
+        ensures writes { StepWrites (appended (core_log self.old)) (appended (core_log self.new)) result }
+        ensures durable { durable (core_log self.new) ≡ durable (core_log self.old) }
         ensures moments { LeavesExplained D.seen D.may_leave D.moment D.left_since self.old self.new }
-        ensures once { D.moment self.new.operations.store.device ≤ D.moment self.old.operations.store.device + 1 }
+        ensures once { D.moment (core_device self.new) ≤ D.moment (core_device self.old) + 1 }
         ensures restartable { StaysRestartable D.seen D.may_leave self.old self.new }
     {
         match self.advance(alloc, place)? {
@@ -116,16 +115,15 @@ impl<D: Device> Core<D> {
         requires back { AtPlace self.old.running.items place (λ r. r.undoes ≢ 0) }
         requires stage { AtPlace self.old.running.items place (λ r. (r.stage ≡ Planning) ⊎ (r.stage
             ≡ Writing)) }
-        ensures work { AtPlace self.old.running.items place (λ r. Lowers (pages self.old.operations.store.pool) result
+        ensures work { AtPlace self.old.running.items place (λ r. Lowers (pages (core_pool self.old)) result
             (steps_in self.old.running.items r.txn) (steps_in self.new.running.items r.txn)) }
-        ensures lowers { AtPlace self.old.running.items place (λ r. LowersUndo (pages self.old.operations.store.pool)
+        ensures lowers { AtPlace self.old.running.items place (λ r. LowersUndo (pages (core_pool self.old))
             result (undo_steps self.old r.txn) (undo_steps self.new r.txn)) }
         ensures states { SameStates self.old self.new }
         ensures commits { self.new.commits ≡ self.old.commits }
         ensures full { result ≡ Ok (Stepping.Going Going.Flush) → WantsFrame self.old self.new }
         ensures why { IfErr result IsCause }
-        ensures faults { TellsFaults (D.faults self.old.operations.store.device)
-            (D.faults self.new.operations.store.device) result }
+        ensures faults { TellsFaults (D.faults (core_device self.old)) (D.faults (core_device self.new)) result }
         ensures steps { (origin : Origin) (base : Base) → IsConsistent D.seen D.may_leave origin base self.old
             → UndoSteps D.seen D.may_leave origin base self.old self.new place result }
         ensures other { (origin : Origin) (base : Base) → IsConsistent D.seen D.may_leave origin base self.old
@@ -133,11 +131,10 @@ impl<D: Device> Core<D> {
         ensures locks { AtPlace self.old.running.items place (λ r. KeepsPageLocks self.old self.new r result) }
         ensures others { AtPlace self.old.running.items place (λ r. KeepsOthers r.txn self.old.running.items
             self.new.running.items) }
-        ensures writes { StepWrites (appended self.old.operations.store.log)
-            (appended self.new.operations.store.log) result }
-        ensures durable { durable self.new.operations.store.log ≡ durable self.old.operations.store.log }
+        ensures writes { StepWrites (appended (core_log self.old)) (appended (core_log self.new)) result }
+        ensures durable { durable (core_log self.new) ≡ durable (core_log self.old) }
         ensures moments { LeavesExplained D.seen D.may_leave D.moment D.left_since self.old self.new }
-        ensures once { D.moment self.new.operations.store.device ≤ D.moment self.old.operations.store.device + 1 }
+        ensures once { D.moment (core_device self.new) ≤ D.moment (core_device self.old) + 1 }
         ensures restartable { StaysRestartable D.seen D.may_leave self.old self.new }
     {
         match self.advance(alloc, place)? {

@@ -13,6 +13,7 @@ ghost use Rattle.mt_core.specs.Restartable.{StaysRestartable};
 ghost use Rattle.mt_core.specs.Runs.{is_open};
 ghost use Rattle.mt_core.specs.Work.{KeepsOthers, undo_steps};
 ghost use Rattle.mt_op.specs.declared.scope.OpScope.{OpScope};
+ghost use Rattle.mt_core.specs.Seen.{core_device, core_log, core_page_locks};
 
 use crate::parts::Core;
 use mt_base::limits::{OPERATION_LOG_BYTES, TRANSACTION_LOG_BYTES};
@@ -38,7 +39,7 @@ impl<D: Device> Core<D> {
         ensures fewer { result ≡ Ok true → undo_steps self.new txn < undo_steps self.old txn }
         ensures err_left { OnErr result (undo_steps self.new txn ≤ undo_steps self.old txn) }
         ensures store { self.new.operations.store ≡ self.old.operations.store }
-        ensures locks { self.new.operations.locks ≡ self.old.operations.locks }
+        ensures locks { core_page_locks self.new ≡ core_page_locks self.old }
         ensures live { self.new.live ≡ self.old.live }
         ensures others { KeepsOthers txn self.old.running.items self.new.running.items }
         ensures commits { self.new.commits ≡ self.old.commits }
@@ -79,13 +80,12 @@ impl<D: Device> Core<D> {
         requires nothing { last_effect txn self.old.live.standing ≡ None }
         ensures gone { (origin : Origin) (base : Base) → IsConsistent D.seen D.may_leave origin base self.old
             → OnOk result (IsIn D.seen D.may_leave origin base (gone (state_of self.old base) txn) self.new) }
-        ensures ended { OnOk result (appended self.new.operations.store.log
-            ≡ appended self.old.operations.store.log ++ AbortEnd txn ∷ []) }
-        ensures durable { durable self.new.operations.store.log ≡ durable self.old.operations.store.log }
+        ensures ended { OnOk result (appended (core_log self.new) ≡ appended (core_log self.old) ++ AbortEnd txn ∷ []) }
+        ensures durable { durable (core_log self.new) ≡ durable (core_log self.old) }
         ensures others { SameStatesBut self.old self.new txn }
         ensures out { OnOk result (state_in self.new.live.members txn ≡ None) }
         ensures err_states { OnErr result (SameStates self.old self.new) }
-        ensures locks { self.new.operations.locks ≡ self.old.operations.locks }
+        ensures locks { core_page_locks self.new ≡ core_page_locks self.old }
         ensures commits { self.new.commits ≡ self.old.commits }
         ensures running { self.new.running ≡ self.old.running }
         ensures none_left { OnOk result (undo_steps self.old txn ≡ 0) }
@@ -93,7 +93,7 @@ impl<D: Device> Core<D> {
         ensures err { (origin : Origin) (base : Base) → IsConsistent D.seen D.may_leave origin base self.old
             → OnErr result (IsIn D.seen D.may_leave origin base (state_of self.old base) self.new) }
         ensures only_memory { IfErr result (λ why. why ≡ Refusal.NoMemory) }
-        ensures device { self.new.operations.store.device ≡ self.old.operations.store.device }
+        ensures device { core_device self.new ≡ core_device self.old }
         ensures restartable { StaysRestartable D.seen D.may_leave self.old self.new }
     {
         self.operations.append(Record::AbortEnd { txn })?;

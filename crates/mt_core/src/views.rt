@@ -2,6 +2,7 @@
 ghost use Rattle.std.specs.Prelude.{◌≡◌, ◌==◌, ◌<◌, ◌≢◌, ℕ, length, Some, true, not};
 ghost use Rattle.mt_core.specs.Consistent.{AtPlace, IsOwnerOf};
 ghost use Rattle.mt_op.specs.declared.scope.OpScope.{OpScope};
+ghost use Rattle.mt_core.specs.Seen.{core_log};
 
 use crate::parts::Core;
 use mt_base::{OpNo, TxnNo};
@@ -33,7 +34,7 @@ impl<D: Device> Core<D> {
 
     /// The log, lent.
     pub fn log(&self) -> &Log
-        ensures { result.now ≡ self.now.operations.store.log }
+        ensures { result.now ≡ core_log self.now }
     {
         self.operations.log()
     }

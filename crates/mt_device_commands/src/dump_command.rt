@@ -9,6 +9,7 @@ ghost use Rattle.mt_restart.specs.Resumed.{IsOpened};
 ghost use Rattle.mt_script.specs.Answers.{AppendsFront};
 ghost use Rattle.mt_device_commands.specs.Dumps.{AreFilesLeft, AreLeftBy, Dumps, DumpsOf, HasDumped, IsUnsurveyed, IsEarly, IsUndumped, IsUndumpable, StandAs, IsRestarted, TellsOfBase, dump_text, sizes_text};
 ghost use Rattle.mt_folder.specs.Folders.{IsUnmade, known_in};
+ghost use Rattle.mt_txn.specs.Shown.{kernel_device};
 
 use crate::check_command::write_figures;
 use crate::waits::Patience;
@@ -33,7 +34,7 @@ fn survey_opened<D: Device + Drop>(kernel: Kernel<D>) -> (Result<Survey, Refusal
     ensures outcome { (relations counters : ℕ) (b : Base) → IsOpened D.seen D.may_leave relations counters b kernel
         → IfOk result.0 (TellsOfBase relations counters b) }
     ensures why { IfErr result.0 IsUnmade }
-    ensures content { D.seen result.1 ≡ D.seen kernel.core.operations.store.device }
+    ensures content { D.seen result.1 ≡ D.seen (kernel_device kernel) }
 {
     let mut kernel = kernel;
     let outcome = kernel.survey();

@@ -2,7 +2,7 @@
 ghost use Rattle.std.specs.Prelude.{◌≡◌, ◌⊎◌, ◌<◌, length, false, IfOk, IfErr, MatchResult};
 ghost use Rattle.mt_base.specs.declared.refusal.Refusal.{Refusal};
 ghost use Rattle.mt_live.specs.Machine.{start};
-ghost use Rattle.mt_txn.specs.Shown.{Restarts, Shows, is_failed, kernel_frames};
+ghost use Rattle.mt_txn.specs.Shown.{Restarts, Shows, is_failed, kernel_device, kernel_frames};
 ghost use Rattle.mt_format.specs.Schemas.{counters_in, device_bytes, relations_in, schema_base};
 
 use crate::Schema;
@@ -39,7 +39,7 @@ pub fn fresh<D: Device + Drop>(
         ⊎ ((gone.0 ≡ Refusal.BadLength) × (length (D.seen device) < device_bytes schema.now)
         ⊎ (gone.0 ≡ Refusal.DeviceFailed) × (D.faults device < D.faults gone.1))) }
     // The device failed in no call of this one, unless it is refused with 2.
-    ensures quiet { MatchResult result (λ kernel. D.faults kernel.core.operations.store.device ≡ D.faults device)
+    ensures quiet { MatchResult result (λ kernel. D.faults (kernel_device kernel) ≡ D.faults device)
         (λ gone. (gone.0 ≡ Refusal.DeviceFailed → ⊥) → D.faults gone.1 ≡ D.faults device) }
 {
     match fresh_parts(alloc, device, schema, frames) {

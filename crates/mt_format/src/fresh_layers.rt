@@ -3,10 +3,10 @@
 ghost use Rattle.std.specs.Prelude.{◌≡◌, ◌⊎◌, ◌<◌, ℕ, length, IfOk, IfErr, MatchResult};
 ghost use Rattle.mt_base.specs.declared.refusal.Refusal.{Refusal};
 ghost use Rattle.mt_disk.specs.Disk.{Only};
-ghost use Rattle.mt_op.specs.Operations.{operation_frames};
 ghost use Rattle.mt_format.specs.Firsts.{IsFirstIdle, IsFirstLog, IsFirstPool, AreFirst, AreFirstLayers, AreFresh};
 ghost use Rattle.mt_format.specs.Formats.{IsFormattedAs};
 ghost use Rattle.mt_format.specs.Schemas.{device_bytes};
+ghost use Rattle.mt_op.specs.Operations.{operation_frames};
 
 use crate::first_pages::first_pages;
 use crate::format_calls::first_slot_of;

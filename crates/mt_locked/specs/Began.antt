@@ -7,7 +7,7 @@ use Rattle.mt_model.specs.Views.{base_of}
 use Rattle.mt_model.specs.declared.objects.Object.{Object}
 use Rattle.mt_model.specs.declared.tables.Base.{Base}
 use Rattle.mt_slock.specs.Views.{held_of}
-use Rattle.mt_txn.specs.Shown.{Restarts, Shows}
+use Rattle.mt_txn.specs.Shown.{Restarts, Shows, kernel_page_locks}
 use Rattle.mt_txn.specs.Turned.{HasNobody}
 use Rattle.mt_txn.specs.declared.kernel.Kernel.{Kernel}
 
@@ -23,4 +23,4 @@ BeganOn seen may_leave base k = StandsOn seen may_leave base k × Restarts seen 
 pub record IsIdle {D : Type 0} {g : Ghosts D} (k : Kernel D g) : Type 0 where
   pub nobody : HasNobody k
   pub objects : (t : ℕ) (x : Object) (m : LockMode) → held_of k.core.locks t x m ≡ false
-  pub pages : length k.core.operations.locks ≡ 0
+  pub pages : length (kernel_page_locks k) ≡ 0

@@ -14,15 +14,15 @@ use Rattle.mt_restart.specs.TurnFaults.{IsTurnFault}
 use Rattle.mt_restart.specs.declared.standing.Standing.{Standing}
 use Rattle.mt_locked.specs.Standings.{KeepsHistory, book_in, kernel_in}
 use Rattle.mt_locked.specs.declared.log_use.LogUse.{LogUse}
-use Rattle.mt_txn.specs.Shown.{Shows}
+use Rattle.mt_txn.specs.Shown.{Shows, kernel_log}
 use Rattle.mt_txn.specs.declared.kernel.Kernel.{Kernel}
 
 -- a kernel that began on this base has so many bytes of its log's area in use
 pub record IsUse {D : Type 0} (g : Ghosts D) (base : Base) (u : LogUse) : Type 0 where
   pub kernel : Kernel D g
   pub began : BeganOn g.seen g.may_leave base kernel
-  pub used : u.used ≡ used kernel.core.operations.store.log
-  pub size : u.size ≡ area_size kernel.core.operations.store.log
+  pub used : u.used ≡ used (kernel_log kernel)
+  pub size : u.size ≡ area_size (kernel_log kernel)
 
 abbrev pub IsUseOn : {D : Type 0} → Ghosts D → Base → LogUse → Type 0
 IsUseOn g base u = ∥ IsUse g base u ∥₁
@@ -37,7 +37,7 @@ pub record IsTurn {D : Type 0} (g : Ghosts D) (base : Base) : Type 0 where
   pub begins : BeganOn g.seen g.may_leave base now
   pub shows : (s : State) → Shows g.seen g.may_leave (base_of base) s was → Shows g.seen g.may_leave (base_of base) s now
   pub book : now.core.book.items ≡ was.core.book.items
-  pub images : AreImages (appended now.core.operations.store.log)
+  pub images : AreImages (appended (kernel_log now))
 
 abbrev pub HasTurned : {D : Type 0} → Ghosts D → Base → Type 0
 HasTurned g base = ∥ IsTurn g base ∥₁

@@ -1,6 +1,7 @@
 // How much of a log's area is in use.
 ghost use Rattle.std.specs.Prelude.{◌≡◌, ◌<◌, ◌/◌, ◌↔◌, IsTrue};
 ghost use Rattle.mt_log.specs.Words.{area_size, used};
+ghost use Rattle.mt_txn.specs.Shown.{kernel_log};
 
 use mt_disk::Device;
 use mt_txn::Kernel;
@@ -26,8 +27,8 @@ impl LogUse {
 
 // How much of a kernel's log is in use.
 pub(crate) fn log_use_of<D: Device>(kernel: &Kernel<D>) -> LogUse
-    ensures used { result.used ≡ used kernel.now.core.operations.store.log }
-    ensures size { result.size ≡ area_size kernel.now.core.operations.store.log }
+    ensures used { result.used ≡ used (kernel_log kernel.now) }
+    ensures size { result.size ≡ area_size (kernel_log kernel.now) }
 {
     LogUse {
         used: kernel.used(),

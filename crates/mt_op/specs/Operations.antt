@@ -27,6 +27,9 @@ use Rattle.mt_op.specs.declared.scope.Stage.{Stage}
 use Rattle.mt_op.specs.declared.scope.Stage.TheVariants.{Planning, Writing, Ready, Taking, Cleared}
 use Rattle.mt_op.specs.declared.answers.Stepped.{Stepped}
 use Rattle.mt_op.specs.declared.answers.Stepped.TheVariants as stepped
+use Rattle.mt_plock.specs.declared.guards.PageLock.{PageLock}
+use Rattle.mt_frame.specs.declared.slots.MasterSlot.{MasterSlot}
+use Rattle.mt_pool.specs.declared.pool.Pool.{Pool}
 
 -- page locks, records and present pages, over the pages as they were when the log's area began
 abbrev pub world : {D : Type 0} → (D → List ℕ) → PageBytes → Operations D → World
@@ -44,6 +47,16 @@ operation_device o = o.store.device
 
 abbrev pub operation_log : {D : Type 0} → Operations D → Log
 operation_log o = o.store.log
+
+abbrev pub operation_pool : {D : Type 0} → Operations D → Pool
+operation_pool o = o.store.pool
+
+-- the master slot that rules
+abbrev pub operation_ruling : {D : Type 0} → Operations D → MasterSlot
+operation_ruling o = o.store.ruling
+
+abbrev pub operation_page_locks : {D : Type 0} → Operations D → List PageLock
+operation_page_locks o = o.locks
 
 -- how many pages can be in frames
 abbrev pub operation_frames : {D : Type 0} → Operations D → ℕ

@@ -45,7 +45,7 @@ use std::alloc::Global;
 #[derive(Drop)]
 pub struct Operations<D: Device> {
     /// The log and the pages.
-    pub store: Store<D>,
+    pub(crate) store: Store<D>,
     pub(crate) locks: PageLocks,
     pub(crate) rooms: Rooms,
     pub(crate) map: SpaceMap,

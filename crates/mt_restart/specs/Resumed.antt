@@ -8,7 +8,7 @@ use Rattle.mt_model.specs.Model.{Base, IsBase}
 use Rattle.mt_restart.specs.Recovered.{AreRestored}
 use Rattle.mt_steps.specs.Held.{Holds}
 use Rattle.mt_steps.specs.Listed.{IsSame}
-use Rattle.mt_txn.specs.Shown.{Restarts, Shows}
+use Rattle.mt_txn.specs.Shown.{Restarts, Shows, kernel_device}
 use Rattle.mt_txn.specs.declared.kernel.Kernel.{Kernel}
 
 -- It has so many relations and counters, and begins on this base: nothing has happened yet, and it can be restarted.
@@ -34,5 +34,5 @@ pub record BeginsOnRestored {D : Type 0} {g : Ghosts D} (seen : D → List ℕ) 
 
 -- the device, in the kernel or handed back
 abbrev pub device_of : {D : Type 0} → {g : Ghosts D} → Result (Kernel D g) (Refusal × D) → D
-device_of (Ok kernel) = kernel.core.operations.store.device
+device_of (Ok kernel) = (kernel_device kernel)
 device_of (Err gone) = gone.1

@@ -10,7 +10,7 @@ use Rattle.mt_live.specs.Machine.{State}
 use Rattle.mt_model.specs.Model.{Base}
 use Rattle.mt_op.specs.Begun.{AreImages}
 use Rattle.mt_txn.specs.Causes.{survey_cause}
-use Rattle.mt_txn.specs.Shown.{LeavesFound, Restarts, SameSchema, Stays, StaysRestarting, Shows, is_failed}
+use Rattle.mt_txn.specs.Shown.{LeavesFound, Restarts, SameSchema, Stays, StaysRestarting, Shows, is_failed, kernel_device, kernel_log, kernel_ruling}
 use Rattle.mt_txn.specs.Turned.{HasNobody, IsForced}
 use Rattle.mt_txn.specs.declared.kernel.Kernel.{Kernel}
 use Rattle.mt_restart.specs.Recovered.{CannotTurn}
@@ -26,7 +26,7 @@ pub record Keeps {D : Type 0} {g : Ghosts D} (seen : D → List ℕ) (may_leave 
 
 -- what was durable is so still, and more may be
 abbrev pub Grows : {D : Type 0} {g : Ghosts D} → Kernel D g → Kernel D g → Type 0
-Grows k n = (more : List Record) × (durable n.core.operations.store.log ≡ durable k.core.operations.store.log ++ more)
+Grows k n = (more : List Record) × (durable (kernel_log n) ≡ durable (kernel_log k) ++ more)
 
 -- it has not failed, no transaction is active, all that was appended is durable, and the same slot rules
 pub record IsForcedOut {D : Type 0} {g : Ghosts D} (k n : Kernel D g) : Type 0 where
@@ -34,7 +34,7 @@ pub record IsForcedOut {D : Type 0} {g : Ghosts D} (k n : Kernel D g) : Type 0 w
   pub nobody : HasNobody n
   pub forced : IsForced n
   pub grows : Grows k n
-  pub ruling : n.core.operations.store.ruling ≡ k.core.operations.store.ruling
+  pub ruling : kernel_ruling n ≡ kernel_ruling k
 
 -- ---- why it is not turned over
 
@@ -47,7 +47,7 @@ early_cause k = survey_cause (is_failed k) k.core
 abbrev pub IsKeptCause : {D : Type 0} {g : Ghosts D} → (D → List ℕ) → Kernel D g → Refusal → Type 0
 IsKeptCause seen n DeviceFailed = is_failed n ≡ true
 IsKeptCause seen n NoMemory = is_failed n ≡ false
-IsKeptCause seen n LogFull = (is_failed n ≡ false) × CannotTurn (seen n.core.operations.store.device)
+IsKeptCause seen n LogFull = (is_failed n ≡ false) × CannotTurn (seen (kernel_device n))
 IsKeptCause seen n _ = ⊥
 
 -- ---- what comes of a rotation
@@ -60,29 +60,29 @@ pub record GoesOver {D : Type 0} {g : Ghosts D} (seen : D → List ℕ) (may_lea
 
 -- the slot that rules the device of n is the next one after that of k, with an epoch one higher
 abbrev pub HasTurnedOnce : {D : Type 0} {g : Ghosts D} → Kernel D g → Kernel D g → Type 0
-HasTurnedOnce k n = n.core.operations.store.ruling ≡ next_slot k.core.operations.store.ruling
+HasTurnedOnce k n = kernel_ruling n ≡ next_slot (kernel_ruling k)
 
 -- The log was turned over, once. The laws see nothing of it. The log has no record but the images that its area began
 -- with, and the device failed in no call.
 pub record IsRotated {D : Type 0} {g : Ghosts D} (seen : D → List ℕ) (may_leave : D → List ℕ → Type 0) (faults : D → ℕ) (k n : Kernel D g) : Type 0 where
   pub may : early_cause k ≡ None
   pub over : GoesOver seen may_leave k n
-  pub begun : AreImages (appended n.core.operations.store.log)
+  pub begun : AreImages (appended (kernel_log n))
   pub well : is_failed n ≡ false
   pub once : HasTurnedOnce k n
-  pub quiet : faults n.core.operations.store.device ≡ faults k.core.operations.store.device
+  pub quiet : faults (kernel_device n) ≡ faults (kernel_device k)
 
 -- It was not, for this cause, and the kernel is left in its state; as it was, if nothing was done. The device failed in
 -- no call unless the cause is 2.
 pub record IsLeft {D : Type 0} {g : Ghosts D} (seen : D → List ℕ) (may_leave : D → List ℕ → Type 0) (moment : D → ℕ) (left_since : D → ℕ → List ℕ → Type 0) (faults : D → ℕ) (k : Kernel D g) (why : Refusal) (n : Kernel D g) : Type 0 where
   pub keeps : Keeps seen may_leave moment left_since k n
   pub cause : (early_cause k ≡ Some why) × (n ≡ k) ⊎ ((early_cause k ≡ None) × IsKeptCause seen n why)
-  pub quiet : (why ≡ DeviceFailed → ⊥) → faults n.core.operations.store.device ≡ faults k.core.operations.store.device
+  pub quiet : (why ≡ DeviceFailed → ⊥) → faults (kernel_device n) ≡ faults (kernel_device k)
 
 -- The device failed while it was recovered, and is left alone.
 pub record IsEnded {D : Type 0} {g : Ghosts D} (faults : D → ℕ) (k : Kernel D g) (device : D) : Type 0 where
   pub may : early_cause k ≡ None
-  pub failed : faults k.core.operations.store.device < faults device
+  pub failed : faults (kernel_device k) < faults device
 
 -- what stands after a rotation, by its answer
 abbrev pub Rotates : {D : Type 0} {g : Ghosts D} → (D → List ℕ) → (D → List ℕ → Type 0) → (D → ℕ) → (D → ℕ → List ℕ → Type 0) → (D → ℕ) → Kernel D g → Standing D g → Result (Unit {0}) Refusal → Type 0

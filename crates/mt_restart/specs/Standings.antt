@@ -1,13 +1,13 @@
 -- What is there after a rotation.
 use Rattle.std.specs.Prelude.{◌≡◌, ℕ, List, ⊤}
 use Rattle.mt_disk.specs.declared.device.Device.{Ghosts}
-use Rattle.mt_txn.specs.Shown.{IsFoundIn, kernel_frames}
+use Rattle.mt_txn.specs.Shown.{IsFoundIn, kernel_device, kernel_frames}
 use Rattle.mt_restart.specs.declared.standing.Standing.{Standing}
 use Rattle.mt_restart.specs.declared.standing.Standing.TheVariants.{Stands, Ended}
 
 -- its device
 abbrev pub device_at : {D : Type 0} → {g : Ghosts D} → Standing D g → D
-device_at (Stands k) = k.core.operations.store.device
+device_at (Stands k) = (kernel_device k)
 device_at (Ended device) = device
 
 -- a kernel that stands can hold so many pages in frames

@@ -11,13 +11,13 @@ ghost use Rattle.mt_log.specs.Words.{has_failed};
 ghost use Rattle.mt_model.specs.Model.{Base, IsBase};
 ghost use Rattle.mt_replay.specs.Stands.{CanRestart};
 ghost use Rattle.mt_steps.specs.Held.{Holds};
-ghost use Rattle.mt_op.specs.Operations.{operation_frames};
-ghost use Rattle.mt_txn.specs.Shown.{is_failed, kernel_frames};
+ghost use Rattle.mt_txn.specs.Shown.{is_failed, kernel_device, kernel_frames, kernel_ruling};
 ghost use Rattle.mt_txn.specs.Well.{Opens};
 ghost use Rattle.mt_format.specs.Formats.{IsFormattedAs};
 ghost use Rattle.mt_restart.specs.Recovered.{IsCauseToStop, IsRecovered, StandsStill};
 ghost use Rattle.mt_restart.specs.Resumed.{BeginsOn, BeginsOnRestored, IsOpened, device_of};
 ghost use Rattle.mt_format.specs.declared.schema.Schema.{Schema};
+ghost use Rattle.mt_op.specs.Operations.{operation_frames};
 
 use crate::beside::Beside;
 use crate::recovery::{Recovered, recover};
@@ -68,8 +68,8 @@ fn kernel_over<D: Device + Drop>(alloc: Global, device: D, recovered: Recovered)
     requires recovered { (frames : ℕ) × IsRecovered D.seen D.may_leave frames device recovered }
     ensures opened { (b : Base) → Holds (bytes_of recovered.restored.pages.items) b → IsBase b
         → IsOpened D.seen D.may_leave recovered.beside.relations recovered.beside.counters b result }
-    ensures device { result.core.operations.store.device ≡ device }
-    ensures ruling { result.core.operations.store.ruling ≡ recovered.ruling }
+    ensures device { kernel_device result ≡ device }
+    ensures ruling { kernel_ruling result ≡ recovered.ruling }
     ensures frames { (n : ℕ) → IsRecovered D.seen D.may_leave n device recovered → kernel_frames result ≡ n }
     ensures well { is_failed result ≡ false }
 {
@@ -124,14 +124,14 @@ pub fn open<D: Device + Drop>(
         → IfErr result (λ gone. gone.0 ≡ Refusal.LogFull → ⊥) }
     // The log turns over once.
     ensures once { (slot : MasterSlot) → IsRuling (D.seen device) slot
-        → IfOk result (λ kernel. kernel.core.operations.store.ruling ≡ next_slot slot) }
+        → IfOk result (λ kernel. kernel_ruling kernel ≡ next_slot slot) }
     // Whenever a crash comes in this call.
     ensures moments { (relations counters : ℕ) (b : Base) → CanRestart relations counters (D.seen device) b
         → LeavesOnly D.moment D.left_since device (device_of result)
         (StandsStill D.may_leave relations counters b device) }
     // Once it has ended, unless the device failed.
     ensures stands { (relations counters : ℕ) (b : Base) → CanRestart relations counters (D.seen device) b
-        → IfOk result (λ kernel. (c : List ℕ) → D.may_leave kernel.core.operations.store.device c
+        → IfOk result (λ kernel. (c : List ℕ) → D.may_leave (kernel_device kernel) c
         → CanRestart relations counters c b) }
     ensures settled { (relations counters : ℕ) (b : Base) → CanRestart relations counters (D.seen device) b
         → IfErr result (λ gone. (gone.0 ≡ Refusal.DeviceFailed → ⊥) → (c : List ℕ) → D.may_leave gone.1 c
@@ -140,7 +140,7 @@ pub fn open<D: Device + Drop>(
         → D.seen gone.1 ≡ D.seen device) }
     ensures cause { IfErr result (λ gone. IsCauseToStop (D.seen device) (D.faults device < D.faults gone.1) gone.0) }
     // The device failed in no call of this one, unless it is refused with 2.
-    ensures quiet { MatchResult result (λ kernel. D.faults kernel.core.operations.store.device ≡ D.faults device)
+    ensures quiet { MatchResult result (λ kernel. D.faults (kernel_device kernel) ≡ D.faults device)
         (λ gone. (gone.0 ≡ Refusal.DeviceFailed → ⊥) → D.faults gone.1 ≡ D.faults device) }
 {
     slots_are_read_back();

@@ -13,7 +13,7 @@ use Rattle.mt_model.specs.Model.{Base}
 use Rattle.mt_pool.specs.Views.{pages}
 use Rattle.mt_txn.specs.Causes.{IsFault}
 use Rattle.mt_txn.specs.Events.{HasAborted}
-use Rattle.mt_txn.specs.Shown.{CallsOnce, LeavesFound, SameSchema, Shows, StaysRestarting, TellsEachFault, is_failed}
+use Rattle.mt_txn.specs.Shown.{CallsOnce, LeavesFound, SameSchema, Shows, StaysRestarting, TellsEachFault, is_failed, kernel_log, kernel_pool}
 use Rattle.mt_txn.specs.Work.{IsAbortForOther, LowersAbort}
 use Rattle.mt_txn.specs.declared.answers.AbortStepped.{AbortStepped}
 use Rattle.mt_txn.specs.declared.answers.AbortStepped.TheVariants.{Ended, Flush}
@@ -26,10 +26,10 @@ module _ {D : Type 0} {g : Ghosts D} (seen : D → List ℕ) (may_leave : D → 
     pub fails : result ≡ Err DeviceFailed → is_failed n ≡ true
     pub quiet : TellsEachFault faults k result n
     pub states : IfOk result (λ stepped. stepped ≢ Ended → SameStates k.core n.core)
-    pub work : LowersAbort (pages k.core.operations.store.pool) result (undo_steps k.core t) (undo_steps n.core t)
+    pub work : LowersAbort (pages (kernel_pool k)) result (undo_steps k.core t) (undo_steps n.core t)
     pub other : IfOk result (λ stepped. IsAbortForOther k.core.live.members t stepped)
     pub full : result ≡ Ok Flush → WantsFrame k.core n.core
-    pub durable : durable n.core.operations.store.log ≡ durable k.core.operations.store.log
+    pub durable : durable (kernel_log n) ≡ durable (kernel_log k)
     pub commits : SameCommits k.core n.core
     pub err_states : OnErr result (SameStates k.core n.core)
     pub out : result ≡ Ok Ended → (state_in n.core.live.members t ≡ None) × SameStatesBut k.core n.core t

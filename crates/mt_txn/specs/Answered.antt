@@ -4,7 +4,6 @@ use Rattle.mt_base.specs.declared.refusal.Refusal.{Refusal}
 use Rattle.mt_base.specs.declared.refusal.Refusal.TheVariants.{NoMemory}
 use Rattle.mt_core.specs.Consistent.{SameCommits, SameStates, SameStatesBut, SetsState}
 use Rattle.mt_core.specs.Runs.{state_in}
-use Rattle.mt_core.specs.Turned.{core_log}
 use Rattle.mt_core.specs.declared.calls.Called.{Called}
 use Rattle.mt_live.specs.Machine.{State}
 use Rattle.mt_live.specs.declared.transactions.TxnState.TheVariants.{Aborting, Committing, Open}
@@ -19,6 +18,7 @@ use Rattle.mt_txn.specs.declared.answers.AbortStepped.{AbortStepped}
 use Rattle.mt_txn.specs.declared.answers.AbortStepped.TheVariants.{Ended}
 use Rattle.mt_txn.specs.declared.answers.KernelForced.{KernelForced}
 use Rattle.mt_txn.specs.declared.answers.Stepped.{Stepped}
+use Rattle.mt_core.specs.Seen.{core_log}
 
 -- Refused with 1, or for this cause; and if there is a cause, it is refused.
 pub record IsRefusedFor {T : Type 0} (cause : Option Refusal) (result : Result T Refusal) : Type 0 where

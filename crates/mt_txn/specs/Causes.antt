@@ -15,6 +15,7 @@ use Rattle.mt_core.specs.Consistent.{log_kept}
 use Rattle.mt_core.specs.Runs.{state_in}
 use Rattle.mt_core.specs.declared.parts.Core.{Core}
 use Rattle.mt_op.specs.declared.scope.OpScope.{OpScope}
+use Rattle.mt_core.specs.Seen.{core_device, core_log}
 
 -- the first of two causes
 abbrev pub first_of : Option Refusal → Option Refusal → Option Refusal
@@ -30,11 +31,11 @@ begin_cause failed k =
     if failed then Some refusal.DeviceFailed else
     if nat_le MAX_LIVE (length k.live.members) then Some refusal.TooManyTransactions else
     if nat_le MAX_COMMITS (length k.book.items + length k.live.members) || nat_le MAX_BEGUN k.live.begun then Some refusal.BookFull else
-    if nat_lt (log_kept k + TRANSACTION_LOG_BYTES) (area_size k.operations.store.log) then None else Some refusal.LogFull
+    if nat_lt (log_kept k + TRANSACTION_LOG_BYTES) (area_size (core_log k)) then None else Some refusal.LogFull
 
 -- the device failed in this call
 abbrev pub IsFault : {D : Type 0} → (D → ℕ) → Core D → Core D → Refusal → Type 0
-IsFault failures k n why = (why ≡ refusal.DeviceFailed) × (failures k.operations.store.device < failures n.operations.store.device)
+IsFault failures k n why = (why ≡ refusal.DeviceFailed) × (failures (core_device k) < failures (core_device n))
 
 -- it failed in this call, or before
 abbrev pub IsFailure : {D : Type 0} → (D → ℕ) → Bool → Core D → Core D → Refusal → Type 0

@@ -12,6 +12,7 @@ use Rattle.mt_txn.specs.declared.answers.AbortStepped.{AbortStepped}
 use Rattle.mt_txn.specs.declared.answers.AbortStepped.TheVariants as abort
 use Rattle.mt_txn.specs.declared.answers.Stepped.{Stepped}
 use Rattle.mt_txn.specs.declared.answers.Stepped.TheVariants as step
+use Rattle.mt_core.specs.Seen.{core_page_locks}
 
 -- This holds of the operation of t that is under way.
 abbrev pub OfRunning : List OpScope → ℕ → (OpScope → Type 0) → Type 0
@@ -37,9 +38,9 @@ StepsLocks k n r (Err why) = KeepsPageLocks k n r (Err why)
 -- What a step of an abort does to them, if an operation is under way: it gets one that the plan of its inverse wants
 -- next, and no other; or its own go, and no other's; or they stay.
 abbrev pub AbortsLocks : {D : Type 0} → Core D → Core D → OpScope → Result AbortStepped Refusal → Type 0
-AbortsLocks k n r (Ok abort.More) = KeepsPageLocks k n r (Ok (GoingOn going.Went)) ⊎ (n.operations.locks ≡ locks_without r.number k.operations.locks)
+AbortsLocks k n r (Ok abort.More) = KeepsPageLocks k n r (Ok (GoingOn going.Went)) ⊎ ((core_page_locks n) ≡ locks_without r.number (core_page_locks k))
 AbortsLocks k n r (Ok (abort.Wait other)) = WaitsFor k n r other
 AbortsLocks k n r (Ok abort.Again) = BeginsAnew k n r
-AbortsLocks k n r (Ok abort.Flush) = n.operations.locks ≡ k.operations.locks
+AbortsLocks k n r (Ok abort.Flush) = core_page_locks n ≡ core_page_locks k
 AbortsLocks k n r (Ok abort.Ended) = ⊥
-AbortsLocks k n r (Err why) = n.operations.locks ≡ k.operations.locks
+AbortsLocks k n r (Err why) = core_page_locks n ≡ core_page_locks k

@@ -10,6 +10,7 @@ use Rattle.mt_model.specs.Model.{Base}
 use Rattle.mt_model.specs.declared.history.Committed.{Committed}
 use Rattle.mt_replay.specs.Stands.{CanRestart}
 use Rattle.mt_replay.specs.Recorded.{tells}
+use Rattle.mt_core.specs.Seen.{core_device, core_log}
 
 -- the book, and after it the commits under way, in their order
 abbrev pub all_commits : {D : Type 0} → Core D → List Committed
@@ -22,14 +23,14 @@ pub record FindsCommits {D : Type 0} (relations counters : ℕ) (first : Base) (
   pub found : CanRestart relations counters c base
   pub count : ℕ
   pub acknowledged : length k.book.items ≤ count
-  pub durable : length (tells (durable k.operations.store.log)).books ≤ count
+  pub durable : length (tells (durable (core_log k))).books ≤ count
   pub is : base ≡ after first (take count (all_commits k))
 
 -- Whenever a crash comes until the device of k is this one, a restart finds in what it leaves what some of the first
 -- commits of k lead to, with all that were in its book then, and all whose records were durable.
 pub record FindsMeanwhile {D : Type 0} (moment : D → ℕ) (left_since : D → ℕ → List ℕ → Type 0) (relations counters : ℕ) (first : Base) (k : Core D) (device : D) : Type 0 where
-  pub later : moment k.operations.store.device ≤ moment device
-  pub each : (c : List ℕ) → left_since device (moment k.operations.store.device) c → ∥ FindsCommits relations counters first k c ∥₁
+  pub later : moment (core_device k) ≤ moment device
+  pub each : (c : List ℕ) → left_since device (moment (core_device k)) c → ∥ FindsCommits relations counters first k c ∥₁
   -- the same, for a run of calls that began before
-  pub before : (t : ℕ) (c : List ℕ) → t ≤ moment k.operations.store.device → left_since device t c
-      → ∥ left_since k.operations.store.device t c ⊎ FindsCommits relations counters first k c ∥₁
+  pub before : (t : ℕ) (c : List ℕ) → t ≤ moment (core_device k) → left_since device t c
+      → ∥ left_since (core_device k) t c ⊎ FindsCommits relations counters first k c ∥₁

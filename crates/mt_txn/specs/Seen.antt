@@ -1,6 +1,5 @@
 -- What contracts see of a kernel that is lent, as under a lock: all of it, without the proofs that it carries.
 use Rattle.std.specs.Prelude.{ℕ, ◌||◌, Bool, List}
-use Rattle.mt_core.specs.Turned.{core_log}
 use Rattle.mt_core.specs.declared.parts.Core.{Core}
 use Rattle.mt_disk.specs.declared.device.Device.{Ghosts}
 use Rattle.mt_live.specs.Machine.{State}
@@ -8,6 +7,7 @@ use Rattle.mt_log.specs.Words.{has_failed}
 use Rattle.mt_model.specs.Model.{Base}
 use Rattle.mt_txn.specs.Well.{ShowsIn}
 use Rattle.mt_txn.specs.declared.kernel.Kernel.{Kernel}
+use Rattle.mt_core.specs.Seen.{core_log}
 
 pub record KernelSeen (D : Type 0) : Type 0 where
   pub core : Core D

@@ -3,7 +3,6 @@ use Rattle.std.specs.Prelude.{ℕ, ◌≡◌, ◌+◌, ◌≤◌, Bool, true, Li
 use Rattle.mt_base.specs.Limits.{IsRelationCount}
 use Rattle.mt_base.specs.declared.refusal.Refusal.{Refusal}
 use Rattle.mt_base.specs.declared.refusal.Refusal.TheVariants.{DeviceFailed}
-use Rattle.mt_core.specs.Turned.{core_device, core_frames, core_log}
 use Rattle.mt_disk.specs.declared.device.Device.{Ghosts}
 use Rattle.mt_live.specs.Machine.{State}
 use Rattle.mt_log.specs.declared.log.Log.{Log}
@@ -12,6 +11,10 @@ use Rattle.mt_txn.specs.Restarted.{FindsCommits, FindsMeanwhile}
 use Rattle.mt_txn.specs.Seen.{ShowsSeen, has_failed_in, seen_of}
 use Rattle.mt_txn.specs.Well.{RestartsFrom}
 use Rattle.mt_txn.specs.declared.kernel.Kernel.{Kernel}
+use Rattle.mt_plock.specs.declared.guards.PageLock.{PageLock}
+use Rattle.mt_frame.specs.declared.slots.MasterSlot.{MasterSlot}
+use Rattle.mt_pool.specs.declared.pool.Pool.{Pool}
+use Rattle.mt_core.specs.Seen.{core_device, core_frames, core_log, core_page_locks, core_pool, core_ruling}
 
 -- Begun on this base, the kernel is in this state of the laws.
 abbrev pub Shows : {D : Type 0} → {g : Ghosts D} → (D → List ℕ) → (D → List ℕ → Type 0) → Base → State → Kernel D g → Type 0
@@ -31,6 +34,15 @@ kernel_device k = core_device k.core
 
 abbrev pub kernel_log : {D : Type 0} → {g : Ghosts D} → Kernel D g → Log
 kernel_log k = core_log k.core
+
+abbrev pub kernel_pool : {D : Type 0} → {g : Ghosts D} → Kernel D g → Pool
+kernel_pool k = core_pool k.core
+
+abbrev pub kernel_ruling : {D : Type 0} → {g : Ghosts D} → Kernel D g → MasterSlot
+kernel_ruling k = core_ruling k.core
+
+abbrev pub kernel_page_locks : {D : Type 0} → {g : Ghosts D} → Kernel D g → List PageLock
+kernel_page_locks k = core_page_locks k.core
 
 -- how many pages a kernel can hold in frames
 abbrev pub kernel_frames : {D : Type 0} → {g : Ghosts D} → Kernel D g → ℕ
@@ -68,4 +80,4 @@ IsFoundIn seen may_leave k device = (first : Base) (c : List ℕ) → Restarts s
 -- to.
 abbrev pub LeavesFound : {D : Type 0} → {g : Ghosts D} → (D → List ℕ) → (D → List ℕ → Type 0) → (D → ℕ) → (D → ℕ → List ℕ → Type 0) → Kernel D g → Kernel D g → Type 0
 LeavesFound seen may_leave moment left_since k n = (first : Base) → Restarts seen may_leave first k → IsRelationCount k.relations
-    → FindsMeanwhile moment left_since k.relations k.counters first k.core n.core.operations.store.device
+    → FindsMeanwhile moment left_since k.relations k.counters first k.core (kernel_device n)

@@ -9,6 +9,7 @@ use Rattle.mt_pool.specs.Views.{pages, view}
 use Rattle.mt_steps.specs.Listed.{IsSame}
 use Rattle.mt_steps.specs.Plans.{free_pages}
 use Rattle.mt_txn.specs.declared.kernel.Kernel.{Kernel}
+use Rattle.mt_txn.specs.Shown.{kernel_device, kernel_pool}
 
 -- It has the rows and the counters of this base, of so many relations and counters.
 pub record TellsBase (relations counters : ℕ) (base : Base) (survey : Survey) : Type 0 where
@@ -19,5 +20,5 @@ pub record TellsBase (relations counters : ℕ) (base : Base) (survey : Survey) 
 -- It has the depth of the directory on page 1, and counts the free pages by the map on page 0, as pages and frames
 -- have them.
 pub record TellsPages {D : Type 0} {g : Ghosts D} (seen : D → List ℕ) (k : Kernel D g) (survey : Survey) : Type 0 where
-  pub depth : survey.depth ≡ depth_in (view k.core.operations.store.pool (seen k.core.operations.store.device) 1)
-  pub free : survey.free ≡ free_pages (pages k.core.operations.store.pool) (λ p. view k.core.operations.store.pool (seen k.core.operations.store.device) p)
+  pub depth : survey.depth ≡ depth_in (view (kernel_pool k) (seen (kernel_device k)) 1)
+  pub free : survey.free ≡ free_pages (pages (kernel_pool k)) (λ p. view (kernel_pool k) (seen (kernel_device k)) p)

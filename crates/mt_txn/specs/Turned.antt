@@ -9,7 +9,7 @@ use Rattle.mt_model.specs.Model.{Base}
 use Rattle.mt_op.specs.declared.operations.Operations.{Operations}
 use Rattle.mt_core.specs.declared.parts.Core.{Core}
 use Rattle.mt_live.specs.Machine.{State}
-use Rattle.mt_txn.specs.Shown.{Restarts, Shows}
+use Rattle.mt_txn.specs.Shown.{Restarts, Shows, kernel_log}
 use Rattle.mt_txn.specs.Well.{Opens, RestartsFrom, ShowsIn}
 use Rattle.mt_txn.specs.declared.kernel.Kernel.{Kernel}
 use Rattle.mt_txn.specs.declared.kernel_rest.KernelRest.{KernelRest}
@@ -20,7 +20,7 @@ HasNobody k = length k.core.live.members ≡ 0
 
 -- all that was appended to its log is durable
 abbrev pub IsForced : {D : Type 0} {g : Ghosts D} → Kernel D g → Type 0
-IsForced k = durable k.core.operations.store.log ≡ appended k.core.operations.store.log
+IsForced k = durable (kernel_log k) ≡ appended (kernel_log k)
 
 -- all of it but its operations and its escrow
 pub record IsRestOf {D : Type 0} {g : Ghosts D} (k : Kernel D g) (r : KernelRest) : Type 0 where

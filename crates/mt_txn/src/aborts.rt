@@ -15,7 +15,7 @@ ghost use Rattle.mt_op.specs.declared.scope.OpScope.{OpScope};
 ghost use Rattle.mt_txn.specs.Aborted.{StepsAbort};
 ghost use Rattle.mt_txn.specs.Causes.{IsFault, abort_cause, is_busy, open_cause};
 ghost use Rattle.mt_txn.specs.Events.{HasAborted};
-ghost use Rattle.mt_txn.specs.Shown.{FailsForGood, SameSchema, Shows, Stays, StaysRestarting, TellsEachFault, is_failed};
+ghost use Rattle.mt_txn.specs.Shown.{FailsForGood, SameSchema, Shows, Stays, StaysRestarting, TellsEachFault, is_failed, kernel_device, kernel_log, kernel_page_locks, kernel_pool};
 ghost use Rattle.mt_txn.specs.Work.{IsAbortReportedAs, IsAbortForOther, LowersAbort};
 ghost use Rattle.mt_txn.specs.Shown.{CallsOnce, LeavesFound};
 ghost use Rattle.mt_txn.specs.PageLocks.{AbortsLocks, OfRunning};
@@ -41,7 +41,7 @@ impl<D: Device> Kernel<D> {
         ensures aborts { OnOk result (SetsState self.old.core self.new.core txn (Some Aborting)) }
         ensures running { SameRunning self.old.core self.new.core }
         ensures commits { SameCommits self.old.core self.new.core }
-        ensures device { self.new.core.operations.store.device ≡ self.old.core.operations.store.device }
+        ensures device { kernel_device self.new ≡ kernel_device self.old }
         ensures work { OnOk result (undo_steps self.new.core txn ≤ most_steps self.old.core txn) }
         ensures fails { FailsForGood self.old result self.new }
         ensures err { OnErr result (self.new ≡ self.old) }
@@ -118,7 +118,7 @@ impl<D: Device> Kernel<D> {
         requires aborting { state_in self.old.core.live.members txn ≡ Some Aborting }
         ensures steps { StepsAbort D.seen D.may_leave D.faults D.moment D.left_since self.old txn result self.new }
         ensures marks { self.new.failed ≡ self.old.failed }
-        ensures locks { self.new.core.operations.locks ≡ self.old.core.operations.locks }
+        ensures locks { kernel_page_locks self.new ≡ kernel_page_locks self.old }
     {
         if self.core.undo_begin(self.alloc, txn)? {
             return Ok(AbortStepped::More);
@@ -146,7 +146,7 @@ impl<D: Device> Kernel<D> {
             ⊎ IsFault D.faults self.old.core self.new.core why) }
         ensures states { IfOk result (λ stepped. stepped ≢ AbortStepped.Ended
             → SameStates self.old.core self.new.core) }
-        ensures work { LowersAbort (pages self.old.core.operations.store.pool) result
+        ensures work { LowersAbort (pages (kernel_pool self.old)) result
             (undo_steps self.old.core txn) (undo_steps self.new.core txn) }
         ensures other { IfOk result (λ stepped. IsAbortForOther self.old.core.live.members txn stepped) }
         ensures full { result ≡ Ok AbortStepped.Flush → WantsFrame self.old.core self.new.core }
@@ -155,9 +155,8 @@ impl<D: Device> Kernel<D> {
             → is_busy self.old.core txn ≡ true → OfRunning self.old.core.running.items txn
             (λ r. AbortsLocks self.old.core self.new.core r result) }
         ensures idle { is_busy self.old.core txn ≡ false
-            → self.new.core.operations.locks ≡ self.old.core.operations.locks }
-        ensures durable { durable self.new.core.operations.store.log
-            ≡ durable self.old.core.operations.store.log }
+            → kernel_page_locks self.new ≡ kernel_page_locks self.old }
+        ensures durable { durable (kernel_log self.new) ≡ durable (kernel_log self.old) }
         ensures commits { SameCommits self.old.core self.new.core }
         ensures err_states { OnErr result (SameStates self.old.core self.new.core) }
         ensures out { result ≡ Ok AbortStepped.Ended → (state_in self.new.core.live.members txn ≡ None)

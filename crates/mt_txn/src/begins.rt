@@ -6,7 +6,7 @@ ghost use Rattle.mt_model.specs.Model.{Base};
 ghost use Rattle.mt_live.specs.declared.transactions.TxnState.TheVariants.{Open};
 ghost use Rattle.mt_core.specs.Consistent.{SameCommits, SameRunning, SetsState};
 ghost use Rattle.mt_txn.specs.Causes.{begin_cause};
-ghost use Rattle.mt_txn.specs.Shown.{FailsForGood, SameSchema, Shows, StaysRestarting, is_failed};
+ghost use Rattle.mt_txn.specs.Shown.{FailsForGood, SameSchema, Shows, StaysRestarting, is_failed, kernel_device};
 ghost use Rattle.mt_txn.specs.Shown.{LeavesFound};
 
 use crate::kernel::Kernel;
@@ -31,7 +31,7 @@ impl<D: Device> Kernel<D> {
         ensures opened { IfOk result (λ txn. SetsState self.old.core self.new.core txn (Some Open)) }
         ensures running { SameRunning self.old.core self.new.core }
         ensures commits { SameCommits self.old.core self.new.core }
-        ensures device { self.new.core.operations.store.device ≡ self.old.core.operations.store.device }
+        ensures device { kernel_device self.new ≡ kernel_device self.old }
         ensures err { OnErr result (self.new.core ≡ self.old.core) }
         ensures fails { FailsForGood self.old result self.new }
         ensures schema { SameSchema self.old self.new }

@@ -8,7 +8,7 @@ ghost use Rattle.mt_core.specs.Work.{CallRuns};
 ghost use Rattle.mt_pool.specs.Views.{pages};
 ghost use Rattle.mt_txn.specs.Causes.{call_cause};
 ghost use Rattle.mt_txn.specs.Events.{HasCalled, IsAnsweredBy};
-ghost use Rattle.mt_txn.specs.Shown.{FailsForGood, SameSchema, Shows, StaysRestarting, is_failed};
+ghost use Rattle.mt_txn.specs.Shown.{FailsForGood, SameSchema, Shows, StaysRestarting, is_failed, kernel_pool};
 ghost use Rattle.mt_txn.specs.Shown.{LeavesFound};
 
 use crate::kernel::Kernel;
@@ -36,7 +36,7 @@ impl<D: Device> Kernel<D> {
             (is_failed self.old) self.old.core txn op.now ≡ None
             → IsAnsweredBy D.seen D.may_leave self.old txn op.now result }
         ensures states { SameStates self.old.core self.new.core }
-        ensures runs { CallRuns txn (2 * pages self.old.core.operations.store.pool + 9) self.old.core.running.items
+        ensures runs { CallRuns txn (2 * pages (kernel_pool self.old) + 9) self.old.core.running.items
             self.new.core.running.items result }
         ensures commits { SameCommits self.old.core self.new.core }
         ensures store { self.new.core.operations.store ≡ self.old.core.operations.store }

@@ -13,7 +13,7 @@ ghost use Rattle.mt_core.specs.Work.{LeavesUndo};
 ghost use Rattle.mt_core.specs.declared.parts.Commit.{Commit};
 ghost use Rattle.mt_txn.specs.Causes.{IsFailure, commit_cause};
 ghost use Rattle.mt_txn.specs.Events.{HasForced, IsForcedBy};
-ghost use Rattle.mt_txn.specs.Shown.{FailsForGood, SameSchema, Shows, Stays, StaysRestarting, TellsEachFault, is_failed, kernel_log};
+ghost use Rattle.mt_txn.specs.Shown.{FailsForGood, SameSchema, Shows, Stays, StaysRestarting, TellsEachFault, is_failed, kernel_device, kernel_log, kernel_pool, kernel_ruling};
 ghost use Rattle.mt_txn.specs.Shown.{CallsOnce, LeavesFound};
 
 use crate::answers::KernelForced;
@@ -38,19 +38,17 @@ impl<D: Device> Kernel<D> {
             place ≡ length self.old.core.book.items + length self.old.core.commits.items + 1) }
         ensures state { Stays D.seen D.may_leave self.old self.new }
         ensures queue { OnOk result ((c : Commit) × (c.txn ≡ txn)
-            × (c.place ≡ length (appended self.new.core.operations.store.log))
+            × (c.place ≡ length (appended (kernel_log self.new)))
             × (self.new.core.commits.items ≡ self.old.core.commits.items ++ c ∷ [])) }
-        ensures waits { OnOk result (waiting self.new.core.operations.store.log
-            ≡ waiting self.old.core.operations.store.log ++ record_of.Commit txn ∷ []) }
-        ensures durable { durable self.new.core.operations.store.log ≡ durable self.old.core.operations.store.log }
-        ensures in_flight { in_flight self.new.core.operations.store.log
-            ≡ in_flight self.old.core.operations.store.log }
-        ensures calls { calls_left self.new.core.operations.store.log
-            ≡ calls_left self.old.core.operations.store.log }
+        ensures waits { OnOk result (waiting (kernel_log self.new)
+            ≡ waiting (kernel_log self.old) ++ record_of.Commit txn ∷ []) }
+        ensures durable { durable (kernel_log self.new) ≡ durable (kernel_log self.old) }
+        ensures in_flight { in_flight (kernel_log self.new) ≡ in_flight (kernel_log self.old) }
+        ensures calls { calls_left (kernel_log self.new) ≡ calls_left (kernel_log self.old) }
         ensures err_appended { OnErr result (appended (kernel_log self.new) ≡ appended (kernel_log self.old)) }
         ensures commits { OnOk result (SetsState self.old.core self.new.core txn (Some Committing)) }
         ensures running { SameRunning self.old.core self.new.core }
-        ensures device { self.new.core.operations.store.device ≡ self.old.core.operations.store.device }
+        ensures device { kernel_device self.new ≡ kernel_device self.old }
         ensures err { OnErr result (SameStates self.old.core self.new.core
             × SameCommits self.old.core self.new.core) }
         ensures fails { FailsForGood self.old result self.new }
@@ -79,12 +77,11 @@ impl<D: Device> Kernel<D> {
     pub fn force_step(&mut self) -> Result<KernelForced, Refusal>
         ensures cause { IfErr result (λ why. why ≢ Refusal.NoMemory
             → IsFailure D.faults (is_failed self.old) self.old.core self.new.core why) }
-        ensures pool { self.new.core.operations.store.pool ≡ self.old.core.operations.store.pool }
-        ensures ruling { self.new.core.operations.store.ruling ≡ self.old.core.operations.store.ruling }
-        ensures appended { appended self.new.core.operations.store.log
-            ≡ appended self.old.core.operations.store.log }
-        ensures log { IfOk result (λ forced. IsForcedBy self.old.core.operations.store.log
-            self.old.core.commits.items forced self.new.core.operations.store.log self.new.core.commits.items) }
+        ensures pool { kernel_pool self.new ≡ kernel_pool self.old }
+        ensures ruling { kernel_ruling self.new ≡ kernel_ruling self.old }
+        ensures appended { appended (kernel_log self.new) ≡ appended (kernel_log self.old) }
+        ensures log { IfOk result (λ forced. IsForcedBy (kernel_log self.old)
+            self.old.core.commits.items forced (kernel_log self.new) self.new.core.commits.items) }
         ensures fails { FailsForGood self.old result self.new }
         ensures well { IsOk result → is_failed self.new ≡ false }
         ensures running { SameRunning self.old.core self.new.core }
@@ -126,20 +123,19 @@ impl<D: Device> Kernel<D> {
     pub fn flush_step(&mut self) -> Result<Flushed, Refusal>
         ensures cause { IfErr result (IsFailure D.faults (is_failed self.old) self.old.core self.new.core) }
         ensures written { (p : ℕ) → result ≡ Ok (flushed.Page p)
-            → Cleans self.old.core.operations.store.pool self.new.core.operations.store.pool
-            (length (durable self.old.core.operations.store.log)) p }
+            → Cleans (kernel_pool self.old) (kernel_pool self.new)
+            (length (durable (kernel_log self.old))) p }
         ensures barred { result ≡ Ok flushed.Force
-            → IsWaiting self.old.core.operations.store.pool (length (durable self.old.core.operations.store.log)) }
-        ensures waits { result ≡ Ok flushed.Force → length (durable self.old.core.operations.store.log)
-            < length (appended self.old.core.operations.store.log) }
+            → IsWaiting (kernel_pool self.old) (length (durable (kernel_log self.old))) }
+        ensures waits { result ≡ Ok flushed.Force → length (durable (kernel_log self.old))
+            < length (appended (kernel_log self.old)) }
         ensures fewer { (p : ℕ) → result ≡ Ok (flushed.Page p)
-            → to_flush self.new.core.operations.store.pool + 1 ≡ to_flush self.old.core.operations.store.pool }
+            → to_flush (kernel_pool self.new) + 1 ≡ to_flush (kernel_pool self.old) }
         ensures nothing { result ≡ Ok flushed.Clean
-            → (f : ℕ) → get_or self.new.core.operations.store.pool.dirty.items f false ≡ false }
+            → (f : ℕ) → get_or (kernel_pool self.new).dirty.items f false ≡ false }
         ensures rest { OnlyOperations self.old.core self.new.core }
-        ensures log { self.new.core.operations.store.log ≡ self.old.core.operations.store.log }
-        ensures there { self.new.core.operations.store.pool.of_page
-            ≡ self.old.core.operations.store.pool.of_page }
+        ensures log { kernel_log self.new ≡ kernel_log self.old }
+        ensures there { (kernel_pool self.new).of_page ≡ (kernel_pool self.old).of_page }
         ensures undo { LeavesUndo self.old.core self.new.core }
         ensures fails { FailsForGood self.old result self.new }
         ensures quiet { TellsEachFault D.faults self.old result self.new }

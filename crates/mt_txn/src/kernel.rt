@@ -14,6 +14,7 @@ ghost use Rattle.mt_core.specs.Consistent.{IsFresh};
 ghost use Rattle.mt_core.specs.Runs.{state_in};
 ghost use Rattle.mt_txn.specs.Causes.{is_busy};
 ghost use Rattle.mt_txn.specs.Well.{IsWell, Opens, RestartsFrom};
+ghost use Rattle.mt_op.specs.Operations.{operation_log};
 
 use mt_base::Refusal;
 use mt_core::Core;
@@ -72,7 +73,7 @@ impl<D: Device> Kernel<D> {
         ensures restarts { (first : Base) → Opens D.seen D.may_leave operations escrow relations counters first
             → Restarts D.seen D.may_leave first result }
         ensures schema { (result.relations ≡ relations) × (result.counters ≡ counters) }
-        ensures fails { is_failed result ≡ has_failed operations.store.log }
+        ensures fails { is_failed result ≡ has_failed (operation_log operations) }
         ensures operations { result.core.operations ≡ operations }
     {
         Kernel {

@@ -6,8 +6,9 @@ ghost use Rattle.mt_log.specs.Words.{area_size, has_failed, used};
 ghost use Rattle.mt_model.specs.History.{after};
 ghost use Rattle.mt_model.specs.Model.{Base};
 ghost use Rattle.mt_replay.specs.Stands.{CanRestart};
-ghost use Rattle.mt_txn.specs.Shown.{IsFoundIn, Restarts, is_failed};
+ghost use Rattle.mt_txn.specs.Shown.{IsFoundIn, Restarts, is_failed, kernel_device, kernel_log};
 ghost use Rattle.mt_txn.specs.Turned.{CanGoOn, HasNobody, IsForced, IsRestOf, Resumes};
+ghost use Rattle.mt_op.specs.Operations.{operation_log};
 
 use crate::kernel::Kernel;
 use crate::kernel_rest::KernelRest;
@@ -27,14 +28,14 @@ impl<D: Device> Kernel<D> {
     /// How many bytes of the log's area are in use. They are those before the place of the next batch. Each record
     /// that is in no batch yet takes 5 more and its own length.
     pub fn used(&self) -> u64
-        ensures { result ≡ used self.now.core.operations.store.log }
+        ensures { result ≡ used (kernel_log self.now) }
     {
         self.core.log().used()
     }
 
     /// How many bytes the log's area has.
     pub fn area_size(&self) -> u64
-        ensures { result ≡ area_size self.now.core.operations.store.log }
+        ensures { result ≡ area_size (kernel_log self.now) }
     {
         self.core.log().area_size()
     }
@@ -43,7 +44,7 @@ impl<D: Device> Kernel<D> {
     /// to, whatever a crash leaves.
     pub fn rests_on_its_book(&self)
         ensures { (first : Base) (c : List ℕ) → Restarts D.seen D.may_leave first self.now → HasNobody self.now
-            → IsForced self.now → D.may_leave self.now.core.operations.store.device c
+            → IsForced self.now → D.may_leave (kernel_device self.now) c
             → ∥ CanRestart self.now.relations self.now.counters c (after first self.now.core.book.items) ∥₁ }
     {}
 
@@ -55,7 +56,7 @@ impl<D: Device> Kernel<D> {
         requires goes_on { CanGoOn D.seen D.may_leave rest operations escrow }
         ensures resumed { Resumes D.seen D.may_leave rest operations escrow result }
         ensures schema { (result.relations ≡ rest.relations) × (result.counters ≡ rest.counters) }
-        ensures fails { is_failed result ≡ has_failed operations.store.log }
+        ensures fails { is_failed result ≡ has_failed (operation_log operations) }
         ensures operations { result.core.operations ≡ operations }
         ensures book { result.core.book ≡ rest.rest.book }
     {
@@ -79,7 +80,7 @@ impl<D: Device + Drop> Kernel<D> {
     /// The device, and what outlasts the log's area. What lived is gone, and nothing of it is taken back. It takes no
     /// memory.
     pub fn part(self) -> (D, KernelRest)
-        ensures device { result.0 ≡ self.core.operations.store.device }
+        ensures device { result.0 ≡ kernel_device self }
         ensures rest { IsRestOf self result.1 }
     {
         let Kernel {
@@ -105,7 +106,7 @@ impl<D: Device + Drop> Kernel<D> {
     /// order. They are those of the book, and after them those under way. Each commit of the book is one of them, and
     /// each whose record is durable.
     pub fn into_device(self) -> D
-        ensures device { result ≡ self.core.operations.store.device }
+        ensures device { result ≡ kernel_device self }
         ensures found { IsFoundIn D.seen D.may_leave self result }
     {
         let (device, _rest) = self.part();

@@ -14,7 +14,7 @@ ghost use Rattle.mt_txn.specs.Causes.{IsFault, step_cause};
 ghost use Rattle.mt_txn.specs.Events.{HasStepped};
 ghost use Rattle.mt_txn.specs.PageLocks.{OfRunning, StepsLocks};
 ghost use Rattle.mt_txn.specs.Writes.{WritesOnePage};
-ghost use Rattle.mt_txn.specs.Shown.{FailsForGood, SameSchema, Shows, StaysRestarting, TellsEachFault, is_failed};
+ghost use Rattle.mt_txn.specs.Shown.{FailsForGood, SameSchema, Shows, StaysRestarting, TellsEachFault, is_failed, kernel_log, kernel_pool};
 ghost use Rattle.mt_txn.specs.Shown.{CallsOnce, LeavesFound};
 
 use crate::answers::Stepped;
@@ -43,19 +43,17 @@ impl<D: Device> Kernel<D> {
         ensures cause { IfErr result (λ why. why ≢ Refusal.NoMemory
             → (step_cause (is_failed self.old) self.old.core txn ≡ Some why)
             ⊎ IsFault D.faults self.old.core self.new.core why) }
-        ensures work { LowersSteps (pages self.old.core.operations.store.pool) result
+        ensures work { LowersSteps (pages (kernel_pool self.old)) result
             (steps_in self.old.core.running.items txn) (steps_in self.new.core.running.items txn) }
         ensures full { result ≡ Ok Stepped.Flush → WantsFrame self.old.core self.new.core }
         ensures others { KeepsOthers txn self.old.core.running.items self.new.core.running.items }
-        ensures writes { WritesOnePage (appended self.old.core.operations.store.log)
-            (appended self.new.core.operations.store.log) result }
+        ensures writes { WritesOnePage (appended (kernel_log self.old)) (appended (kernel_log self.new)) result }
         ensures commits { SameCommits self.old.core self.new.core }
         ensures other { IfOk result (λ stepped. IsForOther self.old.core.live.members txn stepped) }
         ensures locks { step_cause (is_failed self.old) self.old.core txn ≡ None
             → OfRunning self.old.core.running.items txn
             (λ r. StepsLocks self.old.core self.new.core r result) }
-        ensures durable { durable self.new.core.operations.store.log
-            ≡ durable self.old.core.operations.store.log }
+        ensures durable { durable (kernel_log self.new) ≡ durable (kernel_log self.old) }
         ensures states { SameStates self.old.core self.new.core }
         ensures fails { FailsForGood self.old result self.new }
         ensures quiet { TellsEachFault D.faults self.old result self.new }

@@ -5,7 +5,7 @@ ghost use Rattle.mt_core.specs.Consistent.{OnlyOperations};
 ghost use Rattle.mt_live.specs.Machine.{State};
 ghost use Rattle.mt_model.specs.Model.{Base};
 ghost use Rattle.mt_txn.specs.Causes.{IsFault, survey_cause};
-ghost use Rattle.mt_txn.specs.Shown.{FailsForGood, SameSchema, Shows, Stays, StaysRestarting, TellsEachFault, is_failed};
+ghost use Rattle.mt_txn.specs.Shown.{FailsForGood, SameSchema, Shows, Stays, StaysRestarting, TellsEachFault, is_failed, kernel_device, kernel_log, kernel_pool};
 ghost use Rattle.mt_txn.specs.Surveyed.{TellsBase, TellsPages};
 ghost use Rattle.mt_txn.specs.Shown.{LeavesFound};
 
@@ -32,10 +32,9 @@ impl<D: Device> Kernel<D> {
         ensures pages { IfOk result (TellsPages D.seen self.old) }
         ensures state { Stays D.seen D.may_leave self.old self.new }
         ensures rest { OnlyOperations self.old.core self.new.core }
-        ensures log { self.new.core.operations.store.log ≡ self.old.core.operations.store.log }
-        ensures pool { self.new.core.operations.store.pool ≡ self.old.core.operations.store.pool }
-        ensures content { D.seen self.new.core.operations.store.device
-            ≡ D.seen self.old.core.operations.store.device }
+        ensures log { kernel_log self.new ≡ kernel_log self.old }
+        ensures pool { kernel_pool self.new ≡ kernel_pool self.old }
+        ensures content { D.seen (kernel_device self.new) ≡ D.seen (kernel_device self.old) }
         ensures schema { SameSchema self.old self.new }
         ensures restarts { StaysRestarting D.seen D.may_leave self.old self.new }
         ensures moments { LeavesFound D.seen D.may_leave D.moment D.left_since self.old self.new }

@@ -10,7 +10,7 @@ use Rattle.mt_format.specs.Formats.{FormatBegins}
 use Rattle.mt_format.specs.Schemas.{counters_in, device_bytes, relations_in, schema_base}
 use Rattle.mt_format.specs.declared.schema.Schema.{Schema}
 use Rattle.mt_txn.specs.Restarted.{FindsCommits}
-use Rattle.mt_txn.specs.Shown.{Restarts, Shows}
+use Rattle.mt_txn.specs.Shown.{Restarts, Shows, kernel_device}
 use Rattle.mt_txn.specs.declared.kernel.Kernel.{Kernel}
 use Rattle.mt_world.specs.Schedules.{HasEnded, HasMade, HasRun}
 use Rattle.mt_world.specs.Reported.{acknowledged}
@@ -20,7 +20,7 @@ use Rattle.mt_restart.specs.declared.standing.Standing.{Standing}
 use Rattle.mt_restart.specs.declared.standing.Standing.TheVariants.{Stands, Ended}
 
 abbrev pub device_under : {D : Type 0} → {g : Ghosts D} → Kernel D g → D
-device_under k = k.core.operations.store.device
+device_under k = (kernel_device k)
 
 -- A restart finds in these bytes what some of the first commits of a kernel lead to. All that were acknowledged by
 -- then are among them, for they are its book; and all whose records were durable. At least so many events were made

@@ -18,7 +18,7 @@ use Rattle.mt_pool.specs.declared.flushes.Flushed.TheVariants as flush
 use Rattle.mt_restart.specs.Rotated.{IsKeptCause, early_cause}
 use Rattle.mt_txn.specs.Causes.{IsFailure, IsFault, abort_cause, begin_cause, call_cause, commit_cause, open_cause, step_cause}
 use Rattle.mt_txn.specs.Events.{IsAnsweredBy, IsForcedBy}
-use Rattle.mt_txn.specs.Shown.{CallsOnce, is_failed}
+use Rattle.mt_txn.specs.Shown.{CallsOnce, is_failed, kernel_device, kernel_log, kernel_pool}
 use Rattle.mt_txn.specs.Work.{IsAbortForOther, IsForOther, LowersAbort, LowersSteps}
 use Rattle.mt_txn.specs.declared.answers.AbortStepped.{AbortStepped}
 use Rattle.mt_txn.specs.declared.answers.AbortStepped.TheVariants as abort
@@ -40,27 +40,27 @@ module _ {D : Type 0} {g : Ghosts D} where
   -- a step of an operation has fewer left after it if it went on; it waits for another's, or lacks a frame
   pub record IsStepped (k : Kernel D g) (t : ℕ) (outcome : StepOutcome) (n : Kernel D g) : Type 0 where
     pub may : step_cause (is_failed k) k.core t ≡ None
-    pub work : LowersSteps (pages k.core.operations.store.pool) (Ok outcome) (steps_in k.core.running.items t) (steps_in n.core.running.items t)
+    pub work : LowersSteps (pages (kernel_pool k)) (Ok outcome) (steps_in k.core.running.items t) (steps_in n.core.running.items t)
     pub other : IsForOther k.core.live.members t outcome
     pub full : outcome ≡ step.Flush → WantsFrame k.core n.core
 
   -- and so a step of an abort
   pub record IsBacked (k : Kernel D g) (t : ℕ) (outcome : AbortStepped) (n : Kernel D g) : Type 0 where
     pub may : abort_cause (is_failed k) k.core t ≡ None
-    pub work : LowersAbort (pages k.core.operations.store.pool) (Ok outcome) (undo_steps k.core t) (undo_steps n.core t)
+    pub work : LowersAbort (pages (kernel_pool k)) (Ok outcome) (undo_steps k.core t) (undo_steps n.core t)
     pub other : IsAbortForOther k.core.live.members t outcome
     pub full : outcome ≡ abort.Flush → WantsFrame k.core n.core
 
   -- a page was written, each page waits for the log, or there is none to be written
   abbrev pub IsFlushed : Kernel D g → FlushOutcome → Kernel D g → Type 0
-  IsFlushed k (flush.Page p) n = Cleans k.core.operations.store.pool n.core.operations.store.pool (length (durable k.core.operations.store.log)) p
-  IsFlushed k flush.Force n = IsWaiting k.core.operations.store.pool (length (durable k.core.operations.store.log))
-  IsFlushed k flush.Clean n = (f : ℕ) → get_or n.core.operations.store.pool.dirty.items f false ≡ false
+  IsFlushed k (flush.Page p) n = Cleans (kernel_pool k) (kernel_pool n) (length (durable (kernel_log k))) p
+  IsFlushed k flush.Force n = IsWaiting (kernel_pool k) (length (durable (kernel_log k)))
+  IsFlushed k flush.Clean n = (f : ℕ) → get_or (kernel_pool n).dirty.items f false ≡ false
 
   -- nothing was in the way, and the log has no record but the images that its area began with
   pub record IsTurnedOver (k n : Kernel D g) : Type 0 where
     pub may : early_cause k ≡ None
-    pub fresh : AreImages (appended n.core.operations.store.log)
+    pub fresh : AreImages (appended (kernel_log n))
 
 module _ {D : Type 0} {g : Ghosts D} (seen : D → List ℕ) (may_leave : D → List ℕ → Type 0) (faults : D → ℕ) where
   -- The answer is due to the kernel: a refusal has its cause, or memory was wanting, or the device failed in the
@@ -84,7 +84,7 @@ module _ {D : Type 0} {g : Ghosts D} (seen : D → List ℕ) (may_leave : D → 
   IsDue k (AbortStep t) (Backed outcome) n = IsBacked k t outcome n
   IsDue k (AbortStep t) answer n = ⊥
   IsDue k Force (Refused why) n = (why ≡ refusal.NoMemory) ⊎ IsFailure faults (is_failed k) k.core n.core why
-  IsDue k Force (Forced outcome) n = IsForcedBy k.core.operations.store.log k.core.commits.items outcome n.core.operations.store.log n.core.commits.items
+  IsDue k Force (Forced outcome) n = IsForcedBy (kernel_log k) k.core.commits.items outcome (kernel_log n) n.core.commits.items
   IsDue k Force answer n = ⊥
   IsDue k Flush (Refused why) n = IsFailure faults (is_failed k) k.core n.core why
   IsDue k Flush (Flushed outcome) n = IsFlushed k outcome n
@@ -103,7 +103,7 @@ module _ {D : Type 0} {g : Ghosts D} (moment : D → ℕ) where
   CallsAtEvent k Force n = CallsOnce moment k n
   CallsAtEvent k Flush n = CallsOnce moment k n
   CallsAtEvent k Rotate n = ⊤
-  CallsAtEvent k event n = n.core.operations.store.device ≡ k.core.operations.store.device
+  CallsAtEvent k event n = kernel_device n ≡ kernel_device k
 
 -- ---- which transactions are open, commit or are to be undone
 

@@ -10,7 +10,7 @@ use Rattle.mt_model.specs.declared.history.Committed.{Committed}
 use Rattle.mt_model.specs.declared.tables.Base.{Base}
 use Rattle.mt_restart.proofs.Standings.{rotated_of, stands_over}
 use Rattle.mt_restart.specs.Rotated.{Rotates}
-use Rattle.mt_restart.specs.Standings.{device_at}
+use Rattle.mt_restart.specs.Standings.{HasFrames, device_at}
 use Rattle.mt_restart.specs.TurnFaults.{IsTurnFault}
 use Rattle.mt_restart.specs.declared.standing.Standing.{Standing}
 use Rattle.mt_restart.specs.declared.standing.Standing.TheVariants.{Stands, Ended}
@@ -30,8 +30,8 @@ stands_here k wrong = absurd cc
 
 module _ {D : Type 0} (g : Ghosts D) where
   -- what has not been turned over, and is refused or too early
-  pub not_turned : (commits : ℕ) (s : Standing D g) (outcome : Result Bool Refusal) → IfErr outcome IsTurnFault → (outcome ≡ Ok true → ⊥) → (kernel_in s ≡ None → IsErr outcome) → IsRotation g commits s s outcome
-  not_turned commits s outcome why not gone = record { keeps = λ base history long keeps. (keeps, refl); why = why; did = λ did. absurd (not did); gone = gone }
+  pub not_turned : (commits frames : ℕ) (s : Standing D g) (outcome : Result Bool Refusal) → IfErr outcome IsTurnFault → (outcome ≡ Ok true → ⊥) → (kernel_in s ≡ None → IsErr outcome) → IsRotation g commits frames s s outcome
+  not_turned commits frames s outcome why not gone = record { keeps = λ base history long keeps. (keeps, refl); why = why; did = λ did. absurd (not did); gone = gone }
 
   -- the device that is left leaves the whole book
   pub left_whole : (k : Kernel D g) (device : D) → ((t : ℕ) (c : List ℕ) → t ≤ g.moment device → g.may_leave device c → g.left_since device t c)
@@ -41,19 +41,19 @@ module _ {D : Type 0} (g : Ghosts D) where
       let f = found (base_of base) restarts in
       found_with g.seen g.may_leave base k c (f.each c (counts (g.moment k.core.operations.store.device) c f.later leaves))
 
-  pub turned_so : (commits : ℕ) (k : Kernel D g) (new : Standing D g) (r : Result (Unit {0}) Refusal) (outcome : Result Bool Refusal)
+  pub turned_so : (commits frames : ℕ) (k : Kernel D g) (new : Standing D g) (r : Result (Unit {0}) Refusal) (outcome : Result Bool Refusal)
       → ((device : D) (t : ℕ) (c : List ℕ) → t ≤ g.moment device → g.may_leave device c → g.left_since device t c)
       → ((first : model.Base) → Restarts g.seen g.may_leave first k → FindsMeanwhile g.moment g.left_since k.relations k.counters first k.core (device_at new))
       → IfErr outcome IsTurnFault → (outcome ≡ Ok true → IsOk r) → IfErr r (λ why. IsTurnFault why → IsErr outcome) → length k.core.book.items ≡ commits
-      → Rotates g.seen g.may_leave g.moment g.left_since g.faults k new r → IsRotation g commits (Stands k) new outcome
-  turned_so commits k (Stands n) r outcome counts found why did fault just rotates =
+      → (IsOk r → HasFrames frames new) → Rotates g.seen g.may_leave g.moment g.left_since g.faults k new r → IsRotation g commits frames (Stands k) new outcome
+  turned_so commits frames k (Stands n) r outcome counts found why did fault just many rotates =
       let over = stands_over g.seen g.may_leave g.moment g.left_since g.faults k n r rotates in record {
         keeps = λ base history long keeps. let same = turned_book g.seen g.may_leave base k n over.state keeps.0 in
             ((turned_began g.seen g.may_leave base k n over.state over.restarts keeps.0, subst (IsPrefix history) (sym same) keeps.1), same);
         why = why;
         did = λ is base history keeps.
             let x = rotated_of g.seen g.may_leave g.moment g.left_since g.faults k n r (did is) rotates in
-            let turn : IsTurn g base = record {
+            let turn : IsTurn g frames base = record {
               was = k;
               began = keeps.0;
               may = x.may;
@@ -62,11 +62,12 @@ module _ {D : Type 0} (g : Ghosts D) where
               shows = λ s shows. x.over.state (base_of base) s keeps.0.1 shows;
               book = turned_book g.seen g.may_leave base k n x.over.state keeps.0;
               images = x.begun;
+              many = many (did is);
             } in ∣ turn ∣₁;
         gone = stands_here (seen_of n);
       }
-  turned_so commits k (Ended device) (Ok u) outcome counts found why did fault just rotates = absurd rotates
-  turned_so commits k (Ended device) (Err refusal) outcome counts found why did fault just rotates = record {
+  turned_so commits frames k (Ended device) (Ok u) outcome counts found why did fault just many rotates = absurd rotates
+  turned_so commits frames k (Ended device) (Err refusal) outcome counts found why did fault just many rotates = record {
     keeps = λ base history long keeps.
         let whole : history ≡ k.core.book.items = whole_front history k.core.book.items keeps.1 (omega (arith, long, just)) in
         (subst (λ (h : List Committed). LeavesBook g.may_leave base h device) (sym whole) (left_whole k device (counts device) found base keeps.0.1), whole);

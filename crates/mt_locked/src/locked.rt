@@ -463,7 +463,7 @@ impl<D: Device + Drop, J: Naming> Locked<D, J> {
     /// Unless it was too early for that, who tends is not to turn it over before a further transaction has ended.
     pub fn rotate(&mut self, alloc: Global, frames: usize) -> Result<bool, Refusal>
         ensures why { IfErr result IsTurnFault }
-        ensures did { result ≡ Ok true → HasTurned ⟦<D as Device>⟧ J.base }
+        ensures did { result ≡ Ok true → HasTurned ⟦<D as Device>⟧ frames J.base }
         ensures gone { self.new.kernel ≡ None → IsErr result }
         ensures book { self.new.book ≡ self.old.book }
         ensures list { self.new.list ≡ self.old.list }

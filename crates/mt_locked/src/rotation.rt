@@ -48,7 +48,7 @@ fn turned_over<D: Device + Drop>(
     alloc: Global,
     frames: usize,
 ) -> (Standing<D>, Result<bool, Refusal>)
-    ensures { IsRotation ⟦<D as Device>⟧ commits (Stands kernel) result.0 result.1 }
+    ensures { IsRotation ⟦<D as Device>⟧ commits frames (Stands kernel) result.0 result.1 }
 {
     if kernel.has_failed() {
         return (Standing::Stands(kernel), Err(Refusal::DeviceFailed));
@@ -65,7 +65,7 @@ pub(crate) fn turned<D: Device + Drop>(
     standing: Standing<D>,
     at: (u64, Global, usize),
 ) -> (Standing<D>, Result<bool, Refusal>)
-    ensures { IsRotation ⟦<D as Device>⟧ at.0 standing result.0 result.1 }
+    ensures { IsRotation ⟦<D as Device>⟧ at.0 at.2 standing result.0 result.1 }
 {
     let (commits, alloc, frames) = at;
     match standing {

@@ -29,11 +29,12 @@ IsUnmarked _ = ⊥
 abbrev pub IsUnshared : List ℕ → Refusal → Type 0
 IsUnshared c why = IsCauseToStop c ⊤ why ⊎ IsUnmarked why
 
--- which mark it is, the kernel's first base and book, and how many passes there are to be
+-- which mark it is, the kernel's first base, book and frames, and how many passes there are to be
 pub record OpenedSeen : Type 0 where
   pub mark : TableId
   pub base : Base
   pub book : List Committed
+  pub frames : ℕ
   pub count : ℕ
 
 -- an end and so many seats of one mark, about a kernel that began on this base: its history is the book

@@ -9,6 +9,7 @@ ghost use Rattle.mt_locked.specs.Began.{BeganOn};
 ghost use Rattle.mt_shared.specs.Opens.{IsBaseOf, IsMarked, IsUnshared};
 ghost use Rattle.mt_locked.specs.Seen.{PassSeen};
 ghost use Rattle.mt_locked.specs.Whole.{IsNew};
+ghost use Rattle.mt_txn.specs.Shown.{kernel_frames};
 
 use crate::gate::Gate;
 use crate::shared::Shared;
@@ -38,6 +39,7 @@ impl<D: Device> Model for Opened<D> {
     ghost use Rattle.mt_locked.specs.Began.{BeganOn};
     ghost use Rattle.mt_locked.specs.Seen.{Beside};
     ghost use Rattle.mt_shared.specs.Opens.{OpenedSeen};
+    ghost use Rattle.mt_txn.specs.Shown.{kernel_frames};
 
     ghost Value = { OpenedSeen };
 
@@ -45,6 +47,7 @@ impl<D: Device> Model for Opened<D> {
       mark = o.end.mark;
       base = o.end.view.base;
       book = o.kernel.core.book.items;
+      frames = kernel_frames o.kernel;
       count = vec_len o.seats;
     } };
 
@@ -68,6 +71,7 @@ impl<D: Device> Opened<D> {
         requires began { BeganOn D.seen D.may_leave base.now kernel }
         ensures ok { IfOk result (λ o. (o.base ≡ base.now) × (o.book ≡ kernel.core.book.items)) }
         ensures many { IfOk result (λ o. o.count ≡ count) }
+        ensures frames { IfOk result (λ o. o.frames ≡ kernel_frames kernel) }
         ensures book { IfErr result (λ k. k.core.book.items ≡ kernel.core.book.items) }
         ensures began { IfErr result (λ k. BeganOn D.seen D.may_leave base.now k) }
         ensures same { IfErr result (λ k. k ≡ kernel) }
@@ -119,6 +123,7 @@ impl<D: Device + Drop> Opened<D> {
         ensures base { IfOk result (λ opened. IsBaseOf (D.seen device) opened.base) }
         ensures first { IfOk result (λ opened. opened.book ≡ []) }
         ensures many { IfOk result (λ opened. opened.count ≡ count) }
+        ensures frames { IfOk result (λ opened. opened.frames ≡ frames) }
         ensures refused { IfErr result (λ gone. IsUnshared (D.seen device) gone.0) }
         ensures failed { IfErr result (λ gone. gone.0 ≡ Refusal.DeviceFailed → D.faults device < D.faults gone.1) }
         // Whatever a crash leaves of the device then, it represents what it did before.

@@ -437,7 +437,7 @@ impl<D: Device + Drop, G: Gate + Drop, J: Naming> Shared<D, G, J> {
     /// yet in the history. Nothing has changed then. Further as [`mt_restart::rotate`]: 1, 11, 2. The kernel goes on
     /// after 1 and 11. After 2 each later call is refused so, and the device is to be opened again.
     pub fn rotate<R: Wait>(&self, rt: &R, alloc: Global, frames: usize) -> Result<(), Refusal>
-        ensures turned { OnOk result (HasTurned ⟦<D as Device>⟧ J.base) }
+        ensures turned { OnOk result (HasTurned ⟦<D as Device>⟧ frames J.base) }
         ensures why { IfErr result IsTurnRefusal }
     {
         let outcome = self.locked.lock(rt).rotate(alloc, frames);
@@ -467,7 +467,7 @@ impl<D: Device + Drop, G: Gate + Drop, J: Naming> Shared<D, G, J> {
     ///
     /// Refused as that, but for 16.
     pub fn turn_over<R: Wait>(&self, rt: &R, alloc: Global, frames: usize) -> Result<(), Refusal>
-        ensures turned { OnOk result (HasTurned ⟦<D as Device>⟧ J.base) }
+        ensures turned { OnOk result (HasTurned ⟦<D as Device>⟧ frames J.base) }
         ensures why { IfErr result IsTurnFault }
     {
         let mut locked = self.locked.lock(rt);

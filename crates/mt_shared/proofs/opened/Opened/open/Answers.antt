@@ -1,6 +1,8 @@
 use Rattle.std.proofs.Common.{◌<◌, ◌∙◌, ℕ, ap, inr, refl, subst, sym}
 use Rattle.mt_model.specs.Views.{base_of}
 use Rattle.mt_model.specs.declared.tables.Base.{Base}
+use Rattle.mt_pool.specs.Views.{frames}
+use Rattle.mt_pool.specs.declared.pool.Pool.{Pool}
 use Rattle.mt_restart.proofs.Living.{found_on, nobody_counts}
 use Rattle.mt_shared.proofs.Openings.{began_on_survey, book_at_first, first_book, open_fault, refused_other, same_as_reported, survey_fault, unopened_by, unsurveyed}
 use Rattle.mt_steps.specs.Listed.{IsSame}
@@ -21,6 +23,9 @@ pub returns-in-Ok-new-clause-first : goal.returns-in-Ok-new-clause-first
 returns-in-Ok-new-clause-first g c =
     let D = g.D.Device in let begins = c.in-Ok.ensures.counted in
     c.in-Ok-new.ensures.ok.1 ∙ book_at_first D.seen D.may_leave begins.0 c.in-Ok.kernel c.survey.new.self begins.1 c.survey.ensures.state
+
+pub returns-in-Ok-new-clause-frames : goal.returns-in-Ok-new-clause-frames
+returns-in-Ok-new-clause-frames g c = c.in-Ok-new.ensures.frames ∙ (ap (λ (p : Pool). frames p) c.survey.ensures.pool ∙ c.in-Ok.ensures.frames)
 
 pub returns-in-Err-clause-refused : goal.returns-in-Err-clause-refused
 returns-in-Err-clause-refused g c = unopened_by _ _ c.in-Err.why c.in-Err.ensures.cause

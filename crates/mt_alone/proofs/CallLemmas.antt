@@ -98,9 +98,9 @@ adds_only k t (Update r x v) never = absurd (never tt)
 adds_only k t (Delete r x) never = absurd (never tt)
 adds_only k t (Read c) never = absurd (never tt)
 
-module _ {D : Type 0} (seen : D → List ℕ) (k : Core D) (t : ℕ) (op : Op) where
+module _ {D : Type 0} (g : Ghosts D) (k : Core D) (t : ℕ) (op : Op) where
   abbrev IsRefusedIn : Refusal → Type 0
-  IsRefusedIn why = ∥ ((origin : Origin) × IsRefusedCall seen origin k (log_kept k) t op true why) ∥₁
+  IsRefusedIn why = ∥ ((origin : Origin) × IsRefusedCall g origin k (log_kept k) t op true why) ∥₁
 
   want_of : (why : Refusal) → IsFree (held_of k.locks) t (object_of op) (mode_of op) → IsRefusedIn why → IsCallWant op why
   want_of refusal.NoMemory free x = tt
@@ -125,20 +125,20 @@ steps_behind t r (q ∷ rs) none own = go (q.txn == t) refl (λ rest. steps_behi
 
 -- ---- a call
 
-module _ {D : Type 0} {g : Ghosts D} (seen : D → List ℕ) (may_leave : D → List ℕ → Type 0) (faults : D → ℕ) (p : Play) (k : Kernel D g) (t : ℕ) (calls : List Call) (op : Op) where
+module _ {D : Type 0} {g : Ghosts D} (p : Play) (k : Kernel D g) (t : ℕ) (calls : List Call) (op : Op) where
   abbrev pub many_of : Bool
   many_of = nat_le 256 (length (calls_of k.core.live.members t)) || nat_le (2 ^ 40) k.core.last
 
   abbrev pub fault : Option Refusal
   fault = first_of (name_cause k.relations k.counters op) (size_cause op)
 
-  call_is : IsOpened seen may_leave p t calls k → call_cause k.relations k.counters (is_failed k) k.core t op ≡ causes (is_failed k) many_of fault
+  call_is : IsOpened p t calls k → call_cause k.relations k.counters (is_failed k) k.core t op ≡ causes (is_failed k) many_of fault
   call_is o =
-      ap₂ (λ (a b : Option Refusal). first_of a (first_of b (first_of (count_cause k.core t) fault))) (open_is seen may_leave faults k t o.state)
-      (ap (λ (b : Bool). if b then Some refusal.Busy else None) (opened_idle seen may_leave faults p t calls k o))
+      ap₂ (λ (a b : Option Refusal). first_of a (first_of b (first_of (count_cause k.core t) fault))) (open_is k t o.state)
+      (ap (λ (b : Bool). if b then Some refusal.Busy else None) (opened_idle p t calls k o))
 
-  opened_free : IsOpened seen may_leave p t calls k → IsFree (held_of k.core.locks) t (object_of op) (mode_of op)
-  opened_free o u bars = ∥∥₁_elim o.shown (hlevel props) (λ (first, s, shows, (played, alone)). ∥∥₁_elim (kept_of seen may_leave k.relations k.counters k.core first s shows) (hlevel props) (λ kept.
+  opened_free : IsOpened p t calls k → IsFree (held_of k.core.locks) t (object_of op) (mode_of op)
+  opened_free o u bars = ∥∥₁_elim o.shown (hlevel props) (λ (first, s, shows, (played, alone)). ∥∥₁_elim (kept_of g k.relations k.counters k.core first s shows) (hlevel props) (λ kept.
       ∥∥₁_elim shows (hlevel props) (λ (origin, base, is, x).
       let same : held_of k.core.locks ≡ s.held = ap (λ (z : State). z.held) (sym x.state) in
       alone_is_free first s t p.session calls kept alone (object_of op) (mode_of op) u (subst (λ (h : Held). Bars h t (object_of op) (mode_of op) u) same bars))))
@@ -151,33 +151,33 @@ module _ {D : Type 0} {g : Ghosts D} (seen : D → List ℕ) (may_leave : D → 
       go None e = refl
       go (Some y) e = absurd (let wrong : ◌≡◌ {A = Result Called Refusal} (Ok x) (Err y) = sym is ∙ early y e in cc)
 
-  pub call_faultless : (r : Result Called Refusal) (x : Called) → r ≡ Ok x → IsOpened seen may_leave p t calls k → ((why : Refusal) → call_cause k.relations k.counters (is_failed k) k.core t op ≡ Some why → r ≡ Err why) → fault ≡ None
+  pub call_faultless : (r : Result Called Refusal) (x : Called) → r ≡ Ok x → IsOpened p t calls k → ((why : Refusal) → call_cause k.relations k.counters (is_failed k) k.core t op ≡ Some why → r ≡ Err why) → fault ≡ None
   call_faultless r x is o early = no_fault (is_failed k) many_of fault (sym (call_is o) ∙ answered_late r x is early)
 
   -- nobody is waited for
-  pub call_waits : (r : Result Called Refusal) (holder : ℕ) → r ≡ Ok (call.Wait holder) → IsOpened seen may_leave p t calls k → ((why : Refusal) → call_cause k.relations k.counters (is_failed k) k.core t op ≡ Some why → r ≡ Err why)
-      → (call_cause k.relations k.counters (is_failed k) k.core t op ≡ None → IsAnsweredBy seen may_leave k t op r) → ⊥
+  pub call_waits : (r : Result Called Refusal) (holder : ℕ) → r ≡ Ok (call.Wait holder) → IsOpened p t calls k → ((why : Refusal) → call_cause k.relations k.counters (is_failed k) k.core t op ≡ Some why → r ≡ Err why)
+      → (call_cause k.relations k.counters (is_failed k) k.core t op ≡ None → IsAnsweredBy k t op r) → ⊥
   call_waits r holder is o early answer =
-      ∥∥₁_elim (subst (IsAnsweredBy seen may_leave k t op) is (answer (answered_late r (call.Wait holder) is early))) (hlevel props) (λ (origin, base, at, safe, said). opened_free o holder said.0.bars)
+      ∥∥₁_elim (subst (IsAnsweredBy k t op) is (answer (answered_late r (call.Wait holder) is early))) (hlevel props) (λ (origin, base, at, safe, said). opened_free o holder said.0.bars)
 
-  pub call_started : (n : Kernel D g) → IsOpened seen may_leave p t calls k → ((first : Base) (s : State) → Shows seen may_leave first s k → Shows seen may_leave first (called s t op) n) → SameStates k.core n.core
-      → RunsBehind t (2 * pages k.core.operations.store.pool + 9) k.core.running.items n.core.running.items → IsCalling seen may_leave p t calls op n × (steps_in n.core.running.items t ≤ 8009)
+  pub call_started : (n : Kernel D g) → IsOpened p t calls k → ((first : Base) (s : State) → Shows first s k → Shows first (called s t op) n) → SameStates k.core n.core
+      → RunsBehind t (2 * pages k.core.operations.store.pool + 9) k.core.running.items n.core.running.items → IsCalling p t calls op n × (steps_in n.core.running.items t ≤ 8009)
   call_started n o did states (r, own, steps, behind) = (
     record {
-      shown = ∥∥₁_elim o.shown (hlevel props) (λ (first, s, shows, plays). ∥∥₁_map (kept_of seen may_leave k.relations k.counters k.core first s shows) (λ kept. (first, s, kept, plays, did first s shows)));
+      shown = ∥∥₁_elim o.shown (hlevel props) (λ (first, s, shows, plays). ∥∥₁_map (kept_of g k.relations k.counters k.core first s shows) (λ kept. (first, s, kept, plays, did first s shows)));
       state = states t ∙ o.state;
     },
     ∥∥₁_elim o.shown (hlevel props) (λ (first, s, shows, plays).
-        let few = pages_few seen may_leave k first s shows in
-        let all : steps_in n.core.running.items t ≡ work_of r = ap (λ (rs : List OpScope). steps_in rs t) behind ∙ steps_behind t r k.core.running.items (opened_idle seen may_leave faults p t calls k o) own in
+        let few = pages_few k first s shows in
+        let all : steps_in n.core.running.items t ≡ work_of r = ap (λ (rs : List OpScope). steps_in rs t) behind ∙ steps_behind t r k.core.running.items (opened_idle p t calls k o) own in
         omega (arith, few, all, steps)),
   )
 
-  pub call_replied : (n : Kernel D g) (reply : Reply) → p.under_way ≡ Some calls → fault ≡ None → (reply ≡ reply_of (run p.base calls) op) × IsOpened seen may_leave p t (calls ++ (op, reply_of (run p.base calls) op) ∷ []) n
-      → IsAnsweredOr seen may_leave faults p k (Some t) (line.Call op) (Ok (Replied reply, Some t)) n
+  pub call_replied : (n : Kernel D g) (reply : Reply) → p.under_way ≡ Some calls → fault ≡ None → (reply ≡ reply_of (run p.base calls) op) × IsOpened p t (calls ++ (op, reply_of (run p.base calls) op) ∷ []) n
+      → IsAnsweredOr p k (Some t) (line.Call op) (Ok (Replied reply, Some t)) n
   call_replied n reply under none (is, opened) = (
     with_call p calls op,
-    subst (λ (x : Reply). IsTurn k.relations k.counters (IsDueTo seen may_leave k (Some t)) p (line.Call op) (Replied x) (with_call p calls op)) (sym is) (turn_acts k.relations k.counters p (Some calls) (line.Call op) under none),
+    subst (λ (x : Reply). IsTurn k.relations k.counters (IsDueTo k (Some t)) p (line.Call op) (Replied x) (with_call p calls op)) (sym is) (turn_acts k.relations k.counters p (Some calls) (line.Call op) under none),
     (
       calls ++ (op, reply_of (run p.base calls) op) ∷ [],
       refl,
@@ -188,25 +188,25 @@ module _ {D : Type 0} {g : Ghosts D} (seen : D → List ℕ) (may_leave : D → 
     ),
   )
 
-  pub call_refused : (n : Kernel D g) (r : Result Called Refusal) (why : Refusal) → r ≡ Err why → p.under_way ≡ Some calls → IsOpened seen may_leave p t calls k
-      → ((y : Refusal) → call_cause k.relations k.counters (is_failed k) k.core t op ≡ Some y → r ≡ Err y) → (call_cause k.relations k.counters (is_failed k) k.core t op ≡ None → IsAnsweredBy seen may_leave k t op r)
-      → ((y : Refusal) → call_cause k.relations k.counters (is_failed k) k.core t op ≡ Some y → n ≡ k) → ((first : Base) (s : State) → Shows seen may_leave first s k → HasCalled seen may_leave first s t op r n) → SameStates k.core n.core
-      → IsAnsweredOr seen may_leave faults p k (Some t) (line.Call op) (refused_as why (Some t)) n
+  pub call_refused : (n : Kernel D g) (r : Result Called Refusal) (why : Refusal) → r ≡ Err why → p.under_way ≡ Some calls → IsOpened p t calls k
+      → ((y : Refusal) → call_cause k.relations k.counters (is_failed k) k.core t op ≡ Some y → r ≡ Err y) → (call_cause k.relations k.counters (is_failed k) k.core t op ≡ None → IsAnsweredBy k t op r)
+      → ((y : Refusal) → call_cause k.relations k.counters (is_failed k) k.core t op ≡ Some y → n ≡ k) → ((first : Base) (s : State) → Shows first s k → HasCalled first s t op r n) → SameStates k.core n.core
+      → IsAnsweredOr p k (Some t) (line.Call op) (refused_as why (Some t)) n
   call_refused n r why is under o early answer unmoved did states =
-      let stays = subst (λ (x : Result Called Refusal). (first : Base) (s : State) → Shows seen may_leave first s k → HasCalled seen may_leave first s t op x n) is did in
-      let now = opened_stays seen may_leave faults p t calls k n o stays (states t) in
+      let stays = subst (λ (x : Result Called Refusal). (first : Base) (s : State) → Shows first s k → HasCalled first s t op x n) is did in
+      let now = opened_stays p t calls k n o stays (states t) in
       let outcome = go (call_cause k.relations k.counters (is_failed k) k.core t op) refl in
-      answered_refused seen may_leave faults p (Some calls) (line.Call op) (Some t) k n why under (calls, under, now) (left_of seen may_leave faults p (Some t) n (calls, under, now))
+      answered_refused p (Some calls) (line.Call op) (Some t) k n why under (calls, under, now) (left_of p (Some t) n (calls, under, now))
       (λ e. broken outcome e) (λ other. wants outcome other)
     where
       Reported : Type 0
-      Reported = ((why ≡ refusal.DeviceFailed) × HasBroken faults n) ⊎ ((why ≢ refusal.DeviceFailed) × ((fault ≡ Some why) ⊎ IsCallWant op why))
+      Reported = ((why ≡ refusal.DeviceFailed) × HasBroken n) ⊎ ((why ≢ refusal.DeviceFailed) × ((fault ≡ Some why) ⊎ IsCallWant op why))
 
       late : IsCallWant op why → Reported
       late want = inr (λ (e : why ≡ refusal.DeviceFailed). subst (IsCallWant op) e want, inr want)
 
       go : (c : Option Refusal) → call_cause k.relations k.counters (is_failed k) k.core t op ≡ c → Reported
-      go None e = late (want_of seen k.core t op why (opened_free o) (∥∥₁_map (subst (IsAnsweredBy seen may_leave k t op) is (answer e)) (λ (origin, base, at, safe, said). (origin, said))))
+      go None e = late (want_of g k.core t op why (opened_free o) (∥∥₁_map (subst (IsAnsweredBy k t op) is (answer e)) (λ (origin, base, at, safe, said). (origin, said))))
       go (Some y) e =
           let same : y ≡ why = let both : ◌≡◌ {A = Result Called Refusal} (Err y) (Err why) = sym (early y e) ∙ is in cc in
           by (cause_is (is_failed k) many_of fault op why (fault_sound k.relations k.counters op) (sym (call_is o) ∙ e ∙ ap (λ (x : Refusal). Some x) same))
@@ -215,18 +215,18 @@ module _ {D : Type 0} {g : Ghosts D} (seen : D → List ℕ) (may_leave : D → 
           by (inl x) = inl (x.0, inl (ap (λ (z : Kernel D g). is_failed z) (unmoved y e) ∙ x.1))
           by (inr x) = inr x
 
-      broken : Reported → why ≡ refusal.DeviceFailed → HasBroken faults n
+      broken : Reported → why ≡ refusal.DeviceFailed → HasBroken n
       broken (inl x) e = x.1
       broken (inr x) e = absurd (x.0 e)
 
-      tested : (c : Option Refusal) → call_cause k.relations k.counters (is_failed k) k.core t op ≡ c → IsTested seen may_leave k (Some t) (line.Call op) why
-      tested None e = inr (e, subst (IsAnsweredBy seen may_leave k t op) is (answer e))
+      tested : (c : Option Refusal) → call_cause k.relations k.counters (is_failed k) k.core t op ≡ c → IsTested k (Some t) (line.Call op) why
+      tested None e = inr (e, subst (IsAnsweredBy k t op) is (answer e))
       tested (Some y) e = inl (let same : y ≡ why = let both : ◌≡◌ {A = Result Called Refusal} (Err y) (Err why) = sym (early y e) ∙ is in cc in e ∙ ap (λ (x : Refusal). Some x) same)
 
-      due : (fault ≡ Some why) ⊎ IsCallWant op why → (fault ≡ Some why) ⊎ (IsCallWant op why × IsDueTo seen may_leave k (Some t) (line.Call op) why)
+      due : (fault ≡ Some why) ⊎ IsCallWant op why → (fault ≡ Some why) ⊎ (IsCallWant op why × IsDueTo k (Some t) (line.Call op) why)
       due (inl x) = inl x
       due (inr want) = inr (want, inr (tested (call_cause k.relations k.counters (is_failed k) k.core t op) refl))
 
-      wants : Reported → why ≢ refusal.DeviceFailed → (fault ≡ Some why) ⊎ (IsCallWant op why × IsDueTo seen may_leave k (Some t) (line.Call op) why)
+      wants : Reported → why ≢ refusal.DeviceFailed → (fault ≡ Some why) ⊎ (IsCallWant op why × IsDueTo k (Some t) (line.Call op) why)
       wants (inl x) other = absurd (other x.0)
       wants (inr x) other = due x.1

@@ -43,14 +43,14 @@ has_one c t names is own = ap (λ (ns : List ℕ). list_any (λ (y : ℕ). y == 
 
 -- ---- the steps
 
-module _ {D : Type 0} {g : Ghosts D} (seen : D → List ℕ) (may_leave : D → List ℕ → Type 0) (faults : D → ℕ) (p : Play) (t : ℕ) (calls : List Call) where
-  pub ending_none : (k : Kernel D g) → IsEnding seen may_leave p t calls 0 k → ⊥
+module _ {D : Type 0} {g : Ghosts D} (p : Play) (t : ℕ) (calls : List Call) where
+  pub ending_none : (k : Kernel D g) → IsEnding p t calls 0 k → ⊥
   ending_none k e = due_none e.commit.place k.core.operations.store.log e.waits e.due
 
-  pub ending_idle : (k n : Kernel D g) (rest : ℕ) → IsEnding seen may_leave p t calls rest k → IsForcing seen may_leave faults k (Ok forced.Idle) n → ⊥
+  pub ending_idle : (k n : Kernel D g) (rest : ℕ) → IsEnding p t calls rest k → IsForcing k (Ok forced.Idle) n → ⊥
   ending_idle k n rest e f = due_idle e.commit.place rest k.core.operations.store.log n.core.operations.store.log e.waits e.due f.log.0 f.appended
 
-  pub ending_more : (k n : Kernel D g) (rest : ℕ) → IsEnding seen may_leave p t calls (suc rest) k → IsForcing seen may_leave faults k (Ok forced.More) n → IsEnding seen may_leave p t calls rest n
+  pub ending_more : (k n : Kernel D g) (rest : ℕ) → IsEnding p t calls (suc rest) k → IsForcing k (Ok forced.More) n → IsEnding p t calls rest n
   ending_more k n rest e f = record {
     shown = ∥∥₁_map e.shown (λ (first, s, shows, plays). (first, s, f.forced first s shows, plays));
     commit = e.commit;
@@ -62,8 +62,8 @@ module _ {D : Type 0} {g : Ghosts D} (seen : D → List ℕ) (may_leave : D → 
     due = due_more e.commit.place rest k.core.operations.store.log n.core.operations.store.log e.due f.log.0 f.appended;
   }
 
-  pub ending_durable : (k n : Kernel D g) (rest : ℕ) (names : _) → IsEnding seen may_leave p t calls (suc rest) k → IsForcing seen may_leave faults k (Ok (forced.Durable names)) n
-      → ((list_any (λ (y : ℕ). y == t) names.items ≡ false) × IsEnding seen may_leave p t calls rest n) ⊎ ((list_any (λ (y : ℕ). y == t) names.items ≡ true) × IsResting seen may_leave (committed p calls) n)
+  pub ending_durable : (k n : Kernel D g) (rest : ℕ) (names : _) → IsEnding p t calls (suc rest) k → IsForcing k (Ok (forced.Durable names)) n
+      → ((list_any (λ (y : ℕ). y == t) names.items ≡ false) × IsEnding p t calls rest n) ⊎ ((list_any (λ (y : ℕ). y == t) names.items ≡ true) × IsResting (committed p calls) n)
   ending_durable k n rest names e f = by (cases_lt pos c.place)
     where
       c : Commit
@@ -73,14 +73,14 @@ module _ {D : Type 0} {g : Ghosts D} (seen : D → List ℕ) (may_leave : D → 
       pos = f.log.0
 
       by : (pos < c.place) ⊎ (c.place ≤ pos)
-          → ((list_any (λ (y : ℕ). y == t) names.items ≡ false) × IsEnding seen may_leave p t calls rest n) ⊎ ((list_any (λ (y : ℕ). y == t) names.items ≡ true) × IsResting seen may_leave (committed p calls) n)
+          → ((list_any (λ (y : ℕ). y == t) names.items ≡ false) × IsEnding p t calls rest n) ⊎ ((list_any (λ (y : ℕ). y == t) names.items ≡ true) × IsResting (committed p calls) n)
       by (inl before) =
           let none = named_none c pos before in
           let nobody : names.items ≡ [] = f.log.2 ∙ ap (λ (cs : List Commit). durable_txns cs pos) e.queue ∙ none.0 in
           inl (
             ap (λ (ns : List ℕ). list_any (λ (y : ℕ). y == t) ns) nobody,
             record {
-              shown = ∥∥₁_map e.shown (λ (first, s, shows, plays). (first, s, subst (λ (ns : List ℕ). Shows seen may_leave first (booked_each s ns) n) nobody (f.forced first s shows), plays));
+              shown = ∥∥₁_map e.shown (λ (first, s, shows, plays). (first, s, subst (λ (ns : List ℕ). Shows first (booked_each s ns) n) nobody (f.forced first s shows), plays));
               commit = c;
               queue = f.log.3 ∙ ap (λ (cs : List Commit). drop (durable_count cs pos) cs) e.queue ∙ none.1;
               own = e.own;
@@ -96,7 +96,7 @@ module _ {D : Type 0} {g : Ghosts D} (seen : D → List ℕ) (may_leave : D → 
             record {
               shown = ∥∥₁_map e.shown (λ (first, s, shows, (played, alone)).
                   let session : session_at s t ≡ p.session = ap or_zero alone.lives in
-                  let now : Shows seen may_leave first (booked s t p.session) n = subst (λ (i : ℕ). Shows seen may_leave first (booked s t i) n) session (subst (λ (ns : List ℕ). Shows seen may_leave first (booked_each s ns) n) its (f.forced first s shows)) in
+                  let now : Shows first (booked s t p.session) n = subst (λ (i : ℕ). Shows first (booked s t i) n) session (subst (λ (ns : List ℕ). Shows first (booked_each s ns) n) its (f.forced first s shows)) in
                   let leaves = alone_commits s t p.session calls alone in
                   let last : Committed = record { session = p.session; calls = calls } in (
                     first,
@@ -115,22 +115,22 @@ module _ {D : Type 0} {g : Ghosts D} (seen : D → List ℕ) (may_leave : D → 
             },
           )
 
-  pub ending_err : (k n : Kernel D g) (rest : ℕ) (why : Refusal) → IsEnding seen may_leave p t calls rest k → IsForcing seen may_leave faults k (Err why) n → IsGivenUp seen may_leave faults p n why
+  pub ending_err : (k n : Kernel D g) (rest : ℕ) (why : Refusal) → IsEnding p t calls rest k → IsForcing k (Err why) n → IsGivenUp p n why
   ending_err k n rest why e f = (∥∥₁_map e.shown (λ (first, s, shows, plays). (first, s, f.forced first s shows, plays.0)), f.cause)
 
   -- where its name was found among those that are durable, and where it was not
-  pub ending_found : (k n : Kernel D g) (rest : ℕ) (names : _) (ns : List ℕ) (found : Bool) → IsForcing seen may_leave faults k (Ok (forced.Durable names)) n → ns ≡ names.items → found ≡ list_any (λ (y : ℕ). y == t) ns → found ≡ true → IsEnding seen may_leave p t calls (suc rest) k
-      → IsResting seen may_leave (committed p calls) n
+  pub ending_found : (k n : Kernel D g) (rest : ℕ) (names : _) (ns : List ℕ) (found : Bool) → IsForcing k (Ok (forced.Durable names)) n → ns ≡ names.items → found ≡ list_any (λ (y : ℕ). y == t) ns → found ≡ true → IsEnding p t calls (suc rest) k
+      → IsResting (committed p calls) n
   ending_found k n rest names ns found f same is was_found e = go (ending_durable k n rest names e f)
     where
-      go : ((list_any (λ (y : ℕ). y == t) names.items ≡ false) × IsEnding seen may_leave p t calls rest n) ⊎ ((list_any (λ (y : ℕ). y == t) names.items ≡ true) × IsResting seen may_leave (committed p calls) n) → IsResting seen may_leave (committed p calls) n
+      go : ((list_any (λ (y : ℕ). y == t) names.items ≡ false) × IsEnding p t calls rest n) ⊎ ((list_any (λ (y : ℕ). y == t) names.items ≡ true) × IsResting (committed p calls) n) → IsResting (committed p calls) n
       go (inl x) = absurd (let no : true ≡ false = sym was_found ∙ is ∙ ap (λ (us : List ℕ). list_any (λ (y : ℕ). y == t) us) same ∙ x.0 in cc)
       go (inr x) = x.1
 
-  pub ending_missed : (k n : Kernel D g) (rest : ℕ) (names : _) (ns : List ℕ) (found : Bool) → IsForcing seen may_leave faults k (Ok (forced.Durable names)) n → ns ≡ names.items → found ≡ list_any (λ (y : ℕ). y == t) ns → found ≡ false → IsEnding seen may_leave p t calls (suc rest) k
-      → IsEnding seen may_leave p t calls rest n
+  pub ending_missed : (k n : Kernel D g) (rest : ℕ) (names : _) (ns : List ℕ) (found : Bool) → IsForcing k (Ok (forced.Durable names)) n → ns ≡ names.items → found ≡ list_any (λ (y : ℕ). y == t) ns → found ≡ false → IsEnding p t calls (suc rest) k
+      → IsEnding p t calls rest n
   ending_missed k n rest names ns found f same is not_found e = go (ending_durable k n rest names e f)
     where
-      go : ((list_any (λ (y : ℕ). y == t) names.items ≡ false) × IsEnding seen may_leave p t calls rest n) ⊎ ((list_any (λ (y : ℕ). y == t) names.items ≡ true) × IsResting seen may_leave (committed p calls) n) → IsEnding seen may_leave p t calls rest n
+      go : ((list_any (λ (y : ℕ). y == t) names.items ≡ false) × IsEnding p t calls rest n) ⊎ ((list_any (λ (y : ℕ). y == t) names.items ≡ true) × IsResting (committed p calls) n) → IsEnding p t calls rest n
       go (inl x) = x.1
       go (inr x) = absurd (let no : false ≡ true = sym not_found ∙ is ∙ ap (λ (us : List ℕ). list_any (λ (y : ℕ). y == t) us) same ∙ x.0 in cc)

@@ -13,8 +13,8 @@ use Rattle.mt_script.specs.declared.lines.Line.{Line}
 use Rattle.mt_script.specs.declared.lines.Line.TheVariants as line
 use Rattle.mt_script.specs.declared.answers.Answer.{Answer}
 use Rattle.mt_script.specs.declared.answers.Answer.TheVariants.{Aborted, Refused}
-use Rattle.mt_alone.specs.declared.script_run.RunFault.{RunFault}
-use Rattle.mt_alone.specs.declared.script_run.RunFault.TheVariants as fault
+use Rattle.mt_alone.specs.declared.alone.RunFault.{RunFault}
+use Rattle.mt_alone.specs.declared.alone.RunFault.TheVariants as fault
 use Rattle.mt_script.specs.Answers.{AppendsFront, answer_text, transcript_text}
 use Rattle.mt_txn.specs.Shown.{SameSchema}
 use Rattle.mt_alone.specs.Driven.{IsBeside, IsDueTo, IsGivenUp, IsResting}
@@ -89,21 +89,21 @@ turn_stays relations counters p _ l _ (refuses why cause) = record { session = r
 
 -- ---- a line
 
-module _ {D : Type 0} {g : Ghosts D} (seen : D → List ℕ) (may_leave : D → List ℕ → Type 0) (faults : D → ℕ) (p : Play) (k : Kernel D g) where
+module _ {D : Type 0} {g : Ghosts D} (p : Play) (k : Kernel D g) where
   -- the kernels of a run, each beside its play
   abbrev Turned : Play × Kernel D g → List Line → List Answer → Play × Kernel D g → Type 0
-  Turned = Runs (HasTurned seen may_leave)
+  Turned = Runs (HasTurned)
 
   pub runs_session : (s e : Play × Kernel D g) (ls : List Line) (as' : List Answer) → Turned s ls as' e → e.0.session ≡ s.0.session
   runs_session s _ _ _ starts = refl
   runs_session s _ _ _ (goes_on lines answers m e line answer before t) = (turn_stays m.1.relations m.1.counters m.0 e.0 line answer t.turn).session ∙ runs_session s m lines answers before
 
-  turned : (l : Line) (a : Answer) (live : Option ℕ) (q : Play) (n : Kernel D g) → IsBeside seen may_leave p live k → IsTurn k.relations k.counters (IsDueTo seen may_leave k live) p l a q → SameSchema k n
+  turned : (l : Line) (a : Answer) (live : Option ℕ) (q : Play) (n : Kernel D g) → IsBeside p live k → IsTurn k.relations k.counters (IsDueTo k live) p l a q → SameSchema k n
       → Turned (p, k) (l ∷ []) (a ∷ []) (q, n)
   turned l a live q n at turn schema = goes_on [] [] (p, k) (q, n) l a starts (record { live = live; beside = at; turn = turn; schema = schema })
 
-  pub line_reported : (stop : Bool) (why : Option Refusal) (l : Line) (outcome : Answer × Option ℕ) (live : Option ℕ) (was now : Option (List ℕ)) (n : Kernel D g) → Ends stop why (outcome.0 ∷ []) → IsBeside seen may_leave p live k → SameSchema k n → IsAnswered seen may_leave p k live l outcome n → Appends was now (answer_text outcome.0 ++ 10 ∷ [])
-      → HasRunLines seen may_leave stop why p k (l ∷ []) was now outcome.1 n
+  pub line_reported : (stop : Bool) (why : Option Refusal) (l : Line) (outcome : Answer × Option ℕ) (live : Option ℕ) (was now : Option (List ℕ)) (n : Kernel D g) → Ends stop why (outcome.0 ∷ []) → IsBeside p live k → SameSchema k n → IsAnswered p k live l outcome n → Appends was now (answer_text outcome.0 ++ 10 ∷ [])
+      → HasRunLines stop why p k (l ∷ []) was now outcome.1 n
   line_reported stop why l outcome live was now n ends at schema (q, turn, beside) text = record {
     answers = outcome.0 ∷ [];
     play = q;
@@ -113,8 +113,8 @@ module _ {D : Type 0} {g : Ghosts D} (seen : D → List ℕ) (may_leave : D → 
     beside = beside;
   }
 
-  pub line_unheard : (l : Line) (outcome : Answer × Option ℕ) (live : Option ℕ) (was now : Option (List ℕ)) (m n : Kernel D g) (why : RunFault) → IsBeside seen may_leave p live k → SameSchema k m → IsAnswered seen may_leave p k live l outcome m
-      → AppendsFront was now (answer_text outcome.0 ++ 10 ∷ []) → ((q : Play) → IsBeside seen may_leave q outcome.1 m → IsLeftFor seen may_leave faults q n why) → IsCutShort seen may_leave faults p k (l ∷ []) was now n why
+  pub line_unheard : (l : Line) (outcome : Answer × Option ℕ) (live : Option ℕ) (was now : Option (List ℕ)) (m n : Kernel D g) (why : RunFault) → IsBeside p live k → SameSchema k m → IsAnswered p k live l outcome m
+      → AppendsFront was now (answer_text outcome.0 ++ 10 ∷ []) → ((q : Play) → IsBeside q outcome.1 m → IsLeftFor q n why) → IsCutShort p k (l ∷ []) was now n why
   line_unheard l outcome live was now m n why at schema (q, turn, beside) front left = record {
     before = l ∷ [];
     rest = [];
@@ -132,11 +132,11 @@ module _ {D : Type 0} {g : Ghosts D} (seen : D → List ℕ) (may_leave : D → 
       ends (fault.Refused y) f = inr (record { heard = []; last = outcome.0; answers_are = refl; mid = was; outcome = text_none was; front = f })
 
   -- it was given up
-  stopped_left : (n : Kernel D g) (was now : Option (List ℕ)) (y : Refusal) (why : RunFault) → IsGivenUp seen may_leave faults p n y → IsStopped was now y why → IsLeftFor seen may_leave faults p n why
+  stopped_left : (n : Kernel D g) (was now : Option (List ℕ)) (y : Refusal) (why : RunFault) → IsGivenUp p n y → IsStopped was now y why → IsLeftFor p n why
   stopped_left n was now y fault.Output (left, fails) (is, front) = inr (left, (fails (λ e. let wrong : refusal.DeviceFailed ≡ refusal.NoMemory = sym is ∙ e in cc)).1)
-  stopped_left n was now y (fault.Refused why) given (is, all) = subst (IsGivenUp seen may_leave faults p n) (sym is) given
+  stopped_left n was now y (fault.Refused why) given (is, all) = subst (IsGivenUp p n) (sym is) given
 
-  pub line_stopped : (l : Line) (y : Refusal) (was now : Option (List ℕ)) (n : Kernel D g) (why : RunFault) → IsGivenUp seen may_leave faults p n y → IsStopped was now y why → IsCutShort seen may_leave faults p k (l ∷ []) was now n why
+  pub line_stopped : (l : Line) (y : Refusal) (was now : Option (List ℕ)) (n : Kernel D g) (why : RunFault) → IsGivenUp p n y → IsStopped was now y why → IsCutShort p k (l ∷ []) was now n why
   line_stopped l y was now n why given stopped = record {
     before = [];
     rest = l ∷ [];
@@ -151,12 +151,12 @@ module _ {D : Type 0} {g : Ghosts D} (seen : D → List ℕ) (may_leave : D → 
 
   -- ---- lines
 
-  pub no_lines : (stop : Bool) (a : Option (List ℕ)) → IsBeside seen may_leave p None k → HasRunLines seen may_leave stop None p k [] a a None k
+  pub no_lines : (stop : Bool) (a : Option (List ℕ)) → IsBeside p None k → HasRunLines stop None p k [] a a None k
   no_lines stop a beside = record { answers = []; play = p; ran = starts; ends = ends_none stop; outcome = text_none a; beside = beside }
 
   pub line_more : (stop : Bool) (why : Option Refusal) (session : ℕ) (lines : List Line) (i : ℕ) (l : Line) (live now : Option ℕ) (a b c : Option (List ℕ)) (m n : Kernel D g) → p.session ≡ session → i < length lines → l ≡ get_or lines i l
-      → HasRunLines seen may_leave stop None p k (take i lines) a b live m
-      → ((q : Play) → q.session ≡ session → IsBeside seen may_leave q live m → HasRunLines seen may_leave stop why q m (l ∷ []) b c now n) → HasRunLines seen may_leave stop why p k (take (suc i) lines) a c now n
+      → HasRunLines stop None p k (take i lines) a b live m
+      → ((q : Play) → q.session ≡ session → IsBeside q live m → HasRunLines stop why q m (l ∷ []) b c now n) → HasRunLines stop why p k (take (suc i) lines) a c now n
   line_more stop why session lines i l live now a b c m n own lt is ran next =
       let x = next ran.play (runs_session (p, k) (ran.play, m) (take i lines) ran.answers ran.ran ∙ own) ran.beside in
       let all : take i lines ++ l ∷ [] ≡ take (suc i) lines = ap (λ (y : Line). take i lines ++ y ∷ []) is ∙ sym (take-suc lines i l lt) in
@@ -169,8 +169,8 @@ module _ {D : Type 0} {g : Ghosts D} (seen : D → List ℕ) (may_leave : D → 
         beside = x.beside;
       }
 
-  cut_behind : (stop : Bool) (Left : Play → Type 0) (ls ms rest lines : List Line) (live : Option ℕ) (a b c : Option (List ℕ)) (m : Kernel D g) (why : RunFault) → lines ≡ ls ++ (ms ++ rest) → (ran : HasRunLines seen may_leave stop None p k ls a b live m)
-      → IsCut seen may_leave Left ran.play m ms b c why → IsCut seen may_leave Left p k lines a c why
+  cut_behind : (stop : Bool) (Left : Play → Type 0) (ls ms rest lines : List Line) (live : Option ℕ) (a b c : Option (List ℕ)) (m : Kernel D g) (why : RunFault) → lines ≡ ls ++ (ms ++ rest) → (ran : HasRunLines stop None p k ls a b live m)
+      → IsCut Left ran.play m ms b c why → IsCut Left p k lines a c why
   cut_behind stop Left ls ms rest lines live a b c m why whole ran x = record {
     before = ls ++ x.before;
     rest = x.rest ++ rest;
@@ -184,20 +184,20 @@ module _ {D : Type 0} {g : Ghosts D} (seen : D → List ℕ) (may_leave : D → 
   }
 
   pub line_cut : (stop : Bool) (session : ℕ) (lines : List Line) (i : ℕ) (l : Line) (live : Option ℕ) (a b c : Option (List ℕ)) (m n : Kernel D g) (why : RunFault) → p.session ≡ session → i < length lines → l ≡ get_or lines i l
-      → HasRunLines seen may_leave stop None p k (take i lines) a b live m
-      → ((q : Play) → q.session ≡ session → IsBeside seen may_leave q live m → IsCutShort seen may_leave faults q m (l ∷ []) b c n why) → IsCutShort seen may_leave faults p k lines a c n why
+      → HasRunLines stop None p k (take i lines) a b live m
+      → ((q : Play) → q.session ≡ session → IsBeside q live m → IsCutShort q m (l ∷ []) b c n why) → IsCutShort p k lines a c n why
   line_cut stop session lines i l live a b c m n why own lt is ran cut =
       let x = cut ran.play (runs_session (p, k) (ran.play, m) (take i lines) ran.answers ran.ran ∙ own) ran.beside in
       let whole : lines ≡ take i lines ++ (l ∷ [] ++ drop (suc i) lines) =
       sym (take-append-drop i lines) ∙ ap (λ (t : List Line). take i lines ++ t) (drop-cons lines i l lt) ∙ ap (λ (y : Line). take i lines ++ y ∷ drop (suc i) lines) (sym is) in
-      cut_behind stop (λ q. IsLeftFor seen may_leave faults q n why) (take i lines) (l ∷ []) (drop (suc i) lines) lines live a b c m why whole ran x
+      cut_behind stop (λ q. IsLeftFor q n why) (take i lines) (l ∷ []) (drop (suc i) lines) lines live a b c m why whole ran x
 
   -- no line stops a run that is not to stop
-  pub unstopped : (why : Option Refusal) (lines : List Line) (a b : Option (List ℕ)) (live : Option ℕ) (n : Kernel D g) → HasRunLines seen may_leave false why p k lines a b live n → HasRunLines seen may_leave false None p k lines a b live n
+  pub unstopped : (why : Option Refusal) (lines : List Line) (a b : Option (List ℕ)) (live : Option ℕ) (n : Kernel D g) → HasRunLines false why p k lines a b live n → HasRunLines false None p k lines a b live n
   unstopped why lines a b live n ran = record { answers = ran.answers; play = ran.play; ran = ran.ran; ends = refl; outcome = ran.outcome; beside = ran.beside }
 
   -- what cuts a beginning of lines short cuts them short
-  pub front_cut : (Left : Play → Type 0) (front rest lines : List Line) (a b : Option (List ℕ)) (why : RunFault) → lines ≡ front ++ rest → IsCut seen may_leave Left p k front a b why → IsCut seen may_leave Left p k lines a b why
+  pub front_cut : (Left : Play → Type 0) (front rest lines : List Line) (a b : Option (List ℕ)) (why : RunFault) → lines ≡ front ++ rest → IsCut Left p k front a b why → IsCut Left p k lines a b why
   front_cut Left front rest lines a b why whole x = record {
     before = x.before;
     rest = x.rest ++ rest;
@@ -212,7 +212,7 @@ module _ {D : Type 0} {g : Ghosts D} (seen : D → List ℕ) (may_leave : D → 
 
   -- ---- the script's end
 
-  pub closed_run : (stop : Bool) (why : Option Refusal) (lines : List Line) (a b : Option (List ℕ)) (n : Kernel D g) → HasRunLines seen may_leave stop why p k lines a b None n → HasRun seen may_leave stop why p k lines a b n
+  pub closed_run : (stop : Bool) (why : Option Refusal) (lines : List Line) (a b : Option (List ℕ)) (n : Kernel D g) → HasRunLines stop why p k lines a b None n → HasRun stop why p k lines a b n
   closed_run stop why lines a b n ran = record {
     answers = ran.answers;
     play = ran.play;
@@ -225,8 +225,8 @@ module _ {D : Type 0} {g : Ghosts D} (seen : D → List ℕ) (may_leave : D → 
     beside = record { shown = ∥∥₁_map ran.beside.shown (λ (first, s, shows, (played, nobody)). (first, s, shows, (record { first_is = played.first_is; book = played.book; base = played.base }, nobody))); nothing = refl };
   }
 
-  pub ended_run : (stop : Bool) (why : Option Refusal) (lines : List Line) (t : ℕ) (a b c : Option (List ℕ)) (m n : Kernel D g) → HasRunLines seen may_leave stop why p k lines a b (Some t) m → ((q : Play) → IsBeside seen may_leave q (Some t) m → IsEnded seen may_leave q b c n)
-      → HasRun seen may_leave stop why p k lines a c n
+  pub ended_run : (stop : Bool) (why : Option Refusal) (lines : List Line) (t : ℕ) (a b c : Option (List ℕ)) (m n : Kernel D g) → HasRunLines stop why p k lines a b (Some t) m → ((q : Play) → IsBeside q (Some t) m → IsEnded q b c n)
+      → HasRun stop why p k lines a c n
   ended_run stop why lines t a b c m n ran ended =
       let e = ended ran.play ran.beside in
       record {
@@ -239,8 +239,8 @@ module _ {D : Type 0} {g : Ghosts D} (seen : D → List ℕ) (may_leave : D → 
         beside = e.beside;
       }
 
-  pub end_cut : (stop : Bool) (stopped : Option Refusal) (lines : List Line) (t : ℕ) (a b c : Option (List ℕ)) (m n : Kernel D g) (why : RunFault) → HasRunLines seen may_leave stop stopped p k lines a b (Some t) m
-      → ((q : Play) → IsBeside seen may_leave q (Some t) m → IsCutAtEnd seen may_leave faults q b c n why) → IsCutShort seen may_leave faults p k lines a c n why
+  pub end_cut : (stop : Bool) (stopped : Option Refusal) (lines : List Line) (t : ℕ) (a b c : Option (List ℕ)) (m n : Kernel D g) (why : RunFault) → HasRunLines stop stopped p k lines a b (Some t) m
+      → ((q : Play) → IsBeside q (Some t) m → IsCutAtEnd q b c n why) → IsCutShort p k lines a c n why
   end_cut stop stopped lines t a b c m n why ran cut =
       let e = cut ran.play ran.beside in
       record {
@@ -255,18 +255,18 @@ module _ {D : Type 0} {g : Ghosts D} (seen : D → List ℕ) (may_leave : D → 
         left = e.left;
       }
 
-  pub end_stopped : (y : Refusal) (was now : Option (List ℕ)) (n : Kernel D g) (why : RunFault) → IsGivenUp seen may_leave faults p n y → IsStopped was now y why → IsCutAtEnd seen may_leave faults p was now n why
+  pub end_stopped : (y : Refusal) (was now : Option (List ℕ)) (n : Kernel D g) (why : RunFault) → IsGivenUp p n y → IsStopped was now y why → IsCutAtEnd p was now n why
   end_stopped y was now n why given stopped = record { outcome = stopped_reported was now y why stopped; left = stopped_left n was now y why given stopped }
 
-  pub end_unwritten : (was now : Option (List ℕ)) (n : Kernel D g) → IsResting seen may_leave (put_off p) n → AppendsFront was now (answer_text Aborted ++ 10 ∷ []) → IsCutAtEnd seen may_leave faults p was now n fault.Output
+  pub end_unwritten : (was now : Option (List ℕ)) (n : Kernel D g) → IsResting (put_off p) n → AppendsFront was now (answer_text Aborted ++ 10 ∷ []) → IsCutAtEnd p was now n fault.Output
   end_unwritten was now n rests front = record { outcome = (Aborted ∷ [], aborted, subst (AppendsFront was now) (sym (text_one Aborted)) front); left = inl rests }
 
-  pub end_written : (was now : Option (List ℕ)) (n : Kernel D g) → IsResting seen may_leave (put_off p) n → Appends was now (answer_text Aborted ++ 10 ∷ []) → IsEnded seen may_leave p was now n
+  pub end_written : (was now : Option (List ℕ)) (n : Kernel D g) → IsResting (put_off p) n → Appends was now (answer_text Aborted ++ 10 ∷ []) → IsEnded p was now n
   end_written was now n rests text = record { outcome = subst (Appends was now) (sym (text_one Aborted)) text; beside = rests }
 
-  pub left_resting : (n : Kernel D g) → IsResting seen may_leave p n → IsResting seen may_leave (put_off p) n
+  pub left_resting : (n : Kernel D g) → IsResting p n → IsResting (put_off p) n
   left_resting n r = record { shown = ∥∥₁_map r.shown (λ (first, s, shows, (played, nobody)). (first, s, shows, (record { first_is = played.first_is; book = played.book; base = played.base }, nobody))); nothing = refl }
 
-  pub cut_ended : (lines : List Line) (a b : Option (List ℕ)) (n : Kernel D g) (why : RunFault) → IsCutShort seen may_leave faults p k lines a b n why → IsEndedFor faults n why
+  pub cut_ended : (lines : List Line) (a b : Option (List ℕ)) (n : Kernel D g) (why : RunFault) → IsCutShort p k lines a b n why → IsEndedFor n why
   cut_ended lines a b n fault.Output cut = tt
   cut_ended lines a b n (fault.Refused y) cut = cut.left.1

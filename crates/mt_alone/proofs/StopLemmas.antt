@@ -10,7 +10,8 @@ use Rattle.mt_script.specs.declared.answers.Answer.TheVariants.{Refused}
 use Rattle.mt_script.specs.declared.lines.Line.{Line}
 use Rattle.mt_script.specs.declared.reader.Script.{Script}
 use Rattle.mt_alone.specs.Runs.{last_line}
-use Rattle.mt_alone.specs.Sessions.{Close, Closes, lines_in}
+use Rattle.mt_alone.specs.Sessions.{Close, Closes}
+use Rattle.mt_script.specs.Scripts.{lines_in}
 use Rattle.mt_alone.specs.Stops.{Ends, GoesOn, IsStopAmong, IsStopIn, lines_to, scripts_to, stop_of}
 use Rattle.mt_alone.specs.declared.stops.Stop.{Stop}
 

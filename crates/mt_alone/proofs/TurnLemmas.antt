@@ -80,32 +80,32 @@ waits_in l before r is =
     let a = length-append (durable l) (in_flight l ++ waiting l) in
     let b = length-append (in_flight l) (waiting l) in omega (arith, some, a, b)
 
-module _ {D : Type 0} {g : Ghosts D} (seen : D → List ℕ) (may_leave : D → List ℕ → Type 0) (faults : D → ℕ) where
+module _ {D : Type 0} {g : Ghosts D} where
   -- a refusal is an answer, unless the device has failed
-  pub answered_refused : (p : Play) (u : Option (List Call)) (l : Line) (live : Option ℕ) (k n : Kernel D g) (why : Refusal) → p.under_way ≡ u → IsBeside seen may_leave p live n → IsLeft seen may_leave p n
-      → (why ≡ refusal.DeviceFailed → HasBroken faults n) → (why ≢ refusal.DeviceFailed → (fault_at k.relations k.counters u l ≡ Some why) ⊎ (IsWant u l why × IsDueTo seen may_leave k live l why))
-      → IsAnsweredOr seen may_leave faults p k live l (refused_as why live) n
+  pub answered_refused : (p : Play) (u : Option (List Call)) (l : Line) (live : Option ℕ) (k n : Kernel D g) (why : Refusal) → p.under_way ≡ u → IsBeside p live n → IsLeft p n
+      → (why ≡ refusal.DeviceFailed → HasBroken n) → (why ≢ refusal.DeviceFailed → (fault_at k.relations k.counters u l ≡ Some why) ⊎ (IsWant u l why × IsDueTo k live l why))
+      → IsAnsweredOr p k live l (refused_as why live) n
   answered_refused p u l live k n refusal.DeviceFailed under beside left broken wants = (left, λ other. (refl, broken refl))
   answered_refused p u l live k n why under beside left broken wants = (p, turn_refuses k.relations k.counters p u l _ under (wants (λ e. cc)), beside)
 
   -- memory alone is wanted without a test
-  due_of : (k : Kernel D g) (live : Option ℕ) (l : Line) (why : Refusal) → (why ≢ refusal.NoMemory → IsTested seen may_leave k live l why) → IsDueTo seen may_leave k live l why
+  due_of : (k : Kernel D g) (live : Option ℕ) (l : Line) (why : Refusal) → (why ≢ refusal.NoMemory → IsTested k live l why) → IsDueTo k live l why
   due_of k live l refusal.NoMemory tested = inl refl
   due_of k live l why tested = inr (tested (λ e. cc))
 
   -- ---- transports
 
-  pub left_of : (p : Play) (live : Option ℕ) (k : Kernel D g) → IsBeside seen may_leave p live k → IsLeft seen may_leave p k
+  pub left_of : (p : Play) (live : Option ℕ) (k : Kernel D g) → IsBeside p live k → IsLeft p k
   left_of p None k b = ∥∥₁_map b.shown (λ (first, s, shows, (played, nobody)). (first, s, shows, played))
   left_of p (Some t) k (calls, under, o) = ∥∥₁_map o.shown (λ (first, s, shows, (played, alone)). (first, s, shows, played))
 
-  pub opened_stays : (p : Play) (t : ℕ) (calls : List Call) (k n : Kernel D g) → IsOpened seen may_leave p t calls k → Stays seen may_leave k n → state_in n.core.live.members t ≡ state_in k.core.live.members t → IsOpened seen may_leave p t calls n
+  pub opened_stays : (p : Play) (t : ℕ) (calls : List Call) (k n : Kernel D g) → IsOpened p t calls k → Stays k n → state_in n.core.live.members t ≡ state_in k.core.live.members t → IsOpened p t calls n
   opened_stays p t calls k n o stays same = record {
     shown = ∥∥₁_map o.shown (λ (first, s, shows, plays). (first, s, stays first s shows, plays));
     state = same ∙ o.state;
   }
 
-  pub resting_stays : (p : Play) (k n : Kernel D g) → IsResting seen may_leave p k → Stays seen may_leave k n → IsResting seen may_leave p n
+  pub resting_stays : (p : Play) (k n : Kernel D g) → IsResting p k → Stays k n → IsResting p n
   resting_stays p k n r stays = record {
     shown = ∥∥₁_map r.shown (λ (first, s, shows, plays). (first, s, stays first s shows, plays));
     nothing = r.nothing;
@@ -113,24 +113,24 @@ module _ {D : Type 0} {g : Ghosts D} (seen : D → List ℕ) (may_leave : D → 
 
   -- ---- where one is open, nobody else is there
 
-  opened_nobody : (p : Play) (t : ℕ) (calls : List Call) (k : Kernel D g) → IsOpened seen may_leave p t calls k → NobodyCommits k
+  opened_nobody : (p : Play) (t : ℕ) (calls : List Call) (k : Kernel D g) → IsOpened p t calls k → NobodyCommits k
   opened_nobody p t calls k o u is = ∥∥₁_elim o.shown (hlevel props) (λ (first, s, shows, (played, alone)).
-      nobody_commits seen may_leave k first s t Open shows alone.others o.state (λ e. cc) u is)
+      nobody_commits k first s t Open shows alone.others o.state (λ e. cc) u is)
 
-  pub opened_idle : (p : Play) (t : ℕ) (calls : List Call) (k : Kernel D g) → IsOpened seen may_leave p t calls k → is_busy k.core t ≡ false
+  pub opened_idle : (p : Play) (t : ℕ) (calls : List Call) (k : Kernel D g) → IsOpened p t calls k → is_busy k.core t ≡ false
   opened_idle p t calls k o = ∥∥₁_elim o.shown (hlevel props) (λ (first, s, shows, (played, alone)).
-      idle_of seen may_leave k.relations k.counters k.core first s shows t o.state alone.idle)
+      idle_of g k.relations k.counters k.core first s shows t o.state alone.idle)
 
   -- an open transaction is refused only where the device has failed
   pub open_is : (k : Kernel D g) (t : ℕ) → state_in k.core.live.members t ≡ Some Open → open_cause (is_failed k) k.core t ≡ (if is_failed k then Some refusal.DeviceFailed else None)
   open_is k t state = ap (λ (o : Option TxnState). if is_failed k then Some refusal.DeviceFailed else unless (is_open o) refusal.Stranger) state
 
-  open_failed : (k n : Kernel D g) (t : ℕ) (why : Refusal) (c : Option Refusal) → (c ≡ (if is_failed k then Some refusal.DeviceFailed else None)) → ((y : Refusal) → c ≡ Some y → n ≡ k) → (why ≢ refusal.NoMemory → c ≡ Some why) → Fails faults n why
-  open_failed k n t why c is stands cause = fails_for faults k n why c is stands (λ other. inl (cause other))
+  open_failed : (k n : Kernel D g) (t : ℕ) (why : Refusal) (c : Option Refusal) → (c ≡ (if is_failed k then Some refusal.DeviceFailed else None)) → ((y : Refusal) → c ≡ Some y → n ≡ k) → (why ≢ refusal.NoMemory → c ≡ Some why) → Fails n why
+  open_failed k n t why c is stands cause = fails_for k n why c is stands (λ other. inl (cause other))
 
   -- ---- a begin
 
-  resting_few : (p : Play) (k : Kernel D g) → IsResting seen may_leave p k → length k.core.live.members ≡ 0
+  resting_few : (p : Play) (k : Kernel D g) → IsResting p k → length k.core.live.members ≡ 0
   resting_few p k r = ∥∥₁_elim r.shown (hlevel props) (λ (first, s, shows, (played, nobody)). ∥∥₁_elim shows (hlevel props) (λ (origin, base, is, x).
       no_members k.core.live.members (λ u. no_member (member_of k.core.live.members u) (ap (λ (z : State). z.sessions u) (sym x.state) ∙ nobody u))))
 
@@ -138,16 +138,16 @@ module _ {D : Type 0} {g : Ghosts D} (seen : D → List ℕ) (may_leave : D → 
   begin_wants k refusal.NoMemory none other cause = tt
   begin_wants k why none other cause = begin_want (is_failed k) (nat_le 1000000 (length k.core.book.items + length k.core.live.members) || nat_le (2 ^ 40) k.core.live.begun) (nat_lt (log_kept k.core + 128) _) (length k.core.live.members) _ none other (cause (λ e. cc))
 
-  pub begin_refused : (p : Play) (k n : Kernel D g) (why : Refusal) → IsResting seen may_leave p k → n.core ≡ k.core → SameSchema k n → (why ≡ refusal.DeviceFailed → is_failed n ≡ true) → (why ≢ refusal.NoMemory → begin_cause (is_failed k) k.core ≡ Some why)
-      → IsAnsweredOr seen may_leave faults p k None line.Begin (refused_as why None) n
+  pub begin_refused : (p : Play) (k n : Kernel D g) (why : Refusal) → IsResting p k → n.core ≡ k.core → SameSchema k n → (why ≡ refusal.DeviceFailed → is_failed n ≡ true) → (why ≢ refusal.NoMemory → begin_cause (is_failed k) k.core ≡ Some why)
+      → IsAnsweredOr p k None line.Begin (refused_as why None) n
   begin_refused p k n why r same schema failed cause =
       let none = resting_few p k r in
-      let now = resting_stays p k n r (parts_stay seen may_leave k n same schema) in
+      let now = resting_stays p k n r (parts_stay k n same schema) in
       answered_refused p None line.Begin None k n why r.nothing now (left_of p None n now) (λ is. inl (failed is))
       (λ other. inr (begin_wants k why none other cause, due_of k None line.Begin why cause))
 
-  pub begin_done : (p : Play) (k n : Kernel D g) (session txn : ℕ) → p.session ≡ session → IsResting seen may_leave p k → txn ≡ k.core.live.begun + 1 → ((first : Base) (s : State) → Shows seen may_leave first s k → Shows seen may_leave first (begun s session) n)
-      → SetsState k.core n.core txn (Some Open) → IsAnsweredOr seen may_leave faults p k None line.Begin (Ok (Begun, Some txn)) n
+  pub begin_done : (p : Play) (k n : Kernel D g) (session txn : ℕ) → p.session ≡ session → IsResting p k → txn ≡ k.core.live.begun + 1 → ((first : Base) (s : State) → Shows first s k → Shows first (begun s session) n)
+      → SetsState k.core n.core txn (Some Open) → IsAnsweredOr p k None line.Begin (Ok (Begun, Some txn)) n
   begin_done p k n session txn own r number did opened = (
     record p { under_way = Some [] },
     turn_acts k.relations k.counters p None line.Begin r.nothing refl,
@@ -155,7 +155,7 @@ module _ {D : Type 0} {g : Ghosts D} (seen : D → List ℕ) (may_leave : D → 
       [],
       refl,
       record {
-        shown = ∥∥₁_elim r.shown (hlevel props) (λ (first, s, shows, (played, nobody)). ∥∥₁_elim (kept_of seen may_leave k.relations k.counters k.core first s shows) (hlevel props) (λ kept.
+        shown = ∥∥₁_elim r.shown (hlevel props) (λ (first, s, shows, (played, nobody)). ∥∥₁_elim (kept_of g k.relations k.counters k.core first s shows) (hlevel props) (λ kept.
             ∣ (
               first,
               begun s session,
@@ -170,21 +170,21 @@ module _ {D : Type 0} {g : Ghosts D} (seen : D → List ℕ) (may_leave : D → 
     ),
   )
     where
-      next_is : (first : Base) (s : State) → Shows seen may_leave first s k → s.next ≡ txn
+      next_is : (first : Base) (s : State) → Shows first s k → s.next ≡ txn
       next_is first s shows = ∥∥₁_elim shows (hlevel props) (λ (origin, base, is, x). ap (λ (z : State). z.next) x.state ∙ sym number)
 
   -- ---- a commit
 
-  none_of : (p : Play) (k : Kernel D g) (t : ℕ) (calls : List Call) → IsOpened seen may_leave p t calls k → k.core.commits.items ≡ []
-  none_of p k t calls o = ∥∥₁_elim o.shown (hlevel props) (λ (first, s, shows, plays). no_commits seen may_leave k.relations k.counters k.core (well_of seen may_leave k first s shows) (opened_nobody p t calls k o))
+  none_of : (p : Play) (k : Kernel D g) (t : ℕ) (calls : List Call) → IsOpened p t calls k → k.core.commits.items ≡ []
+  none_of p k t calls o = ∥∥₁_elim o.shown (hlevel props) (λ (first, s, shows, plays). no_commits g k.relations k.counters k.core (well_of k first s shows) (opened_nobody p t calls k o))
 
-  book_of : (p : Play) (k : Kernel D g) (t : ℕ) (calls : List Call) → IsOpened seen may_leave p t calls k → length k.core.book.items ≡ length p.book
+  book_of : (p : Play) (k : Kernel D g) (t : ℕ) (calls : List Call) → IsOpened p t calls k → length k.core.book.items ≡ length p.book
   book_of p k t calls o = ∥∥₁_elim o.shown (hlevel props) (λ (first, s, shows, (played, alone)). ∥∥₁_elim shows (hlevel props) (λ (origin, base, is, x).
       ap (λ (z : State). length z.book) (sym x.state) ∙ ap (λ (cs : _). length cs) played.book))
 
-  pub commit_ends : (p : Play) (k n : Kernel D g) (t : ℕ) (calls : List Call) → IsOpened seen may_leave p t calls k → Stays seen may_leave k n
+  pub commit_ends : (p : Play) (k n : Kernel D g) (t : ℕ) (calls : List Call) → IsOpened p t calls k → Stays k n
       → ((c : Commit) × (c.txn ≡ t) × (c.place ≡ length (appended n.core.operations.store.log)) × (n.core.commits.items ≡ k.core.commits.items ++ c ∷ []))
-      → (r : Record) → waiting n.core.operations.store.log ≡ waiting k.core.operations.store.log ++ r ∷ [] → IsEnding seen may_leave p t calls 8 n
+      → (r : Record) → waiting n.core.operations.store.log ≡ waiting k.core.operations.store.log ++ r ∷ [] → IsEnding p t calls 8 n
   commit_ends p k n t calls o stays (c, own, place, queue) r waits = record {
     shown = ∥∥₁_map o.shown (λ (first, s, shows, plays). (first, s, stays first s shows, plays));
     commit = c;
@@ -194,13 +194,13 @@ module _ {D : Type 0} {g : Ghosts D} (seen : D → List ℕ) (may_leave : D → 
     due = due_start c.place n.core.operations.store.log (let at = place in omega (arith, at));
   }
 
-  pub commit_done : (p : Play) (k n : Kernel D g) (t place : ℕ) (calls : List Call) → p.under_way ≡ Some calls → IsOpened seen may_leave p t calls k → place ≡ length k.core.book.items + length k.core.commits.items + 1 → IsResting seen may_leave (committed p calls) n
-      → IsAnsweredOr seen may_leave faults p k (Some t) line.Commit (Ok (Committed place, None)) n
+  pub commit_done : (p : Play) (k n : Kernel D g) (t place : ℕ) (calls : List Call) → p.under_way ≡ Some calls → IsOpened p t calls k → place ≡ length k.core.book.items + length k.core.commits.items + 1 → IsResting (committed p calls) n
+      → IsAnsweredOr p k (Some t) line.Commit (Ok (Committed place, None)) n
   commit_done p k n t place calls under o is ended =
       let many : length k.core.commits.items ≡ 0 = ap (λ (cs : List Commit). length cs) (none_of p k t calls o) in
       let book = book_of p k t calls o in
       let at : length p.book + 1 ≡ place = omega (arith, is, many, book) in
-      (committed p calls, subst (λ (i : ℕ). IsTurn k.relations k.counters (IsDueTo seen may_leave k (Some t)) p line.Commit (Committed i) (committed p calls)) at (turn_acts k.relations k.counters p (Some calls) line.Commit under refl), ended)
+      (committed p calls, subst (λ (i : ℕ). IsTurn k.relations k.counters (IsDueTo k (Some t)) p line.Commit (Committed i) (committed p calls)) at (turn_acts k.relations k.counters p (Some calls) line.Commit under refl), ended)
 
   commit_cause_is : (k : Kernel D g) (t : ℕ) → state_in k.core.live.members t ≡ Some Open → is_busy k.core t ≡ false → commit_cause (is_failed k) k.core t ≡ (if is_failed k then Some refusal.DeviceFailed else None)
   commit_cause_is k t state idle = ap₂ (λ (o : Option TxnState) (b : Bool). first_of (if is_failed k then Some refusal.DeviceFailed else unless (is_open o) refusal.Stranger) (if b then Some refusal.Busy else None)) state idle ∙ by (is_failed k)
@@ -209,12 +209,12 @@ module _ {D : Type 0} {g : Ghosts D} (seen : D → List ℕ) (may_leave : D → 
       by true = refl
       by false = refl
 
-  failing_want : (n : Kernel D g) (why : Refusal) → Fails faults n why → why ≢ refusal.DeviceFailed → why ≡ refusal.NoMemory
+  failing_want : (n : Kernel D g) (why : Refusal) → Fails n why → why ≢ refusal.DeviceFailed → why ≡ refusal.NoMemory
   failing_want n refusal.NoMemory fails other = refl
   failing_want n why fails other = absurd (other (fails (λ e. cc)).0)
 
-  pub commit_refused : (p : Play) (k n : Kernel D g) (t : ℕ) (calls : List Call) (why : Refusal) → p.under_way ≡ Some calls → IsOpened seen may_leave p t calls k → Stays seen may_leave k n → SameStates k.core n.core
-      → (why ≢ refusal.NoMemory → commit_cause (is_failed k) k.core t ≡ Some why) → ((y : Refusal) → commit_cause (is_failed k) k.core t ≡ Some y → n ≡ k) → IsAnsweredOr seen may_leave faults p k (Some t) line.Commit (refused_as why (Some t)) n
+  pub commit_refused : (p : Play) (k n : Kernel D g) (t : ℕ) (calls : List Call) (why : Refusal) → p.under_way ≡ Some calls → IsOpened p t calls k → Stays k n → SameStates k.core n.core
+      → (why ≢ refusal.NoMemory → commit_cause (is_failed k) k.core t ≡ Some why) → ((y : Refusal) → commit_cause (is_failed k) k.core t ≡ Some y → n ≡ k) → IsAnsweredOr p k (Some t) line.Commit (refused_as why (Some t)) n
   commit_refused p k n t calls why under o stays states cause unmoved =
       let now = opened_stays p t calls k n o stays (states t) in
       let fails = open_failed k n t why (commit_cause (is_failed k) k.core t) (commit_cause_is k t o.state (opened_idle p t calls k o)) unmoved cause in
@@ -223,22 +223,22 @@ module _ {D : Type 0} {g : Ghosts D} (seen : D → List ℕ) (may_leave : D → 
 
   -- ---- an abort
 
-  pub abort_goes : (p : Play) (k n : Kernel D g) (t : ℕ) (calls : List Call) → IsOpened seen may_leave p t calls k → Stays seen may_leave k n → SetsState k.core n.core t (Some Aborting) → IsGoing seen may_leave p t n
+  pub abort_goes : (p : Play) (k n : Kernel D g) (t : ℕ) (calls : List Call) → IsOpened p t calls k → Stays k n → SetsState k.core n.core t (Some Aborting) → IsGoing p t n
   abort_goes p k n t calls o stays sets = record {
     shown = ∥∥₁_map o.shown (λ (first, s, shows, (played, alone)). (first, s, stays first s shows, record { played = played; others = alone.others }));
     state = sets t ∙ ap (λ (b : Bool). cond b (Some Aborting) (state_in k.core.live.members t)) (eq_self t);
   }
 
-  pub abort_few : (p : Play) (k n : Kernel D g) (t : ℕ) (calls : List Call) → IsOpened seen may_leave p t calls k → Stays seen may_leave k n → SetsState k.core n.core t (Some Aborting) → SameRunning k.core n.core → undo_steps n.core t ≤ 5054310
+  pub abort_few : (p : Play) (k n : Kernel D g) (t : ℕ) (calls : List Call) → IsOpened p t calls k → Stays k n → SetsState k.core n.core t (Some Aborting) → SameRunning k.core n.core → undo_steps n.core t ≤ 5054310
   abort_few p k n t calls o stays sets running = ∥∥₁_elim o.shown (hlevel props) (λ (first, s, shows, (played, alone)).
       let idle : is_busy n.core t ≡ false = ap (λ (rs : List OpScope). list_any (λ (r : OpScope). r.txn == t) rs) running ∙ opened_idle p t calls k o in
       let state : state_in n.core.live.members t ≡ Some Aborting = sets t ∙ ap (λ (b : Bool). cond b (Some Aborting) (state_in k.core.live.members t)) (eq_self t) in
-      undo_few seen may_leave n first s t (stays first s shows) (nobody_commits seen may_leave n first s t Aborting (stays first s shows) alone.others state (λ e. cc)) idle
-      (λ u other lives. nobody_there seen may_leave n first s (stays first s shows) u (alone.others u other) lives))
+      undo_few n first s t (stays first s shows) (nobody_commits n first s t Aborting (stays first s shows) alone.others state (λ e. cc)) idle
+      (λ u other lives. nobody_there n first s (stays first s shows) u (alone.others u other) lives))
 
-  pub abort_refused : (p : Play) (k n : Kernel D g) (t : ℕ) (calls : List Call) (why : Refusal) → IsOpened seen may_leave p t calls k → n ≡ k → open_cause (is_failed k) k.core t ≡ Some why → IsGivenUp seen may_leave faults p n why
+  pub abort_refused : (p : Play) (k n : Kernel D g) (t : ℕ) (calls : List Call) (why : Refusal) → IsOpened p t calls k → n ≡ k → open_cause (is_failed k) k.core t ≡ Some why → IsGivenUp p n why
   abort_refused p k n t calls why o same cause = (
-    subst (λ (x : Kernel D g). IsLeft seen may_leave p x) (sym same) (∥∥₁_map o.shown (λ (first, s, shows, (played, alone)). (first, s, shows, played))),
+    subst (λ (x : Kernel D g). IsLeft p x) (sym same) (∥∥₁_map o.shown (λ (first, s, shows, (played, alone)). (first, s, shows, played))),
     open_failed k n t why (open_cause (is_failed k) k.core t) (open_is k t o.state) (λ y is. same) (λ other. cause),
   )
 

@@ -73,8 +73,8 @@ nothing_runs ms t (r ∷ rs) owned alone none = absurd (⊎_elim
     let wrong : true ≡ false = sym some ∙ none in cc)
     (λ (other : r.txn ≢ t). alone r.txn other (at_work (member_of ms r.txn) (owned 0 r (omega arith)))) (cases_eq r.txn t))
 
-module _ {D : Type 0} {g : Ghosts D} (seen : D → List ℕ) (may_leave : D → List ℕ → Type 0) where
-  pub undo_few : (k : Kernel D g) (first : Base) (s : State) (t : ℕ) → Shows seen may_leave first s k → NobodyCommits k → is_busy k.core t ≡ false → ((u : ℕ) → u ≢ t → is_some (member_of k.core.live.members u) ≡ true → ⊥)
+module _ {D : Type 0} {g : Ghosts D} where
+  pub undo_few : (k : Kernel D g) (first : Base) (s : State) (t : ℕ) → Shows first s k → NobodyCommits k → is_busy k.core t ≡ false → ((u : ℕ) → u ≢ t → is_some (member_of k.core.live.members u) ≡ true → ⊥)
       → undo_steps k.core t ≤ 5054310
   undo_few k first s t shows nobody idle alone = ∥∥₁_elim shows (hlevel props) (λ (origin, base, is, x).
       let fit = x.consistent.fit in
@@ -83,11 +83,11 @@ module _ {D : Type 0} {g : Ghosts D} (seen : D → List ℕ) (may_leave : D → 
       let few = effects_few (pages k.core.operations.store.pool) t k.core.live.standing fit.right.kept.few in
       let taken : sum_by taken_bytes k.core.running.items ≡ 0 = ap (λ (rs : List OpScope). sum_by taken_bytes rs) none in
       let kept : sum_by kept_bytes k.core.running.items ≡ 0 = ap (λ (rs : List OpScope). sum_by kept_bytes rs) none in
-      let quiet : length k.core.commits.items ≡ 0 = ap (λ (cs : List Commit). length cs) (no_commits seen may_leave k.relations k.counters k.core (well_of seen may_leave k first s shows) nobody) in
+      let quiet : length k.core.commits.items ≡ 0 = ap (λ (cs : List Commit). length cs) (no_commits g k.relations k.counters k.core (well_of k first s shows) nobody) in
       let reserves = fit.reserves in
       let log = fit.log in
       let small = area_small k.core.operations.store.log in
       omega (arith, steps, few, taken, kept, quiet, reserves, log, small))
 
-  pub pages_few : (k : Kernel D g) (first : Base) (s : State) → Shows seen may_leave first s k → pages k.core.operations.store.pool ≤ 4000
+  pub pages_few : (k : Kernel D g) (first : Base) (s : State) → Shows first s k → pages k.core.operations.store.pool ≤ 4000
   pages_few k first s shows = ∥∥₁_elim shows (hlevel props) (λ (origin, base, is, x). x.consistent.fit.right.kept.few)

@@ -12,11 +12,7 @@ use Rattle.mt_model.specs.History.{Call, run, after}
 use Rattle.mt_model.specs.Model.{Base, reply_of}
 use Rattle.mt_model.specs.declared.operations.Op.{Op}
 use Rattle.mt_model.specs.declared.operations.Reply.{Reply}
-use Rattle.mt_core.specs.Consistent.{SameCommits, SameRunning, SameStates, SameUncommitted}
-use Rattle.mt_core.specs.Runs.{state_in}
-use Rattle.mt_core.specs.Work.{LeavesUndo, steps_in, undo_steps}
 use Rattle.mt_core.specs.declared.parts.Commit.{Commit}
-use Rattle.mt_txn.specs.Causes.{begin_cause, call_cause}
 use Rattle.mt_txn.specs.Due.{IsDueIn}
 use Rattle.mt_txn.specs.Events.{HasForced, IsAnsweredBy, IsForcedBy}
 use Rattle.mt_txn.specs.Shown.{Shows, Stays, is_failed, kernel_device, kernel_log}
@@ -26,6 +22,7 @@ use Rattle.mt_txn.specs.declared.answers.Stepped.TheVariants as step
 use Rattle.mt_txn.specs.declared.answers.AbortStepped.{AbortStepped}
 use Rattle.mt_txn.specs.declared.answers.AbortStepped.TheVariants as abort
 use Rattle.mt_txn.specs.declared.kernel.Kernel.{Kernel}
+use Rattle.mt_txn.specs.Words.{kernel_commits, kernel_state, kernel_steps, kernel_undo_steps, kernel_begin_cause, kernel_call_cause, StatesStay, UncommittedStay, CommitsStay, RunningStays, UndoStays}
 use Rattle.mt_script.specs.declared.lines.Line.{Line}
 use Rattle.mt_script.specs.declared.lines.Line.TheVariants as line
 use Rattle.mt_alone.specs.Plays.{Play, committed, put_off}
@@ -47,12 +44,12 @@ pub record IsUndone (first : Base) (p : Play) (t : ℕ) (s : State) : Type 0 whe
 
 -- no transaction commits
 abbrev pub NobodyCommits : {D : Type 0} {g : Ghosts D} → Kernel D g → Type 0
-NobodyCommits k = (t : ℕ) → state_in k.core.live.members t ≢ Some Committing
+NobodyCommits k = (t : ℕ) → kernel_state k t ≢ Some Committing
 
-module _ {D : Type 0} {g : Ghosts D} (seen : D → List ℕ) (may_leave : D → List ℕ → Type 0) where
+module _ {D : Type 0} {g : Ghosts D} where
   -- the kernel shows a state of which this holds
   abbrev pub ShowsOne : (Base → State → Type 0) → Kernel D g → Type 0
-  ShowsOne Holds k = ∥ ((first : Base) × (s : State) × Shows seen may_leave first s k × Holds first s) ∥₁
+  ShowsOne Holds k = ∥ ((first : Base) × (s : State) × Shows first s k × Holds first s) ∥₁
 
   -- what is committed is the model's, whatever else there is
   abbrev pub IsLeft : Play → Kernel D g → Type 0
@@ -65,7 +62,7 @@ module _ {D : Type 0} {g : Ghosts D} (seen : D → List ℕ) (may_leave : D → 
 
   pub record IsOpened (p : Play) (t : ℕ) (calls : List Call) (k : Kernel D g) : Type 0 where
     pub shown : ShowsOne (λ first s. IsPlaying first p t calls s) k
-    pub state : state_in k.core.live.members t ≡ Some Open
+    pub state : kernel_state k t ≡ Some Open
 
   abbrev pub IsBeside : Play → Option ℕ → Kernel D g → Type 0
   IsBeside p None k = IsResting p k
@@ -75,14 +72,15 @@ module _ {D : Type 0} {g : Ghosts D} (seen : D → List ℕ) (may_leave : D → 
 
   -- an operation of it is under way
   pub record IsCalling (p : Play) (t : ℕ) (calls : List Call) (op : Op) (k : Kernel D g) : Type 0 where
-    pub shown : ∥ ((first : Base) × (s : State) × IsKept first s × IsPlaying first p t calls s × Shows seen may_leave first (called s t op) k) ∥₁
-    pub state : state_in k.core.live.members t ≡ Some Open
+    pub shown : ∥ ((first : Base) × (s : State) × IsKept first s × IsPlaying first p t calls s
+        × Shows first (called s t op) k) ∥₁
+    pub state : kernel_state k t ≡ Some Open
 
   -- its commit is begun, and not durable
   pub record IsEnding (p : Play) (t : ℕ) (calls : List Call) (steps : ℕ) (k : Kernel D g) : Type 0 where
     pub shown : ShowsOne (λ first s. IsPlaying first p t calls s) k
     pub commit : Commit
-    pub queue : k.core.commits.items ≡ commit ∷ []
+    pub queue : kernel_commits k ≡ commit ∷ []
     pub own : commit.txn ≡ t
     pub waits : length (durable (kernel_log k)) < commit.place
     pub due : IsDueIn steps commit.place (kernel_log k)
@@ -90,16 +88,16 @@ module _ {D : Type 0} {g : Ghosts D} (seen : D → List ℕ) (may_leave : D → 
   -- it is being undone
   pub record IsGoing (p : Play) (t : ℕ) (k : Kernel D g) : Type 0 where
     pub shown : ShowsOne (λ first s. IsUndone first p t s) k
-    pub state : state_in k.core.live.members t ≡ Some Aborting
+    pub state : kernel_state k t ≡ Some Aborting
 
   -- ---- refusals
 
   -- the tests by which it refuses a begin, and an operation: those of the call, and else what locks, escrow, pages
   -- and log say
   abbrev pub IsTested : Kernel D g → Option ℕ → Line → Refusal → Type 0
-  IsTested k None line.Begin why = begin_cause (is_failed k) k.core ≡ Some why
+  IsTested k None line.Begin why = kernel_begin_cause k ≡ Some why
   IsTested k (Some t) (line.Call op) why =
-      (call_cause k.relations k.counters (is_failed k) k.core t op ≡ Some why) ⊎ ((call_cause k.relations k.counters (is_failed k) k.core t op ≡ None) × IsAnsweredBy seen may_leave k t op (Err why))
+      (kernel_call_cause k t op ≡ Some why) ⊎ ((kernel_call_cause k t op ≡ None) × IsAnsweredBy k t op (Err why))
   IsTested k live line why = ⊥
 
   -- A want of this kernel: memory, or what its tests say.
@@ -108,86 +106,92 @@ module _ {D : Type 0} {g : Ghosts D} (seen : D → List ℕ) (may_leave : D → 
 
   -- only frames were flushed, and the log was forced
   pub record Eases (k n : Kernel D g) : Type 0 where
-    pub state : Stays seen may_leave k n
-    pub states : SameStates k.core n.core
-    pub running : SameRunning k.core n.core
-    pub undo : LeavesUndo k.core n.core
+    pub state : Stays k n
+    pub states : StatesStay k n
+    pub running : RunningStays k n
+    pub undo : UndoStays k n
 
-module _ {D : Type 0} {g : Ghosts D} (faults : D → ℕ) where
+module _ {D : Type 0} {g : Ghosts D} where
   -- a call of it was refused with 2, a force has failed, or a call of the device has
   abbrev pub HasBroken : Kernel D g → Type 0
-  HasBroken k = (is_failed k ≡ true) ⊎ (0 < faults (kernel_device k))
+  HasBroken k = (is_failed k ≡ true) ⊎ (0 < g.faults (kernel_device k))
 
   -- it is given up for want of memory, or since the device has failed
   abbrev pub Fails : Kernel D g → Refusal → Type 0
   Fails n why = why ≢ refusal.NoMemory → (why ≡ refusal.DeviceFailed) × HasBroken n
 
-module _ {D : Type 0} {g : Ghosts D} (seen : D → List ℕ) (may_leave : D → List ℕ → Type 0) (faults : D → ℕ) where
+module _ {D : Type 0} {g : Ghosts D} where
   -- ---- what the steps of a line do
 
   -- a force step
   pub record IsForcing (k : Kernel D g) (result : Result KernelForced Refusal) (n : Kernel D g) : Type 0 where
-    pub forced : (first : Base) (s : State) → Shows seen may_leave first s k → HasForced seen may_leave first s result n
-    pub log : IfOk result (λ forced. IsForcedBy (kernel_log k) k.core.commits.items forced (kernel_log n) n.core.commits.items)
+    pub forced : (first : Base) (s : State) → Shows first s k → HasForced first s result n
+    pub log : IfOk result (λ forced. IsForcedBy (kernel_log k) (kernel_commits k) forced (kernel_log n)
+        (kernel_commits n))
     pub appended : appended (kernel_log n) ≡ appended (kernel_log k)
-    pub running : SameRunning k.core n.core
-    pub states : SameUncommitted k.core n.core
-    pub undo : LeavesUndo k.core n.core
-    pub err : OnErr result (SameStates k.core n.core × SameCommits k.core n.core)
-    pub cause : IfErr result (Fails faults n)
+    pub running : RunningStays k n
+    pub states : UncommittedStay k n
+    pub undo : UndoStays k n
+    pub err : OnErr result (StatesStay k n × CommitsStay k n)
+    pub cause : IfErr result (Fails n)
 
   -- it was given up, and what is committed is as it was
   abbrev pub IsGivenUp : Play → Kernel D g → Refusal → Type 0
-  IsGivenUp p n why = IsLeft seen may_leave p n × Fails faults n why
+  IsGivenUp p n why = IsLeft p n × Fails n why
 
   -- a step of the operation of one that is alone: it goes on, nearer to its end, or ends with the model's reply
   abbrev pub IsMoved : Play → ℕ → List Call → Op → Kernel D g → Result Stepped Refusal → Kernel D g → Type 0
-  IsMoved p t calls op k (Ok (step.Replied reply)) n = (reply ≡ reply_of (run p.base calls) op) × IsOpened seen may_leave p t (calls ++ (op, reply_of (run p.base calls) op) ∷ []) n
-  IsMoved p t calls op k (Ok step.Went) n = IsCalling seen may_leave p t calls op n × (steps_in n.core.running.items t < steps_in k.core.running.items t)
+  IsMoved p t calls op k (Ok (step.Replied reply)) n =
+      (reply ≡ reply_of (run p.base calls) op) × IsOpened p t (calls ++ (op, reply_of (run p.base calls) op) ∷ []) n
+  IsMoved p t calls op k (Ok step.Went) n = IsCalling p t calls op n × (kernel_steps n t < kernel_steps k t)
   IsMoved p t calls op k (Ok (step.Wait other)) n = ⊥
   IsMoved p t calls op k (Ok step.Again) n = ⊥
   IsMoved p t calls op k (Ok step.Flush) n = ⊥
   IsMoved p t calls op k (Err why) n = IsGivenUp p n why
 
   abbrev pub HasMoved : Kernel D g → ℕ → Result Stepped Refusal → Kernel D g → Type 0
-  HasMoved k t result n = (p : Play) (calls : List Call) (op : Op) → IsCalling seen may_leave p t calls op k → IsMoved p t calls op k result n
+  HasMoved k t result n =
+      (p : Play) (calls : List Call) (op : Op) → IsCalling p t calls op k → IsMoved p t calls op k result n
 
   -- all of them
   abbrev pub IsReplied : Play → ℕ → List Call → Op → Result Reply Refusal → Kernel D g → Type 0
-  IsReplied p t calls op (Ok reply) n = (reply ≡ reply_of (run p.base calls) op) × IsOpened seen may_leave p t (calls ++ (op, reply_of (run p.base calls) op) ∷ []) n
+  IsReplied p t calls op (Ok reply) n =
+      (reply ≡ reply_of (run p.base calls) op) × IsOpened p t (calls ++ (op, reply_of (run p.base calls) op) ∷ []) n
   IsReplied p t calls op (Err why) n = IsGivenUp p n why
 
   abbrev pub HasReplied : Kernel D g → ℕ → Result Reply Refusal → Kernel D g → Type 0
-  HasReplied k t result n = (p : Play) (calls : List Call) (op : Op) → IsCalling seen may_leave p t calls op k → steps_in k.core.running.items t ≤ 2 * MAX_PAGES + 9 → IsReplied p t calls op result n
+  HasReplied k t result n = (p : Play) (calls : List Call) (op : Op) → IsCalling p t calls op k
+      → kernel_steps k t ≤ 2 * MAX_PAGES + 9 → IsReplied p t calls op result n
 
   -- the force steps of its commit, which is durable then
   abbrev pub IsDurable : {U : Type 0} → Play → List Call → Result U Refusal → Kernel D g → Type 0
-  IsDurable p calls (Ok done) n = IsResting seen may_leave (committed p calls) n
+  IsDurable p calls (Ok done) n = IsResting (committed p calls) n
   IsDurable p calls (Err why) n = IsGivenUp p n why
 
   abbrev pub HasCommitted : {U : Type 0} → Kernel D g → ℕ → Result U Refusal → Kernel D g → Type 0
-  HasCommitted k t result n = (p : Play) (calls : List Call) → IsEnding seen may_leave p t calls 8 k → IsDurable p calls result n
+  HasCommitted k t result n = (p : Play) (calls : List Call) → IsEnding p t calls 8 k → IsDurable p calls result n
 
   -- a step of its abort
   abbrev pub IsBacked : Play → ℕ → Kernel D g → Result AbortStepped Refusal → Kernel D g → Type 0
-  IsBacked p t k (Ok abort.More) n = IsGoing seen may_leave p t n × (undo_steps n.core t < undo_steps k.core t)
+  IsBacked p t k (Ok abort.More) n = IsGoing p t n × (kernel_undo_steps n t < kernel_undo_steps k t)
   IsBacked p t k (Ok (abort.Wait other)) n = ⊥
   IsBacked p t k (Ok abort.Again) n = ⊥
   IsBacked p t k (Ok abort.Flush) n = ⊥
-  IsBacked p t k (Ok abort.Ended) n = IsResting seen may_leave (put_off p) n
+  IsBacked p t k (Ok abort.Ended) n = IsResting (put_off p) n
   IsBacked p t k (Err why) n = IsGivenUp p n why
 
   abbrev pub HasBacked : Kernel D g → ℕ → Result AbortStepped Refusal → Kernel D g → Type 0
-  HasBacked k t result n = (p : Play) → IsGoing seen may_leave p t k → IsBacked p t k result n
+  HasBacked k t result n = (p : Play) → IsGoing p t k → IsBacked p t k result n
 
   -- the whole of it
   abbrev pub IsTakenBack : {U : Type 0} → Play → Result U Refusal → Kernel D g → Type 0
-  IsTakenBack p (Ok done) n = IsResting seen may_leave (put_off p) n
+  IsTakenBack p (Ok done) n = IsResting (put_off p) n
   IsTakenBack p (Err why) n = IsGivenUp p n why
 
   abbrev pub HasUndone : {U : Type 0} → Kernel D g → ℕ → Result U Refusal → Kernel D g → Type 0
-  HasUndone k t result n = (p : Play) → IsGoing seen may_leave p t k → undo_steps k.core t ≤ 631 * (2 * MAX_PAGES + 10) → IsTakenBack p result n
+  HasUndone k t result n =
+      (p : Play) → IsGoing p t k → kernel_undo_steps k t ≤ 631 * (2 * MAX_PAGES + 10) → IsTakenBack p result n
 
   -- the abort of one that is open
   abbrev pub HasAborted : {U : Type 0} → Kernel D g → ℕ → Result U Refusal → Kernel D g → Type 0
-  HasAborted k t result n = (p : Play) (calls : List Call) → IsOpened seen may_leave p t calls k → IsTakenBack p result n
+  HasAborted k t result n = (p : Play) (calls : List Call) → IsOpened p t calls k → IsTakenBack p result n

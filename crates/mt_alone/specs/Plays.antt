@@ -101,13 +101,17 @@ IsWant _ _ why = ⊥
 
 -- A line is answered as the model does. Or it is refused, and nothing comes of it: for its fault, or for a want that
 -- is due.
-pub data IsTurn (relations counters : ℕ) (IsDue : Line → Refusal → Type 0) (p : Play) (line : Line) : Answer → Play → Type 0 where
-  acts : fault_at relations counters p.under_way line ≡ None → IsTurn relations counters IsDue p line (answer_at p p.under_way line) (after_at p p.under_way line)
-  refuses : (why : Refusal) → (fault_at relations counters p.under_way line ≡ Some why) ⊎ (IsWant p.under_way line why × IsDue line why)
+pub data IsTurn (relations counters : ℕ) (IsDue : Line → Refusal → Type 0) (p : Play) (line : Line) : Answer
+    → Play → Type 0 where
+  acts : fault_at relations counters p.under_way line ≡ None
+      → IsTurn relations counters IsDue p line (answer_at p p.under_way line) (after_at p p.under_way line)
+  refuses : (why : Refusal) → (fault_at relations counters p.under_way line ≡ Some why)
+      ⊎ (IsWant p.under_way line why × IsDue line why)
       → IsTurn relations counters IsDue p line (Refused why) p
 
 -- lines, each with its answer, one after the other, from one place to another
-pub data Runs {S : Type 0} (Turn : S → Line → Answer → S → Type 0) (start : S) : List Line → List Answer → S → Type 0 where
+pub data Runs {S : Type 0} (Turn : S → Line → Answer → S → Type 0) (start : S) : List Line → List Answer
+    → S → Type 0 where
   starts : Runs Turn start [] [] start
   goes_on : (lines : List Line) (answers : List Answer) (mid end : S) (line : Line) (answer : Answer)
       → Runs Turn start lines answers mid → Turn mid line answer end

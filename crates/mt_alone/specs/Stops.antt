@@ -28,7 +28,8 @@ abbrev pub Ends : Bool → Option Refusal → List Answer → Type 0
 Ends false why answers = why ≡ None
 Ends true None answers = All GoesOn answers
 Ends true (Some why) answers =
-    (heard : List Answer) × (answers ≡ heard ++ Refused why ∷ []) × All GoesOn heard × (stop_of (Refused why) ≡ Some why)
+    (heard : List Answer) × (answers ≡ heard ++ Refused why ∷ []) × All GoesOn heard
+    × (stop_of (Refused why) ≡ Some why)
 
 -- ---- lines and scripts
 

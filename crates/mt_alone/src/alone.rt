@@ -1,120 +1,202 @@
-// A script on a kernel that no other session has, whose log is turned over before a transaction.
-ghost use Rattle.std.specs.Prelude.{IfErr, IfOk, None};
+// A script, run by itself on a kernel.
+ghost use Rattle.std.specs.Prelude.{◌≡◌, [], ◌∷◌, ◌++◌, IfOk, IfErr, OnErr, OnOk, None, Some, false};
+ghost use Rattle.std.specs.Io.KnownBytes.{Appends};
+ghost use Rattle.mt_base.specs.declared.refusal.Refusal.{Refusal};
 ghost use Rattle.mt_txn.specs.Shown.{SameSchema, StaysRestarting};
-ghost use Rattle.mt_alone.specs.Sessions.{lines_in};
-ghost use Rattle.mt_alone.specs.Stops.{IsStopIn, lines_to, why_stopped};
-ghost use Rattle.mt_alone.specs.Turnovers.{BesideFrom, GoesThrough, HasRunOut, IsCutOff};
+ghost use Rattle.mt_script.specs.Answers.{AppendsFront, answer_text};
+ghost use Rattle.mt_alone.specs.Driven.{IsBeside};
+ghost use Rattle.mt_alone.specs.Plays.{Play};
+ghost use Rattle.mt_alone.specs.Runs.{BesideEach, HasRun, HasRunLines, IsCutAtEnd, IsCutShort, IsEnded, IsEndedFor, IsLeftFor, IsStopped};
+ghost use Rattle.mt_script.specs.Scripts.{lines_in};
 
-use crate::rotation::{NotServed, is_due, turned};
-use crate::script_run::{end_live, end_refused, run_line};
-use crate::stops::Stop;
+use crate::stops::ending;
+use crate::turns::{answer, undo_open};
 use mt_base::{Refusal, TxnNo};
 use mt_disk::Device;
-use mt_restart::Standing;
-use mt_script::{Line, Script};
+use mt_script::{Answer, Line, Script, Unheard, write_answer};
 use mt_txn::Kernel;
-use std::alloc::Global;
 use std::io::Write;
+use thiserror::Error;
 
-/// A kernel after lines, the transaction that is open then, and the line that stopped them.
-type Ran<D> = (Kernel<D>, Option<TxnNo>, Option<Stop>);
-
-/// Answers the lines of a script, up to the first refusal if it is to stop there. The kernel is moved only if its log
-/// is due to be turned over.
-fn run_each<D: Device + Drop, W: Write>(
-    alloc: Global,
-    kernel: Kernel<D>,
-    frames: usize,
-    session: u32,
-    stop: bool,
-    lines: &[Line],
-    writer: &mut W,
-) -> Result<Ran<D>, NotServed<D>>
-    ensures ran { IfOk result (λ t. GoesThrough D.seen D.may_leave stop (why_stopped t.2) session kernel
-        (lines_to t.2 lines.now) (W.contents writer.old) (W.contents writer.new) t.1 t.0) }
-    ensures at { IfOk result (λ t. IsStopIn session lines.now t.2) }
-    ensures cut { IfErr result (λ left. BesideFrom D.seen D.may_leave session None kernel
-        (λ p. IsCutOff D.seen D.may_leave D.faults p kernel lines.now
-        (W.contents writer.old) (W.contents writer.new) left)) }
-{
-    let mut kernel = kernel;
-    let mut live = None;
-    for (at, line) in lines.iter().enumerate() {
-        if live.is_none() && is_due(&kernel) {
-            match turned(alloc, kernel, frames) {
-                Standing::Stands(next) => kernel = next,
-                Standing::Ended(device) => {
-                    let why = end_refused(writer, Refusal::DeviceFailed);
-                    let left = Standing::Ended(device);
-                    return Err(NotServed { why, left });
-                }
-            }
-        }
-        let now = match run_line(&mut kernel, session, stop, live, line, writer) {
-            Ok(now) => now,
-            Err(why) => {
-                let left = Standing::Stands(kernel);
-                return Err(NotServed { why, left });
-            }
-        };
-        live = now.0;
-        if let Some(why) = now.1 {
-            let line = at + 1;
-            let stop = Stop { session, line, why };
-            return Ok((kernel, live, Some(stop)));
-        }
-    }
-    Ok((kernel, live, None))
+/// Why a script did not run to its end.
+#[derive(Debug, Drop, Error)]
+pub enum RunFault {
+    /// The writer failed, at a write or a flush. What was written is a beginning of the transcript, and the transaction
+    /// that lived is aborted, unless the device had failed.
+    #[error("the output cannot be written")]
+    Output,
+    /// `NoMemory`, if a step found no memory, or no frame, when it was asked nine times. The transaction stands as
+    /// it was then. Or `DeviceFailed`, which is the transcript's last line.
+    #[error("{0}")]
+    Refused(Refusal),
 }
 
-/// Runs a script on a kernel in which no transaction lives, as [`run_alone`](crate::run_alone) does. Before a line
-/// outside of a transaction it turns the log over, if more than half of its area is in use. The kernel then has so many
-/// pages in frames. If that is refused for want of memory, or of room in the other area, the kernel goes on. It is tried
-/// again before a later line.
-///
-/// If it is to stop, the script ends at the first line that is refused with anything but `Escrow` and `Die`. A
-/// transaction that is open there is aborted, with the line `aborted`. So it is run as a script that ends with that
-/// line, which is given with the kernel.
-///
-/// Refused for what `run_alone` is refused, with the kernel as that leaves it. If the device fails while the log is
-/// turned over, refused with 2, which is the transcript's last line, and with the device.
-///
-/// What is promised holds beside whatever play of the model the kernel stands at, from whose first base it can be
-/// restarted.
-pub fn run_script<D: Device + Drop, W: Write>(
-    alloc: Global,
-    kernel: Kernel<D>,
-    frames: usize,
+/// Writes an answer as one line, after which this transaction is open. Unless there is one, the writer is flushed: so
+/// the lines of a transaction go out at its end. If the writer fails, it has written a beginning of the line.
+fn tell<W: Write>(writer: &mut W, answer: &Answer, live: Option<TxnNo>) -> Result<(), Unheard>
+    ensures all { OnOk result (Appends (W.contents writer.old) (W.contents writer.new)
+        (answer_text answer.now ++ 10 ∷ [])) }
+    ensures front { OnErr result (AppendsFront (W.contents writer.old) (W.contents writer.new)
+        (answer_text answer.now ++ 10 ∷ [])) }
+{
+    write_answer(writer, answer)?;
+    if live.is_some() {
+        return Ok(());
+    }
+    match writer.flush() {
+        Ok(()) => Ok(()),
+        Err(_) => Err(Unheard),
+    }
+}
+
+/// Aborts the transaction that is open after a failed write, and answers how the run ends.
+fn end_unheard<D: Device>(kernel: &mut Kernel<D>, live: Option<TxnNo>) -> RunFault
+    ensures left { (p : Play) → IsBeside p live kernel.old
+        → IsLeftFor p kernel.new result }
+    ensures schema { SameSchema kernel.old kernel.new }
+    ensures restarts { StaysRestarting kernel.old kernel.new }
+{
+    let Some(txn) = live else {
+        return RunFault::Output;
+    };
+    match undo_open(kernel, txn) {
+        Ok(()) => RunFault::Output,
+        Err(refusal) => RunFault::Refused(refusal),
+    }
+}
+
+/// Writes that the device failed, and answers how the run ends.
+fn end_failed<W: Write>(writer: &mut W) -> RunFault
+    ensures { IsStopped (W.contents writer.old) (W.contents writer.new) Refusal.DeviceFailed result }
+{
+    match tell(writer, &Answer::Refused(Refusal::DeviceFailed), None) {
+        Ok(()) => RunFault::Refused(Refusal::DeviceFailed),
+        Err(_) => RunFault::Output,
+    }
+}
+
+/// Answers how the run ends after a step that was refused. That the device failed is written.
+pub(crate) fn end_refused<W: Write>(writer: &mut W, refusal: Refusal) -> RunFault
+    ensures { IsStopped (W.contents writer.old) (W.contents writer.new) refusal result }
+{
+    match refusal {
+        Refusal::DeviceFailed => end_failed(writer),
+        _ => RunFault::Refused(refusal),
+    }
+}
+
+/// The transaction that is open after a line, and the refusal for which the run is to stop there.
+pub(crate) type After = (Option<TxnNo>, Option<Refusal>);
+
+/// Answers one line, and writes the answer. The run is to stop at a refusal, or not.
+pub(crate) fn run_line<D: Device, W: Write>(
+    kernel: &mut Kernel<D>,
     session: u32,
     stop: bool,
+    live: Option<TxnNo>,
+    line: &Line,
+    writer: &mut W,
+) -> Result<After, RunFault>
+    ensures outcome { IfOk result (λ now. BesideEach session live kernel.old
+        (λ p. HasRunLines stop now.1 p kernel.old (line.now ∷ [])
+        (W.contents writer.old) (W.contents writer.new) now.0 kernel.new)) }
+    ensures cut { IfErr result (λ why. BesideEach session live kernel.old
+        (λ p. IsCutShort p kernel.old (line.now ∷ [])
+        (W.contents writer.old) (W.contents writer.new) kernel.new why)) }
+    ensures schema { SameSchema kernel.old kernel.new }
+    ensures restarts { StaysRestarting kernel.old kernel.new }
+{
+    let outcome = match answer(kernel, session, live, line) {
+        Ok(outcome) => outcome,
+        Err(refusal) => return Err(end_refused(writer, refusal)),
+    };
+    let why = ending(stop, &outcome.0);
+    match tell(writer, &outcome.0, outcome.1) {
+        Ok(()) => Ok((outcome.1, why)),
+        Err(_) => Err(end_unheard(kernel, outcome.1)),
+    }
+}
+
+/// Runs the lines of a script, and answers the transaction that is open after the last.
+fn run_lines<D: Device, W: Write>(
+    kernel: &mut Kernel<D>,
+    session: u32,
+    lines: &[Line],
+    writer: &mut W,
+) -> Result<Option<TxnNo>, RunFault>
+    ensures ran { IfOk result (λ live. BesideEach session None kernel.old
+        (λ p. HasRunLines false None p kernel.old lines.now
+        (W.contents writer.old) (W.contents writer.new) live kernel.new)) }
+    ensures cut { IfErr result (λ why. BesideEach session None kernel.old
+        (λ p. IsCutShort p kernel.old lines.now
+        (W.contents writer.old) (W.contents writer.new) kernel.new why)) }
+    ensures schema { SameSchema kernel.old kernel.new }
+    ensures restarts { StaysRestarting kernel.old kernel.new }
+{
+    let mut live = None;
+    for line in lines {
+        let now = run_line(kernel, session, false, live, line, writer)?;
+        live = now.0;
+    }
+    Ok(live)
+}
+
+/// Aborts the transaction that is open at the script's end, and writes that.
+pub(crate) fn end_live<D: Device, W: Write>(
+    kernel: &mut Kernel<D>,
+    txn: TxnNo,
+    writer: &mut W,
+) -> Result<(), RunFault>
+    ensures ended { OnOk result ((p : Play) → IsBeside p (Some txn) kernel.old
+        → IsEnded p (W.contents writer.old) (W.contents writer.new) kernel.new) }
+    ensures cut { IfErr result (λ why. (p : Play) → IsBeside p (Some txn) kernel.old
+        → IsCutAtEnd p (W.contents writer.old) (W.contents writer.new) kernel.new why) }
+    ensures schema { SameSchema kernel.old kernel.new }
+    ensures restarts { StaysRestarting kernel.old kernel.new }
+{
+    if let Err(refusal) = undo_open(kernel, txn) {
+        return Err(end_refused(writer, refusal));
+    }
+    match tell(writer, &Answer::Aborted, None) {
+        Ok(()) => Ok(()),
+        Err(_) => Err(RunFault::Output),
+    }
+}
+
+/// Runs a script by itself on a kernel in which no transaction lives, and writes the answer of each
+/// line as one line. A transaction that is open at the script's end is aborted, with the line
+/// `aborted`.
+///
+/// The writer is flushed after each line after which no transaction is open, and so once a commit is durable and before
+/// the next line. What is answered within a transaction may wait in it until then, and after refusal 1 from then on.
+///
+/// A step that finds no memory is asked again, up to eight times; for one that finds no frame a page is flushed
+/// before that. After `Output` a beginning of the transcript is written and the transaction that lived is aborted,
+/// unless the device had failed. After refusal 1 it stands as it was. Refusal 2 is the last line, and the device has
+/// failed. There is no other refusal.
+///
+/// What is promised holds beside whatever play of the model the kernel stands at. Nobody lives there, and its book
+/// and the base that this leaves are the model's.
+pub fn run_alone<D: Device, W: Write>(
+    kernel: &mut Kernel<D>,
+    session: u32,
     script: &Script,
     writer: &mut W,
-) -> Result<(Kernel<D>, Option<Stop>), NotServed<D>>
-    ensures ran { IfOk result (λ t. BesideFrom D.seen D.may_leave session None kernel
-        (λ p. HasRunOut D.seen D.may_leave stop t.1 p kernel (lines_in script.now)
-        (W.contents writer.old) (W.contents writer.new) t.0)) }
-    ensures at { IfOk result (λ t. IsStopIn session (lines_in script.now) t.1) }
-    ensures cut { IfErr result (λ left. BesideFrom D.seen D.may_leave session None kernel
-        (λ p. IsCutOff D.seen D.may_leave D.faults p kernel (lines_in script.now)
-        (W.contents writer.old) (W.contents writer.new) left)) }
-    ensures schema { IfOk result (λ t. SameSchema kernel t.0) }
+) -> Result<(), RunFault>
+    ensures ran { OnOk result (BesideEach session None kernel.old
+        (λ p. HasRun false None p kernel.old (lines_in script.now)
+        (W.contents writer.old) (W.contents writer.new) kernel.new)) }
+    ensures cut { IfErr result (λ why. BesideEach session None kernel.old
+        (λ p. IsCutShort p kernel.old (lines_in script.now)
+        (W.contents writer.old) (W.contents writer.new) kernel.new why)) }
+    ensures why { IfErr result (λ why. BesideEach session None kernel.old
+        (λ p. IsEndedFor kernel.new why)) }
+    ensures schema { SameSchema kernel.old kernel.new }
     // A kernel that can be restarted from a base still can.
-    ensures restarts { IfOk result (λ t. StaysRestarting D.seen D.may_leave kernel t.0) }
+    ensures restarts { StaysRestarting kernel.old kernel.new }
 {
-    let ran = match run_each(alloc, kernel, frames, session, stop, script.lines(), writer) {
-        Ok(ran) => ran,
-        Err(left) => return Err(left),
-    };
-    let (kernel, live, stopped) = ran;
-    let Some(txn) = live else {
-        return Ok((kernel, stopped));
-    };
-    let mut kernel = kernel;
-    match end_live(&mut kernel, txn, writer) {
-        Ok(()) => Ok((kernel, stopped)),
-        Err(why) => {
-            let left = Standing::Stands(kernel);
-            Err(NotServed { why, left })
-        }
+    match run_lines(kernel, session, script.lines(), writer)? {
+        Some(txn) => end_live(kernel, txn, writer),
+        None => Ok(()),
     }
 }

@@ -16,8 +16,8 @@ mod sessions;
 mod stops;
 mod turns;
 
-pub use alone::run_script;
+pub use alone::{RunFault, run_alone};
 pub use rotation::NotServed;
-pub use script_run::{RunFault, run_alone};
+pub use script_run::run_script;
 pub use sessions::{run_sessions, write_session};
 pub use stops::Stop;

@@ -33,9 +33,9 @@ fn abort_wants_frame(answer: &Result<AbortStepped, Refusal>) -> bool
 /// A step of an operation, asked for again if it finds no memory, or no frame. `NoMemory` if it was asked
 /// nine times.
 pub fn ask_step<D: Device>(kernel: &mut Kernel<D>, txn: TxnNo) -> Result<Stepped, Refusal>
-    ensures moved { HasMoved D.seen D.may_leave D.faults kernel.old txn result kernel.new }
+    ensures moved { HasMoved kernel.old txn result kernel.new }
     ensures schema { SameSchema kernel.old kernel.new }
-    ensures restarts { StaysRestarting D.seen D.may_leave kernel.old kernel.new }
+    ensures restarts { StaysRestarting kernel.old kernel.new }
 {
     for _ in 0..=ASKED_AGAIN {
         let answer = kernel.step(txn);
@@ -51,9 +51,9 @@ pub fn ask_step<D: Device>(kernel: &mut Kernel<D>, txn: TxnNo) -> Result<Stepped
 /// Takes an operation that was begun to its reply: each step leaves less of its work. Refused as its steps are, and
 /// by `Busy` if another transaction was in the way, which in a run alone none is.
 pub fn step_to_reply<D: Device>(kernel: &mut Kernel<D>, txn: TxnNo) -> Result<Reply, Refusal>
-    ensures replied { HasReplied D.seen D.may_leave D.faults kernel.old txn result kernel.new }
+    ensures replied { HasReplied kernel.old txn result kernel.new }
     ensures schema { SameSchema kernel.old kernel.new }
-    ensures restarts { StaysRestarting D.seen D.may_leave kernel.old kernel.new }
+    ensures restarts { StaysRestarting kernel.old kernel.new }
 {
     for _step in 0..OPERATION_STEPS {
         match ask_step(kernel, txn)? {
@@ -68,9 +68,9 @@ pub fn step_to_reply<D: Device>(kernel: &mut Kernel<D>, txn: TxnNo) -> Result<Re
 /// A step of an abort, asked for again if it finds no memory, or no frame. `NoMemory` if it was asked nine
 /// times.
 pub fn ask_abort<D: Device>(kernel: &mut Kernel<D>, txn: TxnNo) -> Result<AbortStepped, Refusal>
-    ensures backed { HasBacked D.seen D.may_leave D.faults kernel.old txn result kernel.new }
+    ensures backed { HasBacked kernel.old txn result kernel.new }
     ensures schema { SameSchema kernel.old kernel.new }
-    ensures restarts { StaysRestarting D.seen D.may_leave kernel.old kernel.new }
+    ensures restarts { StaysRestarting kernel.old kernel.new }
 {
     for _ in 0..=ASKED_AGAIN {
         let answer = kernel.abort_step(txn);
@@ -86,9 +86,9 @@ pub fn ask_abort<D: Device>(kernel: &mut Kernel<D>, txn: TxnNo) -> Result<AbortS
 /// Takes an abort that was begun to its end: each step leaves less of its work. Refused as its steps are, and by
 /// `Busy` if another transaction was in the way, which in a run alone none is.
 pub fn undo<D: Device>(kernel: &mut Kernel<D>, txn: TxnNo) -> Result<(), Refusal>
-    ensures undone { HasUndone D.seen D.may_leave D.faults kernel.old txn result kernel.new }
+    ensures undone { HasUndone kernel.old txn result kernel.new }
     ensures schema { SameSchema kernel.old kernel.new }
-    ensures restarts { StaysRestarting D.seen D.may_leave kernel.old kernel.new }
+    ensures restarts { StaysRestarting kernel.old kernel.new }
 {
     for _step in 0..ABORT_STEPS {
         match ask_abort(kernel, txn)? {

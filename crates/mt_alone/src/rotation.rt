@@ -6,7 +6,7 @@ ghost use Rattle.mt_alone.specs.Plays.{Play};
 ghost use Rattle.mt_alone.specs.Turnovers.{IsLeftBy, IsTurned, StandsForMore};
 ghost use Rattle.mt_txn.specs.Shown.{kernel_log};
 
-use crate::script_run::RunFault;
+use crate::alone::RunFault;
 use mt_disk::Device;
 use mt_restart::{Standing, rotate};
 use mt_txn::Kernel;
@@ -30,8 +30,8 @@ impl<D: Device + Drop> NotServed<D> {
         ensures why { result.0 ≡ self.why }
         ensures device { result.1 ≡ device_at self.left }
         ensures stands { (relations counters : ℕ) (q : Play)
-            → IsLeftBy D.seen D.may_leave D.faults relations counters self q
-            → StandsForMore D.may_leave relations counters q result.1 }
+            → IsLeftBy relations counters self q
+            → StandsForMore D.Device relations counters q result.1 }
     {
         let NotServed { why, left } = self;
         (why, left.into_device())
@@ -42,7 +42,7 @@ impl<D: Device + Drop> NotServed<D> {
 pub(crate) fn is_due<D: Device>(kernel: &Kernel<D>) -> bool
     ensures { let log = kernel_log kernel.now in IsTrue result ↔ (area_size log / 2 < used log) }
 {
-    kernel.used() > kernel.area_size() / 2
+    kernel.log_use().is_above_half()
 }
 
 /// Turns the log over, and answers what stands then. If it is refused, the kernel goes on over its log as it is: a
@@ -53,7 +53,7 @@ pub(crate) fn turned<D: Device + Drop>(
     kernel: Kernel<D>,
     frames: usize,
 ) -> Standing<D>
-    ensures { IsTurned D.seen D.may_leave D.faults kernel result }
+    ensures { IsTurned kernel result }
 {
     let (standing, _outcome) = rotate(alloc, kernel, frames);
     standing

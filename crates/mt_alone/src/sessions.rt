@@ -4,12 +4,13 @@ ghost use Rattle.std.specs.Io.KnownBytes.{Appends};
 ghost use Rattle.mt_base.specs.declared.limits.TheConstants.{MAX_SESSIONS};
 ghost use Rattle.mt_txn.specs.Shown.{SameSchema, StaysRestarting};
 ghost use Rattle.mt_script.specs.Answers.{AppendsFront};
-ghost use Rattle.mt_alone.specs.Sessions.{AreCutShort, HaveServed, IsCutWithin, IsServed, StandsEach, lines_in, session_line};
+ghost use Rattle.mt_alone.specs.Sessions.{AreCutShort, HaveServed, IsCutWithin, IsServed, StandsEach, session_line};
+ghost use Rattle.mt_script.specs.Scripts.{lines_in};
 ghost use Rattle.mt_alone.specs.Stops.{IsStopIn};
 
-use crate::alone::run_script;
+use crate::alone::RunFault;
 use crate::rotation::NotServed;
-use crate::script_run::RunFault;
+use crate::script_run::run_script;
 use crate::stops::Stop;
 use itoa::Buffer;
 use mt_disk::Device;
@@ -41,15 +42,15 @@ fn run_session<D: Device + Drop, W: Write>(
     script: &Script,
     writer: &mut W,
 ) -> Result<(Kernel<D>, Option<Stop>), NotServed<D>>
-    ensures served { IfOk result (λ t. StandsEach D.seen D.may_leave kernel
-        (λ p. IsServed D.seen D.may_leave stop t.1 p kernel session (lines_in script.now)
+    ensures served { IfOk result (λ t. StandsEach kernel
+        (λ p. IsServed stop t.1 p kernel session (lines_in script.now)
         (W.contents writer.old) (W.contents writer.new) t.0)) }
     ensures at { IfOk result (λ t. IsStopIn session (lines_in script.now) t.1) }
-    ensures cut { IfErr result (λ left. StandsEach D.seen D.may_leave kernel
-        (λ p. IsCutWithin D.seen D.may_leave D.faults p kernel session (lines_in script.now)
+    ensures cut { IfErr result (λ left. StandsEach kernel
+        (λ p. IsCutWithin p kernel session (lines_in script.now)
         (W.contents writer.old) (W.contents writer.new) left)) }
     ensures schema { IfOk result (λ t. SameSchema kernel t.0) }
-    ensures restarts { IfOk result (λ t. StaysRestarting D.seen D.may_leave kernel t.0) }
+    ensures restarts { IfOk result (λ t. StaysRestarting kernel t.0) }
 {
     match write_session(writer, u64::from(session)) {
         Ok(()) => run_script(alloc, kernel, frames, session, stop, script, writer),
@@ -91,15 +92,15 @@ pub fn run_sessions<D: Device + Drop, W: Write>(
     writer: &mut W,
 ) -> Result<(Kernel<D>, Option<Stop>), NotServed<D>>
     requires few { length scripts.now ≤ MAX_SESSIONS }
-    ensures ran { IfOk result (λ t. StandsEach D.seen D.may_leave kernel
-        (λ p. HaveServed D.seen D.may_leave stop t.1 p kernel (map lines_in scripts.now)
+    ensures ran { IfOk result (λ t. StandsEach kernel
+        (λ p. HaveServed stop t.1 p kernel (map lines_in scripts.now)
         (W.contents writer.old) (W.contents writer.new) t.0)) }
-    ensures cut { IfErr result (λ left. StandsEach D.seen D.may_leave kernel
-        (λ p. AreCutShort D.seen D.may_leave D.faults stop p kernel (map lines_in scripts.now)
+    ensures cut { IfErr result (λ left. StandsEach kernel
+        (λ p. AreCutShort stop p kernel (map lines_in scripts.now)
         (W.contents writer.old) (W.contents writer.new) left)) }
     ensures schema { IfOk result (λ t. SameSchema kernel t.0) }
     // A kernel that can be restarted from a base still can.
-    ensures restarts { IfOk result (λ t. StaysRestarting D.seen D.may_leave kernel t.0) }
+    ensures restarts { IfOk result (λ t. StaysRestarting kernel t.0) }
 {
     let mut kernel = kernel;
     let mut session = 0;

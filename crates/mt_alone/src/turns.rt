@@ -28,9 +28,9 @@ fn refused(refusal: Refusal, live: Option<TxnNo>) -> Turn
 
 /// Begins a transaction.
 pub fn begin<D: Device>(kernel: &mut Kernel<D>, session: u32) -> Turn
-    ensures answers { Answers D.seen D.may_leave D.faults session kernel.old None line.Begin result kernel.new }
+    ensures answers { Answers session kernel.old None line.Begin result kernel.new }
     ensures schema { SameSchema kernel.old kernel.new }
-    ensures restarts { StaysRestarting D.seen D.may_leave kernel.old kernel.new }
+    ensures restarts { StaysRestarting kernel.old kernel.new }
 {
     match kernel.begin(session) {
         Ok(txn) => Ok((Answer::Begun, Some(txn))),
@@ -40,9 +40,9 @@ pub fn begin<D: Device>(kernel: &mut Kernel<D>, session: u32) -> Turn
 
 /// Makes one operation in a transaction.
 pub fn call<D: Device>(kernel: &mut Kernel<D>, txn: TxnNo, op: &Op) -> Turn
-    ensures answers { AnswersWithin D.seen D.may_leave D.faults kernel.old txn (line.Call op.now) result kernel.new }
+    ensures answers { AnswersWithin kernel.old txn (line.Call op.now) result kernel.new }
     ensures schema { SameSchema kernel.old kernel.new }
-    ensures restarts { StaysRestarting D.seen D.may_leave kernel.old kernel.new }
+    ensures restarts { StaysRestarting kernel.old kernel.new }
 {
     match kernel.call(txn, op) {
         Ok(Called::Started) => {
@@ -56,9 +56,9 @@ pub fn call<D: Device>(kernel: &mut Kernel<D>, txn: TxnNo, op: &Op) -> Turn
 
 /// Commits a transaction.
 pub fn commit<D: Device>(kernel: &mut Kernel<D>, txn: TxnNo) -> Turn
-    ensures answers { AnswersWithin D.seen D.may_leave D.faults kernel.old txn line.Commit result kernel.new }
+    ensures answers { AnswersWithin kernel.old txn line.Commit result kernel.new }
     ensures schema { SameSchema kernel.old kernel.new }
-    ensures restarts { StaysRestarting D.seen D.may_leave kernel.old kernel.new }
+    ensures restarts { StaysRestarting kernel.old kernel.new }
 {
     match kernel.commit_begin(txn) {
         Ok(place) => {
@@ -71,9 +71,9 @@ pub fn commit<D: Device>(kernel: &mut Kernel<D>, txn: TxnNo) -> Turn
 
 /// Aborts a transaction, from its first step to its last.
 pub fn undo_open<D: Device>(kernel: &mut Kernel<D>, txn: TxnNo) -> Result<(), Refusal>
-    ensures aborted { HasAborted D.seen D.may_leave D.faults kernel.old txn result kernel.new }
+    ensures aborted { HasAborted kernel.old txn result kernel.new }
     ensures schema { SameSchema kernel.old kernel.new }
-    ensures restarts { StaysRestarting D.seen D.may_leave kernel.old kernel.new }
+    ensures restarts { StaysRestarting kernel.old kernel.new }
 {
     kernel.abort_begin(txn)?;
     undo(kernel, txn)
@@ -81,9 +81,9 @@ pub fn undo_open<D: Device>(kernel: &mut Kernel<D>, txn: TxnNo) -> Result<(), Re
 
 /// Aborts a transaction, if a line asks for it.
 pub fn abort<D: Device>(kernel: &mut Kernel<D>, txn: TxnNo) -> Turn
-    ensures answers { AnswersWithin D.seen D.may_leave D.faults kernel.old txn line.Abort result kernel.new }
+    ensures answers { AnswersWithin kernel.old txn line.Abort result kernel.new }
     ensures schema { SameSchema kernel.old kernel.new }
-    ensures restarts { StaysRestarting D.seen D.may_leave kernel.old kernel.new }
+    ensures restarts { StaysRestarting kernel.old kernel.new }
 {
     undo_open(kernel, txn)?;
     Ok((Answer::Aborted, None))
@@ -91,9 +91,9 @@ pub fn abort<D: Device>(kernel: &mut Kernel<D>, txn: TxnNo) -> Turn
 
 /// The answer to a line if no transaction is open.
 fn answer_outside<D: Device>(kernel: &mut Kernel<D>, session: u32, line: &Line) -> Turn
-    ensures answers { Answers D.seen D.may_leave D.faults session kernel.old None line.now result kernel.new }
+    ensures answers { Answers session kernel.old None line.now result kernel.new }
     ensures schema { SameSchema kernel.old kernel.new }
-    ensures restarts { StaysRestarting D.seen D.may_leave kernel.old kernel.new }
+    ensures restarts { StaysRestarting kernel.old kernel.new }
 {
     match line {
         Line::Begin => begin(kernel, session),
@@ -103,9 +103,9 @@ fn answer_outside<D: Device>(kernel: &mut Kernel<D>, session: u32, line: &Line) 
 
 /// The answer to a line within a transaction.
 fn answer_within<D: Device>(kernel: &mut Kernel<D>, txn: TxnNo, line: &Line) -> Turn
-    ensures answers { AnswersWithin D.seen D.may_leave D.faults kernel.old txn line.now result kernel.new }
+    ensures answers { AnswersWithin kernel.old txn line.now result kernel.new }
     ensures schema { SameSchema kernel.old kernel.new }
-    ensures restarts { StaysRestarting D.seen D.may_leave kernel.old kernel.new }
+    ensures restarts { StaysRestarting kernel.old kernel.new }
 {
     match line {
         Line::Begin => refused(Refusal::Busy, Some(txn)),
@@ -122,9 +122,9 @@ pub fn answer<D: Device>(
     live: Option<TxnNo>,
     line: &Line,
 ) -> Turn
-    ensures answers { Answers D.seen D.may_leave D.faults session kernel.old live line.now result kernel.new }
+    ensures answers { Answers session kernel.old live line.now result kernel.new }
     ensures schema { SameSchema kernel.old kernel.new }
-    ensures restarts { StaysRestarting D.seen D.may_leave kernel.old kernel.new }
+    ensures restarts { StaysRestarting kernel.old kernel.new }
 {
     match live {
         None => answer_outside(kernel, session, line),

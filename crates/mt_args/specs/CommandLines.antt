@@ -53,7 +53,9 @@ checking =
 
 -- `format [--wait SECONDS] FILE PAGES AREA RELATIONS [COUNTER..]`
 abbrev pub sizing : App
-sizing = with_rule (with_rule (with_rule (with_rule (with_rule (new_app (codes "format")) wait_rule) (required_rule (codes "file"))) (required_rule (codes "pages"))) (required_rule (codes "area"))) (required_rule (codes "relations"))
+sizing = with_rule (with_rule (with_rule (with_rule (with_rule (new_app (codes "format")) wait_rule)
+    (required_rule (codes "file"))) (required_rule (codes "pages"))) (required_rule (codes "area")))
+    (required_rule (codes "relations"))
 
 abbrev pub counter_rule : Rule
 counter_rule = record (new_rule (codes "counter")) { value_names = 1; action = Some Append }
@@ -73,15 +75,21 @@ abbrev pub scripts_rule : Rule
 scripts_rule = record (new_rule (codes "script")) { value_names = 1; required = true; action = Some Append }
 
 abbrev pub serving : App
-serving = with_rule (with_rule (with_rule (with_rule (with_rule (with_rule (new_app (codes "run")) frames_rule) wait_rule) stop_rule) (required_rule (codes "file"))) (required_rule (codes "workers"))) scripts_rule
+serving = with_rule (with_rule (with_rule (with_rule (with_rule (with_rule (new_app (codes "run")) frames_rule)
+    wait_rule) stop_rule) (required_rule (codes "file"))) (required_rule (codes "workers"))) scripts_rule
 
 -- `mtk`, whose words are those after its name, one of them the command's name
 abbrev pub bare : App
-bare = record (new_app (codes "mtk")) { top = record (new_app (codes "mtk")).top { has_version = true; no_binary_name = true; subcommand_required = true } }
+bare = record (new_app (codes "mtk")) {
+  top = record (new_app (codes "mtk")).top
+      { has_version = true; no_binary_name = true; subcommand_required = true };
+}
 
 abbrev pub program : App
 program =
-    with_subcommand (with_subcommand (with_subcommand (with_subcommand (with_subcommand (with_subcommand (with_subcommand bare trial.top) scheduling.top) checking.top) formatting.top) (on_file (codes "dump")).top)
+    with_subcommand (with_subcommand (with_subcommand (with_subcommand
+    (with_subcommand (with_subcommand (with_subcommand bare trial.top) scheduling.top) checking.top) formatting.top)
+    (on_file (codes "dump")).top)
     (on_file (codes "explain")).top) serving.top
 
 -- a parser of this command line, none of whose arguments counts for others
@@ -166,7 +174,8 @@ AreNumbersIn (Some found) n = AreNumbersAt found.1 n
 
 -- one of them spells no number, or no counter
 abbrev pub IsMisspelledAt : List Row → Type 0
-IsMisspelledAt rows = IsNoCount (text_at (codes "pages") rows) ⊎ IsNoCount (text_at (codes "area") rows) ⊎ IsNoCount (text_at (codes "relations") rows) ⊎ Any IsNoCounter (counters_at rows)
+IsMisspelledAt rows = IsNoCount (text_at (codes "pages") rows) ⊎ IsNoCount (text_at (codes "area") rows)
+    ⊎ IsNoCount (text_at (codes "relations") rows) ⊎ Any IsNoCounter (counters_at rows)
 
 -- ---- `run`
 
@@ -215,13 +224,18 @@ IsMisspelled (Some found) = ((found.0 ≡ codes "format") × IsMisspelledAt foun
 
 -- no command on a device in a file
 abbrev pub IsRun : Text → Type 0
-IsRun name = (name ≢ codes "check") × (name ≢ codes "format") × (name ≢ codes "dump") × (name ≢ codes "explain") × (name ≢ codes "run")
+IsRun name = (name ≢ codes "check") × (name ≢ codes "format") × (name ≢ codes "dump") × (name ≢ codes "explain")
+    × (name ≢ codes "run")
 
 -- what the words enter is the command of its name, or else `try` of a script, and no text to be shown
 abbrev pub IsEntered : Option (Text × List Row) → Command → Type 0
-IsEntered entered (Try script stop) = (option_map string_bytes script ≡ script_in entered) × IsFlag (stop_in entered) stop × (name_in entered ≢ Some (codes "schedule")) × (name_in entered ≢ Some (codes "check"))
-    × (name_in entered ≢ Some (codes "format")) × (name_in entered ≢ Some (codes "dump")) × (name_in entered ≢ Some (codes "explain")) × (name_in entered ≢ Some (codes "run"))
-IsEntered entered (Schedule file) = (option_map string_bytes file ≡ file_in entered) × (name_in entered ≡ Some (codes "schedule"))
+IsEntered entered (Try script stop) = (option_map string_bytes script ≡ script_in entered)
+    × IsFlag (stop_in entered) stop × (name_in entered ≢ Some (codes "schedule"))
+    × (name_in entered ≢ Some (codes "check"))
+    × (name_in entered ≢ Some (codes "format")) × (name_in entered ≢ Some (codes "dump"))
+    × (name_in entered ≢ Some (codes "explain")) × (name_in entered ≢ Some (codes "run"))
+IsEntered entered (Schedule file) =
+    (option_map string_bytes file ≡ file_in entered) × (name_in entered ≡ Some (codes "schedule"))
 IsEntered entered (Check file pages wait) = (string_bytes file ≡ device_in entered) × IsFlag (pages_in entered) pages
     × AreSeconds (wait_in entered) wait × (name_in entered ≡ Some (codes "check"))
 IsEntered entered (Format file numbers wait) = (string_bytes file ≡ device_in entered) × AreNumbersIn entered numbers
@@ -255,7 +269,8 @@ IsAsking words = (fits words ≡ false) × (kind : ErrorKind) × IsAmong kind (f
 -- the words are no command, and a mistake keeps them from being one; or they are, and a number in them is not one
 -- that may stand there
 abbrev pub IsMistaken : List Text → Type 0
-IsMistaken words = ((fits words ≡ false) × (kind : ErrorKind) × IsAmong kind (faults words) × IsMistake kind) ⊎ IsMisspelled (subcommand_of program words)
+IsMistaken words = ((fits words ≡ false) × (kind : ErrorKind) × IsAmong kind (faults words) × IsMistake kind)
+    ⊎ IsMisspelled (subcommand_of program words)
 
 -- The words name this command: the one that they enter, with the file that they name, if they name one. A
 -- text is shown only if they wish for it.

@@ -129,6 +129,7 @@ edited_more old new es e last i end len so first lt run at text =
         first = λ same. differs (ap (λ (m : ℕ). get_or old m 0) (sym at) ∙ same ∙ ap (λ (m : ℕ). get_or new m 0) at);
         last = let here : e.start + length e.bytes - 1 ≡ end - 1 = omega arith in
             λ same. run.last (ap (λ (m : ℕ). get_or old m 0) (sym here) ∙ same ∙ ap (λ (m : ℕ). get_or new m 0) here);
+        bytes = text ∙ ap (λ (m : ℕ). part new m (end - i)) (sym at) ∙ ap (part new e.start) (sym long);
       });
       size = ⊎_elim (λ (z : last ≡ 0). let none = so.none z in omega arith) (λ (ok : last + 15 ≤ i). omega arith) far;
       none = λ z. absurd (omega arith);

@@ -1,5 +1,6 @@
 mod Fieldless
 mod Editing
 pub mod Places
+pub mod EightBytes
 pub mod Removing
 mod Touching

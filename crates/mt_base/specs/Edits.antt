@@ -1,6 +1,7 @@
 -- A change of a page as ranges of new bytes.
 use Rattle.std.specs.Prelude.{◌≡◌, ◌≢◌, ◌⊎◌, All, ℕ, ◌+◌, ◌-◌, ◌*◌, ◌<◌, ◌≤◌, List, [], ◌∷◌, ◌++◌, length, take, drop}
 use Rattle.std.proofs.Math.ListN.{get_or}
+use Rattle.mt_base.specs.Ranges.{part}
 use Rattle.mt_base.specs.declared.edits.TheConstants.{QUIET_BYTES}
 use Rattle.mt_base.specs.declared.edits.Edit.{Edit}
 
@@ -18,12 +19,13 @@ abbrev pub log_size : List Edit → ℕ
 log_size [] = 0
 log_size (e ∷ es) = 29 + 2 * length e.bytes + log_size es
 
--- a range within the page whose first and last byte change
+-- a range within the page whose first and last byte change, with the bytes that the page has there once all is done
 pub record IsShortest (old new : List ℕ) (e : Edit) : Type 0 where
   pub some : 1 ≤ length e.bytes
   pub within : e.start + length e.bytes ≤ length old
   pub first : get_or old e.start 0 ≢ get_or new e.start 0
   pub last : get_or old (e.start + length e.bytes - 1) 0 ≢ get_or new (e.start + length e.bytes - 1) 0
+  pub bytes : e.bytes ≡ part new e.start (length e.bytes)
 
 -- the new bytes below i, the old ones from i on
 pub record Halfway (old new mid : List ℕ) (i : ℕ) : Type 0 where
@@ -37,6 +39,13 @@ pub record EndsRun (old new : List ℕ) (i end : ℕ) : Type 0 where
   pub within : end ≤ length old
   pub last : get_or old (end - 1) 0 ≢ get_or new (end - 1) 0
   pub quiet : (k : ℕ) → end ≤ k → k < end + QUIET_BYTES → k < length old → get_or old k 0 ≡ get_or new k 0
+
+-- where the last byte that differs ends, of the fifteen from a place on, or that place
+pub record LastDiffers (old new : List ℕ) (from at : ℕ) : Type 0 where
+  pub after : from ≤ at
+  pub within : at ≤ length old
+  pub last : from < at → get_or old (at - 1) 0 ≢ get_or new (at - 1) 0
+  pub quiet : (k : ℕ) → at ≤ k → k < from + QUIET_BYTES → k < length old → get_or old k 0 ≡ get_or new k 0
 
 -- no byte from a place up to another one differs
 pub record AreEqual (old new : List ℕ) (from at : ℕ) : Type 0 where
@@ -58,7 +67,8 @@ pub record FirstDiffers (old new : List ℕ) (from at : ℕ) : Type 0 where
 pub record Edited (old new : List ℕ) (edits : List Edit) (last : ℕ) : Type 0 where
   pub ends : last ≤ length old
   pub made : Halfway old new (patched edits old) last
-  pub quiet : (last ≡ 0) ⊎ ((k : ℕ) → last ≤ k → k < last + QUIET_BYTES → k < length old → get_or old k 0 ≡ get_or new k 0)
+  pub quiet : (last ≡ 0) ⊎ ((k : ℕ) → last ≤ k → k < last + QUIET_BYTES → k < length old
+      → get_or old k 0 ≡ get_or new k 0)
   pub short : All (IsShortest old new) edits
   pub size : log_size edits ≤ 29 + 2 * last
   pub none : last ≡ 0 → log_size edits ≡ 0

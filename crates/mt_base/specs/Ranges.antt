@@ -1,7 +1,9 @@
 -- Bytes at a place of a page or a device. All of it goes by single bytes, since facts on ranges then
 -- come from facts on indexes.
-use Rattle.std.specs.Prelude.{◌≡◌, ◌⊎◌, ℕ, ◌+◌, ◌*◌, ◌<◌, ◌≤◌, List, length, take, drop}
+use Rattle.std.specs.Prelude.{◌≡◌, ◌⊎◌, ℕ, ℤ, ◌+◌, ◌*◌, ◌<◌, ◌≤◌, List, length, take, drop}
+use Rattle.std.specs.Int.{w64, cast_signed}
 use Rattle.std.proofs.Math.ListN.{get_or}
+use Rattle.byteorder.specs.Endian.{big_number}
 
 -- the content holds these bytes from this place on
 pub record Has (content : List ℕ) (at : ℕ) (bytes : List ℕ) : Type 0 where
@@ -34,3 +36,7 @@ part content at n = take n (drop at content)
 -- the number in the two bytes at a place, the higher one first
 abbrev pub u16_at : List ℕ → ℕ → ℕ
 u16_at content at = get_or content at 0 * 256 + get_or content (at + 1) 0
+
+-- the number in the eight bytes at a place, the highest one first, as two's complement
+unfoldable pub i64_at : List ℕ → ℕ → ℤ
+i64_at content at = cast_signed w64 (big_number 8 (part content at 8))

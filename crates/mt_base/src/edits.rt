@@ -4,15 +4,18 @@ ghost use Rattle.std.specs.Int.{w64, to_le_bytes};
 ghost use Rattle.mt_base.specs.declared.limits.TheConstants.{PAGE_BYTES};
 ghost use Rattle.mt_base.specs.Ranges.{part, Same};
 ghost use Rattle.mt_base.specs.Touched.{TouchesOnly};
-ghost use Rattle.mt_base.specs.Edits.{patched, log_size, IsShortest, AreEqual, FirstDiffers, DiffersWithin, EndsRun, Edited};
+ghost use Rattle.mt_base.specs.Edits.{patched, log_size, IsShortest, AreEqual, FirstDiffers, LastDiffers, DiffersWithin, EndsRun, Edited};
 
-use crate::bytes::Bytes;
+use crate::edit_bytes::EditBytes;
 use crate::ranges::part_of;
 use crate::touched::TouchedBytes;
 use std::alloc::{AllocError, Global};
 
 // The bytes that are compared at once.
 const BLOCK_BYTES: usize = 32;
+
+// The bytes of one number.
+const WORD_BYTES: usize = 8;
 
 // Equal bytes that end a range: a log record's fields and head take 29 bytes, and each byte within a
 // range is logged twice.
@@ -24,7 +27,7 @@ pub struct Edit {
     /// The place of the first one.
     pub start: u16,
     /// The bytes.
-    pub bytes: Bytes,
+    pub bytes: EditBytes,
 }
 
 /// The edits that make the one page to the other. Each begins and ends with a byte that changes, and a range ends
@@ -73,7 +76,7 @@ fn step(
         return Ok(start);
     }
     let end = run_end(old, new, start);
-    let bytes = Bytes::copy_of(alloc, part_of(new, start, end - start))?;
+    let bytes = EditBytes::copy_of(alloc, part_of(new, start, end - start))?;
     edits.push(Edit {
         start: start as u16,
         bytes,
@@ -106,9 +109,24 @@ fn difference_within(old: &[u8], new: &[u8], from: usize, end: usize) -> usize
     requires within { end ≤ length old.now }
     ensures { DiffersWithin old.now new.now from end result }
 {
-    let mut at = equal_blocks(old, new, from, end);
+    let mut at = equal_words(old, new, from, end);
     while at < end && old[at] == new[at] {
         at += 1;
+    }
+    at
+}
+
+// Where the words from a place on that are equal end, after blocks that are, looked for up to an end.
+fn equal_words(old: &[u8], new: &[u8], from: usize, end: usize) -> usize
+    requires same { length old.now ≡ length new.now }
+    requires fits { length old.now ≤ PAGE_BYTES }
+    requires there { from ≤ length old.now }
+    requires within { end ≤ length old.now }
+    ensures { AreEqual old.now new.now from result }
+{
+    let mut at = equal_blocks(old, new, from, end);
+    while at + WORD_BYTES <= end && same_word(old, new, at) {
+        at += WORD_BYTES;
     }
     at
 }
@@ -181,12 +199,40 @@ fn run_end(old: &[u8], new: &[u8], i: usize) -> usize
     ensures { EndsRun old.now new.now i result }
 {
     let mut end = i + 1;
-    let mut k = i + 1;
-    while k < old.len() && k < end + QUIET_BYTES {
-        if old[k] != new[k] {
-            end = k + 1;
-        }
-        k += 1;
+    let mut next = last_difference(old, new, end);
+    while end < next {
+        end = next;
+        next = last_difference(old, new, end);
     }
     end
+}
+
+// Where the last byte that differs ends, of those that would go on with a range that ends at a place; or that place.
+// From the last one on, since a record's bytes mostly all differ.
+fn last_difference(old: &[u8], new: &[u8], from: usize) -> usize
+    requires same { length old.now ≡ length new.now }
+    requires there { from ≤ length old.now }
+    requires fits { length old.now ≤ PAGE_BYTES }
+    ensures { LastDiffers old.now new.now from result }
+{
+    if from + QUIET_BYTES <= old.len() && is_quiet(old, new, from) {
+        return from;
+    }
+    let mut at = old.len().min(from + QUIET_BYTES);
+    while from < at && old[at - 1] == new[at - 1] {
+        at -= 1;
+    }
+    at
+}
+
+// Whether so many bytes stay as end a range, looked at as two words that have one byte in common.
+fn is_quiet(old: &[u8], new: &[u8], at: usize) -> bool
+    requires old_there { at + QUIET_BYTES ≤ length old.now }
+    requires new_there { at + QUIET_BYTES ≤ length new.now }
+    ensures { IsTrue result → Same at QUIET_BYTES old.now new.now }
+{
+    if !same_word(old, new, at) {
+        return false;
+    }
+    same_word(old, new, at + 7)
 }

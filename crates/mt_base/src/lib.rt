@@ -4,6 +4,7 @@
 #![tactic(auto)]
 
 mod bytes;
+mod edit_bytes;
 mod edits;
 mod history;
 pub mod limits;
@@ -14,6 +15,7 @@ mod refusal;
 mod touched;
 
 pub use bytes::Bytes;
+pub use edit_bytes::EditBytes;
 pub use edits::{Edit, edits_of};
 pub use history::History;
 pub use modes::{LockMode, Mode};

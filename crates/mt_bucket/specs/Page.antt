@@ -89,4 +89,5 @@ KeepsBucket old new = (relations pages : ℕ) → IsBucket relations pages old �
 
 -- it does, with a cell more
 abbrev pub TakesCell : List ℕ → List ℕ → List ℕ → Type 0
-TakesCell bytes old new = (relations pages : ℕ) → IsCell relations pages bytes 0 → IsBucket relations pages old → IsBucket relations pages new
+TakesCell bytes old new = (relations pages : ℕ) → IsCell relations pages bytes 0 → IsBucket relations pages old
+    → IsBucket relations pages new

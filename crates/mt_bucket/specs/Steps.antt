@@ -9,7 +9,8 @@ use Rattle.mt_bucket.specs.Page.{cell, count_of, entries, KeepsHead}
 pub record OneMore (bytes old new : List ℕ) : Type 0 where
   pub head : KeepsHead old new
   pub number : u16_at new 2 ≡ count_of old + 1
-  pub front : (j : ℕ) → j < count_of old → cell new (HEAD_BYTES + CELL_BYTES * j) ≡ cell old (HEAD_BYTES + CELL_BYTES * j)
+  pub front : (j : ℕ) → j < count_of old → cell new (HEAD_BYTES + CELL_BYTES * j)
+      ≡ cell old (HEAD_BYTES + CELL_BYTES * j)
   pub last : cell new (HEAD_BYTES + CELL_BYTES * count_of old) ≡ bytes
 
 -- an entry more, after the others
@@ -23,8 +24,10 @@ pub record Closed (i : ℕ) (old new : List ℕ) : Type 0 where
   pub head : KeepsHead old new
   pub counted : count_of old ≡ count_of new + 1
   pub few : u16_at new 2 ≤ MAX_ENTRIES
-  pub others : (j : ℕ) → j ≢ i → j < count_of new → cell new (HEAD_BYTES + CELL_BYTES * j) ≡ cell old (HEAD_BYTES + CELL_BYTES * j)
-  pub filled : i < count_of new → cell new (HEAD_BYTES + CELL_BYTES * i) ≡ cell old (HEAD_BYTES + CELL_BYTES * count_of new)
+  pub others : (j : ℕ) → j ≢ i → j < count_of new → cell new (HEAD_BYTES + CELL_BYTES * j)
+      ≡ cell old (HEAD_BYTES + CELL_BYTES * j)
+  pub filled : i < count_of new → cell new (HEAD_BYTES + CELL_BYTES * i)
+      ≡ cell old (HEAD_BYTES + CELL_BYTES * count_of new)
 
 -- an entry goes to the one page or to the other
 abbrev pub Sorted : Bool → Entry → List ℕ → List ℕ → List ℕ → List ℕ → Type 0

@@ -56,10 +56,10 @@ reported_anyway failed scripts texts book x = record {
   whole = x.whole;
 }
 
-module _ {D : Type 0} {g : Ghosts D} (seen : D → List ℕ) (may_leave : D → List ℕ → Type 0) where
+module _ {D : Type 0} {g : Ghosts D} where
   -- it is so of a kernel that is or is not cut off
-  pub served_at_once : (c : List ℕ) (scripts : List (List Line)) (texts : List (List ℕ)) (n : Kernel D g) (d : List ℕ) → IsServedOn seen may_leave c n → AreReported (is_failed n) scripts texts n.core.book.items
-      → ((first : Base) → Restarts seen may_leave first n → ∥ FindsCommits n.relations n.counters first n.core d ∥₁) → (cut : Bool) → (cut ≡ false → HasNobody n × (is_failed n ≡ false)) → AreServedAtOnce cut c scripts texts d
+  pub served_at_once : (c : List ℕ) (scripts : List (List Line)) (texts : List (List ℕ)) (n : Kernel D g) (d : List ℕ) → IsServedOn c n → AreReported (is_failed n) scripts texts n.core.book.items
+      → ((first : Base) → Restarts first n → ∥ FindsCommits n.relations n.counters first n.core d ∥₁) → (cut : Bool) → (cut ≡ false → HasNobody n × (is_failed n ≡ false)) → AreServedAtOnce cut c scripts texts d
   served_at_once c scripts texts n d x outcome finds false rests = record {
     first = x.first;
     is = x.is;
@@ -68,7 +68,7 @@ module _ {D : Type 0} {g : Ghosts D} (seen : D → List ℕ) (may_leave : D → 
     outcome = subst (λ (f : Bool). AreReported f scripts texts n.core.book.items) (rests refl).1 outcome;
     relations = n.relations;
     counters = n.counters;
-    stands = stands_book seen may_leave (base_of x.first) n d (rests refl).0 x.began.1 (finds (base_of x.first) x.began.1);
+    stands = stands_book (base_of x.first) n d (rests refl).0 x.began.1 (finds (base_of x.first) x.began.1);
   }
   served_at_once c scripts texts n d x outcome finds true rests = record {
     first = x.first;
@@ -78,7 +78,7 @@ module _ {D : Type 0} {g : Ghosts D} (seen : D → List ℕ) (may_leave : D → 
     outcome = reported_anyway (is_failed n) scripts texts n.core.book.items outcome;
     relations = n.relations;
     counters = n.counters;
-    stands = stands_more seen may_leave (base_of x.first) n d (finds (base_of x.first) x.began.1);
+    stands = stands_more (base_of x.first) n d (finds (base_of x.first) x.began.1);
   }
 
 -- ---- the file

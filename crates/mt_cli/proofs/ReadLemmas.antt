@@ -5,7 +5,7 @@ use Rattle.std.specs.Io.KnownBytes.{Consumes, IsAtEnd}
 use Rattle.std.proofs.lemmas.List.{length-map, map-append, map_more}
 use Rattle.mt_base.specs.declared.refusal.Refusal.TheVariants as refusal
 use Rattle.mt_script.specs.Scripts.{IsScript}
-use Rattle.mt_alone.specs.Sessions.{lines_in}
+use Rattle.mt_script.specs.Scripts.{lines_in}
 use Rattle.mt_script.specs.declared.reader.Script.{Script}
 use Rattle.mt_script.specs.declared.lines.Line.{Line}
 use Rattle.mt_folder.specs.Folders.{AreKept, Files, ReadsAll, known_in}

@@ -19,8 +19,8 @@ use Rattle.mt_alone.specs.Sessions.{AreCutShort, HasServed, HaveServed, HavePlay
 use Rattle.mt_script.specs.declared.answers.Answer.{Answer}
 use Rattle.mt_script.specs.declared.lines.Line.{Line}
 use Rattle.mt_alone.specs.declared.rotation.NotServed.{NotServed}
-use Rattle.mt_alone.specs.declared.script_run.RunFault.{RunFault}
-use Rattle.mt_alone.specs.declared.script_run.RunFault.TheVariants as run
+use Rattle.mt_alone.specs.declared.alone.RunFault.{RunFault}
+use Rattle.mt_alone.specs.declared.alone.RunFault.TheVariants as run
 use Rattle.mt_device_commands.proofs.HeldLemmas.{held_before}
 use Rattle.mt_folder.proofs.FolderLemmas.{kept_then, put_then}
 use Rattle.mt_alone.specs.Stops.{scripts_to}
@@ -33,30 +33,30 @@ use Rattle.mt_report.specs.declared.faults.Fault.{Fault}
 use Rattle.mt_report.specs.declared.faults.Fault.TheVariants.{Output, Refused, Stopped, Unread, Unscheduled}
 use Rattle.std.specs.Io.KnownBytes.{Keeps}
 
-module _ {D : Type 0} {g : Ghosts D} (seen : D → List ℕ) (may_leave : D → List ℕ → Type 0) where
+module _ {D : Type 0} {g : Ghosts D} where
   -- a kernel that was opened on a base stands beside the model there
-  pub beside_first : (relations counters : ℕ) (b : Base) (k : Kernel D g) → IsOpened seen may_leave relations counters b k → IsBeside seen may_leave (first_on b) None k
+  pub beside_first : (relations counters : ℕ) (b : Base) (k : Kernel D g) → IsOpened relations counters b k → IsBeside (first_on b) None k
   beside_first relations counters b k opened = record { shown = ∣ (b, start b, opened.shows, (record { first_is = refl; book = refl; base = refl }, λ u. refl)) ∣₁; nothing = refl }
 
   -- sessions of a kernel are sessions of the model
-  schema_kept : (s e : Play × Kernel D g) (ls : List (List Line)) (ts : List (List Answer)) → Serves (HasServed seen may_leave) s ls ts e → (e.1.relations ≡ s.1.relations) × (e.1.counters ≡ s.1.counters)
+  schema_kept : (s e : Play × Kernel D g) (ls : List (List Line)) (ts : List (List Answer)) → Serves (HasServed) s ls ts e → (e.1.relations ≡ s.1.relations) × (e.1.counters ≡ s.1.counters)
   schema_kept s _ _ _ no_script = (refl, refl)
   schema_kept s e _ _ (then_script scripts transcripts mid end lines outcome before x) = let kept = schema_kept s mid scripts transcripts before in (x.schema.0 ∙ kept.0, x.schema.1 ∙ kept.1)
 
   -- they begin on the same base
-  first_kept : (s e : Play × Kernel D g) (ls : List (List Line)) (ts : List (List Answer)) → Serves (HasServed seen may_leave) s ls ts e → e.0.first ≡ s.0.first
+  first_kept : (s e : Play × Kernel D g) (ls : List (List Line)) (ts : List (List Answer)) → Serves (HasServed) s ls ts e → e.0.first ≡ s.0.first
   first_kept s _ _ _ no_script = refl
   first_kept s e _ _ (then_script scripts transcripts mid end lines outcome before x) = ap (λ (p : Play). p.first) x.end_is
-      ∙ runs_first seen may_leave (in_session mid.0 (length scripts + 1), x.begun) (x.play, x.last) lines x.answers x.ran ∙ first_kept s mid scripts transcripts before
+      ∙ runs_first (in_session mid.0 (length scripts + 1), x.begun) (x.play, x.last) lines x.answers x.ran ∙ first_kept s mid scripts transcripts before
 
-  pub all_played : (relations counters : ℕ) (s e : Play × Kernel D g) (ls : List (List Line)) (ts : List (List Answer)) → s.1.relations ≡ relations → s.1.counters ≡ counters → Serves (HasServed seen may_leave) s ls ts e → HavePlayed relations counters s.0 ls ts e.0
+  pub all_played : (relations counters : ℕ) (s e : Play × Kernel D g) (ls : List (List Line)) (ts : List (List Answer)) → s.1.relations ≡ relations → s.1.counters ≡ counters → Serves (HasServed) s ls ts e → HavePlayed relations counters s.0 ls ts e.0
   all_played relations counters s _ _ _ rs cs no_script = no_script
   all_played relations counters s _ _ _ rs cs (then_script scripts transcripts mid end lines outcome before x) =
       let kept = schema_kept s mid scripts transcripts before in
       then_script scripts transcripts mid.0 end.0 lines outcome (all_played relations counters s mid scripts transcripts rs cs before) (record {
         answers = x.answers;
         play = x.play;
-        ran = played seen may_leave relations counters (in_session mid.0 (length scripts + 1), x.begun) (x.play, x.last) lines x.answers (x.over.schema.0 ∙ kept.0 ∙ rs) (x.over.schema.1 ∙ kept.1 ∙ cs) x.ran;
+        ran = played relations counters (in_session mid.0 (length scripts + 1), x.begun) (x.play, x.last) lines x.answers (x.over.schema.0 ∙ kept.0 ∙ rs) (x.over.schema.1 ∙ kept.1 ∙ cs) x.ran;
         reported_is = x.reported_is;
         end_is = x.end_is;
       })
@@ -64,23 +64,23 @@ module _ {D : Type 0} {g : Ghosts D} (seen : D → List ℕ) (may_leave : D → 
   -- ---- what the device stands for
 
   -- nobody lives where a kernel stands beside a play, and its book is the play's
-  resting : (p : Play) (n : Kernel D g) → IsBeside seen may_leave p None n → ∥ ((length n.core.live.members ≡ 0) × (n.core.book.items ≡ p.book)) ∥₁
+  resting : (p : Play) (n : Kernel D g) → IsBeside p None n → ∥ ((length n.core.live.members ≡ 0) × (n.core.book.items ≡ p.book)) ∥₁
   resting p n beside = ∥∥₁_elim beside.shown ∥∥₁_prop (λ (first, s, shows, (is, nobody)).
       ∥∥₁_map shows (λ (origin, base, at, x). (
         no_member n.core.live.members (λ t. sym (ap (λ (z : State). z.sessions t) x.state) ∙ nobody t),
         sym (ap (λ (z : State). z.book) x.state) ∙ is.book,
       )))
 
-  pub stands_all : (relations counters : ℕ) (b : Base) (p : Play) (n : Kernel D g) (c : List ℕ) → n.relations ≡ relations → n.counters ≡ counters → Restarts seen may_leave b n → IsBeside seen may_leave p None n
-      → ((first : Base) → Restarts seen may_leave first n → ∥ FindsCommits n.relations n.counters first n.core c ∥₁) → StandForAll relations counters b p.book c
+  pub stands_all : (relations counters : ℕ) (b : Base) (p : Play) (n : Kernel D g) (c : List ℕ) → n.relations ≡ relations → n.counters ≡ counters → Restarts b n → IsBeside p None n
+      → ((first : Base) → Restarts first n → ∥ FindsCommits n.relations n.counters first n.core c ∥₁) → StandForAll relations counters b p.book c
   stands_all relations counters b p n c rs cs restarts beside finds = ∥∥₁_elim (resting p n beside) ∥∥₁_prop (λ (nobody, book).
-      subst (λ (X : Type 0). X) (λ i. StandForAll (rs i) (cs i) b (book i) c) (stands_book seen may_leave b n c nobody restarts (finds b restarts)))
+      subst (λ (X : Type 0). X) (λ i. StandForAll (rs i) (cs i) b (book i) c) (stands_book b n c nobody restarts (finds b restarts)))
 
   -- ---- serving
 
-  pub served_on : (stop : Bool) (ending : Option Stop) (relations counters : ℕ) (b : Base) (k n : Kernel D g) (scripts : List (List Line)) (was now : Option (List ℕ)) (c : List ℕ) → IsOpened seen may_leave relations counters b k → SameSchema k n → StaysRestarting seen may_leave k n
-      → StandsEach seen may_leave k (λ p. HaveServed seen may_leave stop ending p k scripts was now n)
-      → ((first : Base) → Restarts seen may_leave first n → ∥ FindsCommits n.relations n.counters first n.core c ∥₁) → HaveServedOn stop ending relations counters b scripts was now c
+  pub served_on : (stop : Bool) (ending : Option Stop) (relations counters : ℕ) (b : Base) (k n : Kernel D g) (scripts : List (List Line)) (was now : Option (List ℕ)) (c : List ℕ) → IsOpened relations counters b k → SameSchema k n → StaysRestarting k n
+      → StandsEach k (λ p. HaveServed stop ending p k scripts was now n)
+      → ((first : Base) → Restarts first n → ∥ FindsCommits n.relations n.counters first n.core c ∥₁) → HaveServedOn stop ending relations counters b scripts was now c
   served_on stop ending relations counters b k n scripts was now c opened schema stays ran finds =
       let x = ran (first_on b) (beside_first relations counters b k opened) opened.restarts in
       record {
@@ -93,46 +93,46 @@ module _ {D : Type 0} {g : Ghosts D} (seen : D → List ℕ) (may_leave : D → 
         stands = stands_all relations counters b x.play n c (schema.0 ∙ opened.relations_are) (schema.1 ∙ opened.counters_are) (stays b opened.restarts) x.beside finds;
       }
 
-  module _ (faults : D → ℕ) where
+  module _ where
     -- what the device stands for behind whatever play it was left so
     abbrev LeavesStanding : Base → NotServed D g → List ℕ → Type 0
-    LeavesStanding b left d = (relations counters : ℕ) (q : Play) → q.first ≡ b → IsLeftBy seen may_leave faults relations counters left q → StandForMore relations counters b q.book d
+    LeavesStanding b left d = (relations counters : ℕ) (q : Play) → q.first ≡ b → IsLeftBy relations counters left q → StandForMore relations counters b q.book d
 
-    leaves_standing : (b : Base) (left : NotServed D g) (device : D) (d : List ℕ) → may_leave device d
-        → ((relations counters : ℕ) (q : Play) → IsLeftBy seen may_leave faults relations counters left q → StandsForMore may_leave relations counters q device) → LeavesStanding b left d
+    leaves_standing : (b : Base) (left : NotServed D g) (device : D) (d : List ℕ) → g.may_leave device d
+        → ((relations counters : ℕ) (q : Play) → IsLeftBy relations counters left q → StandsForMore g relations counters q device) → LeavesStanding b left d
     leaves_standing b left device d leaves stands relations counters q first x = subst (λ (on : Base). StandForMore relations counters on q.book d) first (stands relations counters q x d leaves)
 
     short_of : (relations counters : ℕ) (b : Base) (p : Play) (k : Kernel D g) (lines : List Line) (was now : Option (List ℕ)) (left : NotServed D g) (d : List ℕ) → k.relations ≡ relations → k.counters ≡ counters → p.first ≡ b → LeavesStanding b left d
-        → IsCutOff seen may_leave faults p k lines was now left → IsShortOf relations counters (λ book. StandForMore relations counters b book d) p lines was now left.why
+        → IsCutOff p k lines was now left → IsShortOf relations counters (λ book. StandForMore relations counters b book d) p lines was now left.why
     short_of relations counters b p k lines was now left d rs cs first stands (begun, over, x) = record {
       before = x.before;
       rest = x.rest;
       split = x.split;
       answers = x.answers;
       last = x.play;
-      ran = played seen may_leave relations counters (p, begun) (x.play, x.last) x.before x.answers (over.schema.0 ∙ rs) (over.schema.1 ∙ cs) x.ran;
+      ran = played relations counters (p, begun) (x.play, x.last) x.before x.answers (over.schema.0 ∙ rs) (over.schema.1 ∙ cs) x.ran;
       outcome = x.outcome;
-      ended = ended_among seen may_leave faults k.relations k.counters left x.play x.left;
+      ended = ended_among k.relations k.counters left x.play x.left;
       stand = subst (λ (X : Type 0). X) (λ i. StandForMore (rs i) (cs i) b x.play.book d)
-          (stands k.relations k.counters x.play (runs_first seen may_leave (p, begun) (x.play, x.last) x.before x.answers x.ran ∙ first) x.left);
+          (stands k.relations k.counters x.play (runs_first (p, begun) (x.play, x.last) x.before x.answers x.ran ∙ first) x.left);
     }
 
     -- a kernel whose session's line was not written whole
-    unbegun : (p : Play) (k n : Kernel D g) → IsBeside seen may_leave p None k → Restarts seen may_leave p.first k → n ≡ k → IsLeftBy seen may_leave faults k.relations k.counters (with_kernel run.Output n) p
-    unbegun p k n beside restarts same = subst (λ (m : Kernel D g). IsLeftBy seen may_leave faults k.relations k.counters (with_kernel run.Output m) p) (sym same)
-        (inl (left_resting seen may_leave faults p k k beside), record { restarts = restarts; relations_are = refl; counters_are = refl })
+    unbegun : (p : Play) (k n : Kernel D g) → IsBeside p None k → Restarts p.first k → n ≡ k → IsLeftBy k.relations k.counters (with_kernel run.Output n) p
+    unbegun p k n beside restarts same = subst (λ (m : Kernel D g). IsLeftBy k.relations k.counters (with_kernel run.Output m) p) (sym same)
+        (inl (left_resting p k k beside), record { restarts = restarts; relations_are = refl; counters_are = refl })
 
     within : (relations counters : ℕ) (b : Base) (p : Play) (k : Kernel D g) (i : ℕ) (lines : List Line) (was now : Option (List ℕ)) (left : NotServed D g) (d : List ℕ) → k.relations ≡ relations → k.counters ≡ counters → p.first ≡ b → LeavesStanding b left d
-        → IsBeside seen may_leave p None k → Restarts seen may_leave p.first k → IsCutWithin seen may_leave faults p k i lines was now left
+        → IsBeside p None k → Restarts p.first k → IsCutWithin p k i lines was now left
         → IsShortWithin relations counters (λ book. StandForMore relations counters b book d) p i lines was now left.why
     within relations counters b p k i lines was now _ d rs cs first stands beside restarts (unheard_line n front same) =
         unheard_session front (subst (λ (X : Type 0). X) (λ i. StandForMore (rs i) (cs i) b p.book d) (stands k.relations k.counters p first (unbegun p k n beside restarts same)))
     within relations counters b p k i lines was now _ d rs cs first stands beside restarts (cut_script mid left outcome cut) =
         short_session mid left.why outcome (short_of relations counters b (in_session p i) k lines mid now left d rs cs first stands cut)
 
-    pub short_on : (stop : Bool) (relations counters : ℕ) (b : Base) (k : Kernel D g) (scripts : List (List Line)) (was now : Option (List ℕ)) (left : NotServed D g) (device : D) (d : List ℕ) → IsOpened seen may_leave relations counters b k → may_leave device d
-        → ((r m : ℕ) (q : Play) → IsLeftBy seen may_leave faults r m left q → StandsForMore may_leave r m q device)
-        → StandsEach seen may_leave k (λ p. AreCutShort seen may_leave faults stop p k scripts was now left) → AreShortOn relations counters b scripts was now d left.why
+    pub short_on : (stop : Bool) (relations counters : ℕ) (b : Base) (k : Kernel D g) (scripts : List (List Line)) (was now : Option (List ℕ)) (left : NotServed D g) (device : D) (d : List ℕ) → IsOpened relations counters b k → g.may_leave device d
+        → ((r m : ℕ) (q : Play) → IsLeftBy r m left q → StandsForMore g r m q device)
+        → StandsEach k (λ p. AreCutShort stop p k scripts was now left) → AreShortOn relations counters b scripts was now d left.why
     short_on stop relations counters b k scripts was now left device d opened leaves stands cut =
         let x = cut (first_on b) (beside_first relations counters b k opened) opened.restarts in
         let kept = schema_kept (first_on b, k) (x.ran.play, x.last) x.before x.ran.transcripts x.ran.served in

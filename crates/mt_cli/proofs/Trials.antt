@@ -16,8 +16,8 @@ use Rattle.mt_format.specs.Schemas.{counters_in, relations_in, schema_base}
 use Rattle.mt_format.specs.declared.schema.Schema.{Schema}
 use Rattle.mt_script.specs.declared.lines.Line.{Line}
 use Rattle.mt_script.specs.declared.answers.Answer.{Answer}
-use Rattle.mt_alone.specs.declared.script_run.RunFault.{RunFault}
-use Rattle.mt_alone.specs.declared.script_run.RunFault.TheVariants as run
+use Rattle.mt_alone.specs.declared.alone.RunFault.{RunFault}
+use Rattle.mt_alone.specs.declared.alone.RunFault.TheVariants as run
 use Rattle.mt_alone.specs.declared.rotation.NotServed.{NotServed}
 use Rattle.mt_restart.specs.declared.standing.Standing.{Standing}
 use Rattle.mt_restart.specs.declared.standing.Standing.TheVariants.{Stands, Ended}
@@ -53,9 +53,9 @@ turn_of relations counters p _ l _ (acts none) = acts none
 turn_of relations counters p _ l _ (refuses why (inl fault)) = refuses why (inl fault)
 turn_of relations counters p _ l _ (refuses why (inr (want, due))) = refuses why (inr (want, tt))
 
-module _ {D : Type 0} {g : Ghosts D} (seen : D → List ℕ) (may_leave : D → List ℕ → Type 0) where
-  pub stands_first : (schema : Schema) (k : Kernel D g) → IsFirstSchema schema → Shows seen may_leave (schema_base schema) (start (schema_base schema)) k → Restarts seen may_leave (schema_base schema) k → (k.relations ≡ relations_in schema) × (k.counters ≡ length (counters_in schema))
-      → StandsFirst seen may_leave k
+module _ {D : Type 0} {g : Ghosts D} where
+  pub stands_first : (schema : Schema) (k : Kernel D g) → IsFirstSchema schema → Shows (schema_base schema) (start (schema_base schema)) k → Restarts (schema_base schema) k → (k.relations ≡ relations_in schema) × (k.counters ≡ length (counters_in schema))
+      → StandsFirst k
   unfolding first_play
   stands_first schema k first shows restarts made = record {
     play = first_play schema;
@@ -67,12 +67,12 @@ module _ {D : Type 0} {g : Ghosts D} (seen : D → List ℕ) (may_leave : D → 
   }
 
   -- a run of a kernel of so many relations and counters is one of the model
-  schema_kept : (s e : Play × Kernel D g) (ls : List Line) (as' : List Answer) → Runs (HasTurned seen may_leave) s ls as' e → (e.1.relations ≡ s.1.relations) × (e.1.counters ≡ s.1.counters)
+  schema_kept : (s e : Play × Kernel D g) (ls : List Line) (as' : List Answer) → Runs (HasTurned) s ls as' e → (e.1.relations ≡ s.1.relations) × (e.1.counters ≡ s.1.counters)
   schema_kept s _ _ _ starts = (refl, refl)
   schema_kept s _ _ _ (goes_on lines answers m e line answer before t) =
       let kept = schema_kept s m lines answers before in (t.schema.0 ∙ kept.0, t.schema.1 ∙ kept.1)
 
-  pub played : (relations counters : ℕ) (s e : Play × Kernel D g) (ls : List Line) (as' : List Answer) → s.1.relations ≡ relations → s.1.counters ≡ counters → Runs (HasTurned seen may_leave) s ls as' e → HasPlayed relations counters s.0 ls as' e.0
+  pub played : (relations counters : ℕ) (s e : Play × Kernel D g) (ls : List Line) (as' : List Answer) → s.1.relations ≡ relations → s.1.counters ≡ counters → Runs (HasTurned) s ls as' e → HasPlayed relations counters s.0 ls as' e.0
   played relations counters s _ _ _ rs cs starts = starts
   played relations counters s _ _ _ rs cs (goes_on lines answers m e line answer before t) =
       let kept = schema_kept s m lines answers before in
@@ -80,35 +80,35 @@ module _ {D : Type 0} {g : Ghosts D} (seen : D → List ℕ) (may_leave : D → 
       goes_on lines answers m.0 e.0 line answer (played relations counters s m lines answers rs cs before)
       (subst (λ (X : Type 0). X) (λ i. IsTurn ((kept.0 ∙ rs) i) ((kept.1 ∙ cs) i) (λ line why. Unit {0}) m.0 line answer e.0) own)
 
-  module _ (faults : D → ℕ) where
-    ended_by : (n : Kernel D g) (why : RunFault) → IsEndedFor faults n why → AreEndedBy why
+  module _ where
+    ended_by : (n : Kernel D g) (why : RunFault) → IsEndedFor n why → AreEndedBy why
     ended_by n run.Output ended = tt
     ended_by n (run.Refused refusal.NoMemory) ended = inl refl
     ended_by n (run.Refused y) ended = inr (ended (λ e. cc)).0
 
-    ended_from : (relations counters : ℕ) (why : RunFault) (standing : Standing D g) (q : Play) → IsLeftFrom seen may_leave faults relations counters why standing q → AreEndedBy why
+    ended_from : (relations counters : ℕ) (why : RunFault) (standing : Standing D g) (q : Play) → IsLeftFrom relations counters why standing q → AreEndedBy why
     ended_from relations counters run.Output standing q x = tt
     ended_from relations counters (run.Refused why) (Stands n) q x = ended_by n (run.Refused why) x.0.1
     ended_from relations counters (run.Refused why) (Ended device) q x = inr x.0
 
     -- why a run ended of which this is left
-    pub ended_among : (relations counters : ℕ) (left : NotServed D g) (q : Play) → IsLeftBy seen may_leave faults relations counters left q → AreEndedBy left.why
+    pub ended_among : (relations counters : ℕ) (left : NotServed D g) (q : Play) → IsLeftBy relations counters left q → AreEndedBy left.why
     ended_among relations counters left q x = ended_from relations counters left.why left.left q x
 
 module _ {D : Type 0} (g : Ghosts D) where
   -- so does one that goes on as it, with its log turned over
-  stands_over : (k n : Kernel D g) → StandsFirst g.seen g.may_leave k → GoesOver g.seen g.may_leave k n → StandsFirst g.seen g.may_leave n
+  stands_over : (k n : Kernel D g) → StandsFirst k → GoesOver k n → StandsFirst n
   stands_over k n at over = record {
     play = at.play;
     first = at.first;
-    beside = resting_over g.seen g.may_leave at.play k n at.beside at.restarts over;
+    beside = resting_over at.play k n at.beside at.restarts over;
     restarts = over.restarts at.play.first at.restarts;
     relations = over.schema.0 ∙ at.relations;
     counters = over.schema.1 ∙ at.counters;
   }
 
-  pub tried_of : (stop : Bool) (ending : Option Stop) (k n : Kernel D g) (lines : List Line) (was now : Option (List ℕ)) → StandsFirst g.seen g.may_leave k → IsStopIn 1 lines ending
-      → BesideFrom g.seen g.may_leave 1 None k (λ p. HasRunOut g.seen g.may_leave stop ending p k lines was now n) → HasTried g stop ending lines was now
+  pub tried_of : (stop : Bool) (ending : Option Stop) (k n : Kernel D g) (lines : List Line) (was now : Option (List ℕ)) → StandsFirst k → IsStopIn 1 lines ending
+      → BesideFrom 1 None k (λ p. HasRunOut stop ending p k lines was now n) → HasTried g stop ending lines was now
   unfolding stands_over
   tried_of stop ending k n lines was now at within ran =
       let (begun, over, x) = ran at.play at.first.session at.beside at.restarts in
@@ -123,8 +123,8 @@ module _ {D : Type 0} (g : Ghosts D) where
         outcome = x.outcome;
       }
 
-  pub short_of : (k : Kernel D g) (lines : List Line) (was now : Option (List ℕ)) (left : NotServed D g) → StandsFirst g.seen g.may_leave k
-      → BesideFrom g.seen g.may_leave 1 None k (λ p. IsCutOff g.seen g.may_leave g.faults p k lines was now left) → IsShort g lines was now left.why
+  pub short_of : (k : Kernel D g) (lines : List Line) (was now : Option (List ℕ)) (left : NotServed D g) → StandsFirst k
+      → BesideFrom 1 None k (λ p. IsCutOff p k lines was now left) → IsShort g lines was now left.why
   unfolding stands_over
   short_of k lines was now left at cut =
       let (begun, over, x) = cut at.play at.first.session at.beside at.restarts in
@@ -138,7 +138,7 @@ module _ {D : Type 0} (g : Ghosts D) where
         last = (x.play, x.last);
         ran = x.ran;
         outcome = x.outcome;
-        ended = ended_among g.seen g.may_leave g.faults k.relations k.counters left x.play x.left;
+        ended = ended_among k.relations k.counters left x.play x.left;
       }
 
   -- how `try` ends whose lines ran so far

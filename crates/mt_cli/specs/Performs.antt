@@ -17,7 +17,7 @@ use Rattle.mt_args.specs.declared.command.Command.{Command}
 use Rattle.mt_args.specs.declared.command.Command.TheVariants.{Try, Schedule, Check, Format, Dump, Explain, Run, Show}
 use Rattle.mt_report.specs.declared.faults.Fault.{Fault}
 use Rattle.mt_report.specs.declared.faults.Fault.TheVariants.{Output, Refused, Stopped, Unread, Unscheduled}
-use Rattle.mt_alone.specs.declared.script_run.RunFault.{RunFault}
+use Rattle.mt_alone.specs.declared.alone.RunFault.{RunFault}
 use Rattle.mt_alone.specs.declared.stops.Stop.{Stop}
 use Rattle.mt_script.specs.Answers.{AppendsFront, transcript_text}
 use Rattle.mt_alone.specs.Driven.{IsBeside}
@@ -61,23 +61,24 @@ pub record IsFirst (p : Play) : Type 0 where
   pub nothing : p.under_way ≡ None
 
 -- a kernel stands beside it, and can be restarted from its base
-pub record StandsFirst {D : Type 0} {g : Ghosts D} (seen : D → List ℕ) (may_leave : D → List ℕ → Type 0) (k : Kernel D g) : Type 0 where
+pub record StandsFirst {D : Type 0} {g : Ghosts D} (k : Kernel D g) : Type 0 where
   pub play : Play
   pub first : IsFirst play
-  pub beside : IsBeside seen may_leave play None k
-  pub restarts : Restarts seen may_leave play.first k
+  pub beside : IsBeside play None k
+  pub restarts : Restarts play.first k
   pub relations : k.relations ≡ 2
   pub counters : k.counters ≡ 1
 
 -- `try` ran these lines on such a kernel, or those up to the line that stopped it. Each was answered as the model does,
 -- or refused for a cause that a kernel beside the play had then; the texts of the answers were written.
-pub record HasTried {D : Type 0} (g : Ghosts D) (stop : Bool) (ending : Option Stop) (lines : List Line) (was now : Option (List ℕ)) : Type 0 where
+pub record HasTried {D : Type 0} (g : Ghosts D) (stop : Bool) (ending : Option Stop) (lines : List Line)
+    (was now : Option (List ℕ)) : Type 0 where
   pub kernel : Kernel D g
-  pub stands : StandsFirst g.seen g.may_leave kernel
+  pub stands : StandsFirst kernel
   pub answers : List Answer
   pub last : Play × Kernel D g
   pub at : IsStopIn 1 lines ending
-  pub ran : Runs (HasTurned g.seen g.may_leave) (stands.play, kernel) (lines_to ending lines) answers last
+  pub ran : Runs (HasTurned) (stands.play, kernel) (lines_to ending lines) answers last
   pub ends : Ends stop (why_stopped ending) answers
   pub outcome : Appends was now (transcript_text (answers ++ last_line last.0.under_way))
 
@@ -90,7 +91,8 @@ pub record HaveRun {D : Type 0} (g : Ghosts D) (events : List Event) (answers : 
   pub schema : Schema
   pub first : IsFirstSchema schema
   pub standing : Standing D g
-  pub ran : ∥ HasRunTo g.seen g.may_leave g.moment g.left_since g.faults (relations_in schema) (length (counters_in schema)) (schema_base schema) events answers standing ∥₁
+  pub ran : ∥ HasRunTo (relations_in schema) (length (counters_in schema)) (schema_base schema) events answers standing
+      ∥₁
 
 -- those that the bytes spell, if they are known, and the texts of the answers were written
 pub record IsScheduled {D : Type 0} (g : Ghosts D) (bytes was now : Option (List ℕ)) : Type 0 where
@@ -108,13 +110,19 @@ pub record Around : Type 0 where
 
 -- what a command leaves on the output once it is done, and of the files
 abbrev pub IsDone : {D : Type 0} → Ghosts D → Command → Around → Option (List ℕ) → Option (List ℕ) → Type 0
-IsDone g (Try script stop) a was now = IsTried g stop (source_of a.before (option_map string_bytes script) a.input) was now × AreKept a.before a.after
-IsDone g (Schedule file) a was now = IsScheduled g (source_of a.before (option_map string_bytes file) a.input) was now × AreKept a.before a.after
-IsDone g (Check file pages wait) a was now = HasChecked pages (known_in a.before (string_bytes file)) was now × AreKept a.before a.after
+IsDone g (Try script stop) a was now =
+    IsTried g stop (source_of a.before (option_map string_bytes script) a.input) was now × AreKept a.before a.after
+IsDone g (Schedule file) a was now =
+    IsScheduled g (source_of a.before (option_map string_bytes file) a.input) was now × AreKept a.before a.after
+IsDone g (Check file pages wait) a was now =
+    HasChecked pages (known_in a.before (string_bytes file)) was now × AreKept a.before a.after
 IsDone g (Format file numbers wait) a was now = Formats numbers a.before a.after (string_bytes file) × Keeps was now
-IsDone g (Dump file wait) a was now = HasDumped (known_in a.before (string_bytes file)) was now × IsRestarted a.before a.after (string_bytes file)
-IsDone g (Explain file wait) a was now = HasExplained (known_in a.before (string_bytes file)) was now × AreKept a.before a.after
-IsDone g (Run s wait) a was now = HasRunScripts s.stop s.workers a.before a.after (string_bytes s.file) (map string_bytes s.scripts.items) a.input was now
+IsDone g (Dump file wait) a was now =
+    HasDumped (known_in a.before (string_bytes file)) was now × IsRestarted a.before a.after (string_bytes file)
+IsDone g (Explain file wait) a was now =
+    HasExplained (known_in a.before (string_bytes file)) was now × AreKept a.before a.after
+IsDone g (Run s wait) a was now = HasRunScripts s.stop s.workers a.before a.after (string_bytes s.file)
+    (map string_bytes s.scripts.items) a.input was now
 IsDone g (Show text) a was now = Appends was now (string_bytes text) × AreKept a.before a.after
 
 -- and what the command that words name leaves there
@@ -133,21 +141,23 @@ IsWordsReported was now = IsReported was now ⊎ AppendsFront was now unread_tex
 -- ---- a command that was not done
 
 -- the first of these lines were answered, and their answers are written, or a beginning of them
-pub record IsShort {D : Type 0} (g : Ghosts D) (lines : List Line) (was now : Option (List ℕ)) (why : RunFault) : Type 0 where
+pub record IsShort {D : Type 0} (g : Ghosts D) (lines : List Line) (was now : Option (List ℕ))
+    (why : RunFault) : Type 0 where
   pub kernel : Kernel D g
-  pub stands : StandsFirst g.seen g.may_leave kernel
+  pub stands : StandsFirst kernel
   pub before : List Line
   pub rest : List Line
   pub split : lines ≡ before ++ rest
   pub answers : List Answer
   pub last : Play × Kernel D g
-  pub ran : Runs (HasTurned g.seen g.may_leave) (stands.play, kernel) before answers last
+  pub ran : Runs (HasTurned) (stands.play, kernel) before answers last
   pub outcome : IsReportedFor was now answers why
   pub ended : AreEndedBy why
 
 -- why these lines did not run to their end: nothing is written if no kernel is made, and else a line stopped
 -- the run, or it was cut short
-pub data IsCutTrial {D : Type 0} (g : Ghosts D) (stop : Bool) (lines : List Line) (was now : Option (List ℕ)) : Fault → Type 0 where
+pub data IsCutTrial {D : Type 0} (g : Ghosts D) (stop : Bool) (lines : List Line)
+    (was now : Option (List ℕ)) : Fault → Type 0 where
   unmade : (why : Refusal) → IsUnmade why → Keeps was now → IsCutTrial g stop lines was now (Refused why)
   stopped : (at : Stop) → HasTried g stop (Some at) lines was now → IsCutTrial g stop lines was now (Stopped at)
   cut : (why : RunFault) (fault : Fault) → IsShort g lines was now why → fault ≡ fault_of why
@@ -157,35 +167,49 @@ pub data IsCutTrial {D : Type 0} (g : Ghosts D) (stop : Bool) (lines : List Line
 pub data IsUntried {D : Type 0} (g : Ghosts D) (stop : Bool) (bytes was now : Option (List ℕ)) : Fault → Type 0 where
   unread : (why : ReadFault ScriptWord) → IsUnreadScript bytes why → Keeps was now
       → IsUntried g stop bytes was now (Unread why 0)
-  untried : (lines : List Line) (fault : Fault) → IfSome bytes (λ bs. IsScript bs lines) → IsCutTrial g stop lines was now fault → IsUntried g stop bytes was now fault
+  untried : (lines : List Line) (fault : Fault) → IfSome bytes (λ bs. IsScript bs lines)
+      → IsCutTrial g stop lines was now fault → IsUntried g stop bytes was now fault
 
 -- why a schedule of these bytes did not run to its end: nothing is written if it is not read or no kernel is made,
 -- and else the output failed within the texts of the answers
 pub data IsUnscheduled {D : Type 0} (g : Ghosts D) (bytes was now : Option (List ℕ)) : Fault → Type 0 where
-  unspelled : (why : ReadFault EventWord) → IsUnread event_text IsEvent event_word bytes why → Keeps was now → IsUnscheduled g bytes was now (Unscheduled why)
+  unspelled : (why : ReadFault EventWord) → IsUnread event_text IsEvent event_word bytes why → Keeps was now
+      → IsUnscheduled g bytes was now (Unscheduled why)
   unbegun : (why : Refusal) → IsUnmade why → Keeps was now → IsUnscheduled g bytes was now (Refused why)
-  unheard : (events : List Event) (answers : List Reported) → IfSome bytes (λ bs. IsSchedule bs events) → HaveRun g events answers
+  unheard : (events : List Event) (answers : List Reported) → IfSome bytes (λ bs. IsSchedule bs events)
+      → HaveRun g events answers
       → AppendsFront was now (reported_lines answers) → IsUnscheduled g bytes was now Output
 
 -- what a command that ended with this fault left on the output, and of the files
 abbrev pub IsUndone : {D : Type 0} → Ghosts D → Command → Around → Option (List ℕ) → Option (List ℕ) → Fault → Type 0
-IsUndone g (Try script stop) a was now fault = IsUntried g stop (source_of a.before (option_map string_bytes script) a.input) was now fault × AreKept a.before a.after
-IsUndone g (Schedule file) a was now fault = IsUnscheduled g (source_of a.before (option_map string_bytes file) a.input) was now fault × AreKept a.before a.after
-IsUndone g (Check file pages wait) a was now fault = IsUnchecked pages (known_in a.before (string_bytes file)) was now fault × AreKept a.before a.after
-IsUndone g (Format file numbers wait) a was now fault = IsFormatFault numbers fault × AreKept a.before a.after × Keeps was now
-IsUndone g (Dump file wait) a was now fault = IsUndumped (known_in a.before (string_bytes file)) was now fault × AreLeftBy a.before a.after (string_bytes file) fault
-IsUndone g (Explain file wait) a was now fault = IsUnexplained (known_in a.before (string_bytes file)) was now fault × AreKept a.before a.after
-IsUndone g (Run s wait) a was now fault = HasNotRun s.stop s.workers a.before a.after (string_bytes s.file) (map string_bytes s.scripts.items) a.input was now fault
-IsUndone g (Show text) a was now fault = (fault ≡ Output) × AppendsFront was now (string_bytes text) × AreKept a.before a.after
+IsUndone g (Try script stop) a was now fault = IsUntried g stop
+    (source_of a.before (option_map string_bytes script) a.input) was now fault × AreKept a.before a.after
+IsUndone g (Schedule file) a was now fault = IsUnscheduled g (source_of a.before (option_map string_bytes file) a.input)
+    was now fault × AreKept a.before a.after
+IsUndone g (Check file pages wait) a was now fault =
+    IsUnchecked pages (known_in a.before (string_bytes file)) was now fault × AreKept a.before a.after
+IsUndone g (Format file numbers wait) a was now fault =
+    IsFormatFault numbers fault × AreKept a.before a.after × Keeps was now
+IsUndone g (Dump file wait) a was now fault = IsUndumped (known_in a.before (string_bytes file)) was now fault
+    × AreLeftBy a.before a.after (string_bytes file) fault
+IsUndone g (Explain file wait) a was now fault =
+    IsUnexplained (known_in a.before (string_bytes file)) was now fault × AreKept a.before a.after
+IsUndone g (Run s wait) a was now fault = HasNotRun s.stop s.workers a.before a.after (string_bytes s.file)
+    (map string_bytes s.scripts.items) a.input was now fault
+IsUndone g (Show text) a was now fault =
+    (fault ≡ Output) × AppendsFront was now (string_bytes text) × AreKept a.before a.after
 
 -- A command ended with a fault, or it was done and the output could not be flushed. The error output reports it, and
 -- what to do, or has a beginning of that.
-pub record IsGivenUp {D : Type 0} (g : Ghosts D) (command : Command) (reason : Option Reason) (a : Around) (was now old new : Option (List ℕ)) : Type 0 where
-  pub given_up : (fault : Fault) × (mid : Option (List ℕ)) × (IsUndone g command a was mid fault ⊎ (IsDone g command a was mid × (fault ≡ Output)))
+pub record IsGivenUp {D : Type 0} (g : Ghosts D) (command : Command) (reason : Option Reason) (a : Around)
+    (was now old new : Option (List ℕ)) : Type 0 where
+  pub given_up : (fault : Fault) × (mid : Option (List ℕ))
+      × (IsUndone g command a was mid fault ⊎ (IsDone g command a was mid × (fault ≡ Output)))
       × Keeps mid now × IsReportedOf command reason fault old new
 
 -- and so did the command that words name, or memory was wanting to read them
-abbrev pub IsWordsGivenUp : {D : Type 0} → Ghosts D → List (List ℕ) → Option Reason → Around → Option (List ℕ) → Option (List ℕ) → Option (List ℕ) → Option (List ℕ) → Type 0
+abbrev pub IsWordsGivenUp : {D : Type 0} → Ghosts D → List (List ℕ) → Option Reason → Around → Option (List ℕ)
+    → Option (List ℕ) → Option (List ℕ) → Option (List ℕ) → Type 0
 IsWordsGivenUp g words reason a was now old new =
     ((command : Command) × IsCommandOf words command × IsGivenUp g command reason a was now old new)
     ⊎ (Keeps was now × AppendsFront old new unread_text × AreKept a.before a.after)

@@ -84,15 +84,18 @@ abbrev pub input_behind : List ℕ → Option (List ℕ) → Option (List ℕ)
 input_behind name input = cond (is_input name) None input
 
 -- One script is read, and the input only if the name represents it.
-pub record IsReadAt (files : Files) (input : Option (List ℕ)) (name : List ℕ) (lines : List Line) (later : Option (List ℕ)) : Type 0 where
+pub record IsReadAt (files : Files) (input : Option (List ℕ)) (name : List ℕ) (lines : List Line)
+    (later : Option (List ℕ)) : Type 0 where
   pub spelled : IfSome (bytes_at files name input) (λ bs. IsScript bs lines)
   pub untouched : is_input name ≡ false → later ≡ input
 
 -- The scripts of these names are read one after the other: the bytes of each are its lines, if they are known. So
 -- much is known of the input then.
-pub data AreRead (files : Files) (input : Option (List ℕ)) : List (List ℕ) → List (List Line) → Option (List ℕ) → Type 0 where
+pub data AreRead (files : Files) (input : Option (List ℕ)) : List (List ℕ) → List (List Line)
+    → Option (List ℕ) → Type 0 where
   none_read : AreRead files input [] [] input
-  one_read : (names : List (List ℕ)) (scripts : List (List Line)) (left : Option (List ℕ)) (name : List ℕ) (lines : List Line)
+  one_read : (names : List (List ℕ)) (scripts : List (List Line)) (left : Option (List ℕ)) (name : List ℕ)
+      (lines : List Line)
       → AreRead files input names scripts left → IfSome (bytes_at files name left) (λ bs. IsScript bs lines)
       → AreRead files input (names ++ name ∷ []) (scripts ++ lines ∷ []) (input_behind name left)
 
@@ -100,7 +103,8 @@ abbrev pub HaveBeenRead : Files → Option (List ℕ) → List (List ℕ) → Li
 HaveBeenRead files input names scripts = (left : Option (List ℕ)) × AreRead files input names scripts left
 
 -- The first so many of them were read, and the next one was not, for this.
-pub record AreUnread (files : Files) (input : Option (List ℕ)) (names : List (List ℕ)) (at : ℕ) (why : ReadFault ScriptWord) : Type 0 where
+pub record AreUnread (files : Files) (input : Option (List ℕ)) (names : List (List ℕ)) (at : ℕ)
+    (why : ReadFault ScriptWord) : Type 0 where
   pub before : List (List ℕ)
   pub name : List ℕ
   pub rest : List (List ℕ)

@@ -5,9 +5,10 @@ ghost use Rattle.mt_script.specs.Answers.{AppendsFront};
 ghost use Rattle.mt_script.specs.declared.lines.Line.{Line};
 ghost use Rattle.mt_server.specs.Heard.{AreReported};
 ghost use Rattle.mt_server.specs.Serves.{IsServedOn, IsUnserved};
-ghost use Rattle.mt_alone.specs.Sessions.{lines_in};
+ghost use Rattle.mt_script.specs.Scripts.{lines_in};
 ghost use Rattle.mt_txn.specs.Shown.{is_failed};
 ghost use Rattle.mt_txn.specs.Turned.{HasNobody};
+ghost use Rattle.mt_txn.specs.Words.{kernel_book};
 ghost use Rattle.mt_cli.specs.Serves.{AreServedAtOnce, IsEndOf, IsServedAtOnce, IsUnservedAtOnce, session_text, texts_in_order};
 
 use mt_alone::write_session;
@@ -44,8 +45,8 @@ fn is_cut_off<D: Device>(kernel: &Kernel<D>) -> bool
 
 /// Takes the device out of a kernel under all sessions.
 fn left_behind<D: Device + Drop>(kernel: Kernel<D>, transcripts: Vec<Transcript>) -> Behind<D>
-    ensures { (c : List ℕ) (scripts : List (List Line)) → IsServedOn D.seen D.may_leave c kernel
-        → AreReported (is_failed kernel) scripts transcripts.items kernel.core.book.items
+    ensures { (c : List ℕ) (scripts : List (List Line)) → IsServedOn c kernel
+        → AreReported (is_failed kernel) scripts transcripts.items (kernel_book kernel)
         → AreServedAtOnce result.has_failed c scripts result.transcripts.items (D.seen result.device) }
 {
     let has_failed = is_cut_off(&kernel);

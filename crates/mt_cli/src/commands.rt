@@ -11,6 +11,7 @@ ghost use Rattle.mt_cli.specs.Reads.{source_of};
 ghost use Rattle.std.specs.Io.KnownBytes.{Appends, Keeps};
 ghost use Rattle.mt_cli.specs.declared.commands.TheConstants.{AREA_MIB, PAGES};
 ghost use Rattle.mt_base.specs.Limits.{device_bytes_of};
+ghost use Rattle.mt_script.specs.Scripts.{lines_in};
 
 use crate::named_inputs::lines_of;
 use crate::run_command::{ended, perform_run};
@@ -83,7 +84,7 @@ fn first_device(alloc: Global) -> Result<MemDevice, Refusal>
 /// A kernel with the schema that `try` has, over a device that is formatted for it, with nothing committed.
 fn kernel_over<D: Device + Drop>(alloc: Global, device: D) -> Result<Kernel<D>, Refusal>
     requires { device_bytes_of PAGES AREA_MIB ≤ length (D.seen device) }
-    ensures first { IfOk result (StandsFirst D.seen D.may_leave) }
+    ensures first { IfOk result (StandsFirst) }
     ensures unmade { IfErr result IsUnmade }
 {
     let schema = first_schema(alloc)?;
@@ -102,9 +103,9 @@ fn run_over<D: Device + Drop, O: Write>(
     out: &mut O,
 ) -> Result<(), Fault>
     requires { device_bytes_of PAGES AREA_MIB ≤ length (D.seen device) }
-    ensures tried { OnOk result (HasTried D.Device stop None script.now.lines.items
+    ensures tried { OnOk result (HasTried D.Device stop None (lines_in script.now)
         (O.contents out.old) (O.contents out.new)) }
-    ensures cut { IfErr result (IsCutTrial D.Device stop script.now.lines.items
+    ensures cut { IfErr result (IsCutTrial D.Device stop (lines_in script.now)
         (O.contents out.old) (O.contents out.new)) }
 {
     let kernel = match kernel_over(alloc, device) {
@@ -130,9 +131,9 @@ fn try_script<O: Write>(
     script: &Script,
     out: &mut O,
 ) -> Result<(), Fault>
-    ensures tried { OnOk result (HasTried ⟦<MemDevice as Device>⟧ stop None script.now.lines.items
+    ensures tried { OnOk result (HasTried ⟦<MemDevice as Device>⟧ stop None (lines_in script.now)
         (O.contents out.old) (O.contents out.new)) }
-    ensures cut { IfErr result (IsCutTrial ⟦<MemDevice as Device>⟧ stop script.now.lines.items
+    ensures cut { IfErr result (IsCutTrial ⟦<MemDevice as Device>⟧ stop (lines_in script.now)
         (O.contents out.old) (O.contents out.new)) }
 {
     match first_device(alloc) {

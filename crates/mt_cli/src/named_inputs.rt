@@ -1,7 +1,7 @@
 // Scripts and schedules, read by name. No text is read further than the longest one could go.
 ghost use Rattle.std.specs.Prelude.{◌≡◌, ◌++◌, ◌<◌, length, OnOk, false, IfErr, IfOk, IfSome, is_some, map, option_map, string_bytes, true};
 ghost use Rattle.mt_script.specs.Grammars.{AreLines};
-ghost use Rattle.mt_alone.specs.Sessions.{lines_in};
+ghost use Rattle.mt_script.specs.Scripts.{lines_in};
 ghost use Rattle.mt_folder.specs.Folders.{AreKept, IsUnmade, known_in};
 ghost use Rattle.mt_cli.specs.Reads.{AreUnreadFor, HasNoScript, HaveBeenRead, IsFront, IsReadAt, IsUnread, IsUnreadScript, bytes_at, file_in, held_by, is_fed, source_of};
 

@@ -4,7 +4,7 @@ ghost use Rattle.mt_base.specs.declared.limits.TheConstants.{MAX_SESSIONS};
 ghost use Rattle.mt_disk.specs.Disk.{Only};
 ghost use Rattle.mt_model.specs.Model.{Base};
 ghost use Rattle.mt_restart.specs.Resumed.{IsOpened};
-ghost use Rattle.mt_alone.specs.Sessions.{lines_in};
+ghost use Rattle.mt_script.specs.Scripts.{lines_in};
 ghost use Rattle.mt_cli.specs.Serves.{AreShortOn, AreUnserved, HasNotRun, HasRunScripts, HaveServedOn, IsServedIn, IsUnservedIn, ServesFrom, end_of};
 
 use crate::at_once::serve_file_at_once;
@@ -38,10 +38,10 @@ fn serve_opened<D: Device + Drop, O: Write>(
 ) -> (Result<Option<Stop>, RunFault>, D)
     requires few { length scripts.now ≤ MAX_SESSIONS }
     ensures served { IfOk result.0 (λ stopped. (relations counters : ℕ) (b : Base)
-        → IsOpened D.seen D.may_leave relations counters b kernel → HaveServedOn stop stopped relations counters b
+        → IsOpened relations counters b kernel → HaveServedOn stop stopped relations counters b
         (map lines_in scripts.now) (O.contents out.old) (O.contents out.new) (D.seen result.1)) }
     ensures short { IfErr result.0 (λ why. (relations counters : ℕ) (b : Base)
-        → IsOpened D.seen D.may_leave relations counters b kernel → AreShortOn relations counters b
+        → IsOpened relations counters b kernel → AreShortOn relations counters b
         (map lines_in scripts.now) (O.contents out.old) (O.contents out.new) (D.seen result.1) why) }
 {
     match run_sessions(alloc, kernel, frames, stop, scripts, out) {

@@ -3,7 +3,8 @@ use Rattle.std.proofs.Common.{◌≡◌, ◌≢◌, inr, ℕ, ◌<◌, ◌≤◌
 use Rattle.std.specs.Prelude.{All}
 use Rattle.std.specs.List.{sum_by}
 use Rattle.std.proofs.lemmas.Bool.{ne_eqb, or_from}
-use Rattle.mt_frame.specs.History.{some_record, ends_txn, ends_op, may_stand}
+use Rattle.mt_disk.specs.declared.device.Device.{Ghosts}
+use Rattle.mt_area_rules.specs.History.{some_record, ends_txn, ends_op, may_stand}
 use Rattle.mt_frame.specs.declared.records.Record.{Record}
 use Rattle.mt_frame.specs.declared.records.Record.TheVariants.{AbortEnd}
 use Rattle.mt_live.proofs.AddLemmas.{idle_adds}
@@ -24,7 +25,8 @@ use Rattle.mt_op.specs.declared.scope.OpScope.{OpScope}
 use Rattle.mt_pool.proofs.Logged.{no_records}
 use Rattle.mt_space.specs.Changes.{PageBytes}
 use Rattle.mt_steps.specs.Held.{Holds}
-use Rattle.mt_core.specs.Runs.{is_open, left_of}
+use Rattle.mt_core.specs.Runs.{is_open}
+use Rattle.mt_op.specs.World.{left_of}
 use Rattle.mt_core.specs.Consistent.{Origin, state_of, IsNumbered, AreReported, IsQueued, IsConsistent, IsIn}
 use Rattle.mt_core.proofs.Resting.{fit_over}
 use Rattle.mt_core.proofs.Reported.{reported_more}
@@ -47,12 +49,12 @@ none_pending b s t k idle nothing =
 pub may_end : (records : List Record) (t : ℕ) → 1 ≤ t → some_record (ends_txn t) records ≡ false → may_stand false records (AbortEnd t) ≡ true
 may_end records t some open_still = let named : (t == 0) ≡ false = ne_eqb t 0 (λ is. absurd (omega (arith, is, some))) in rw (named, open_still) refl
 
-module _ {D : Type 0} (seen : D → List ℕ) (may_leave : D → List ℕ → Type 0) (origin : Origin) (base : Base) where
+module _ {D : Type 0} (g : Ghosts D) (origin : Origin) (base : Base) where
   -- the record of the end of a transaction that is at work no more
-  pub ended_in : (k n : Core D) (t : ℕ) → IsConsistent seen may_leave origin base k → is_open (member_of k.live.members t) ≡ false → t ≤ k.live.begun → All (λ (q : OpScope). q.txn ≢ t) k.running.items
-      → IsRight seen may_leave origin.pages origin.relations origin.counters n.operations → Notes (world seen origin.pages k.operations) (world seen origin.pages n.operations) (AbortEnd t)
-      → ((u : OpScope) → IsUnderWay origin.relations origin.counters (world seen origin.pages k.operations) u → u.txn ≢ t → IsUnderWay origin.relations origin.counters (world seen origin.pages n.operations) u)
-      → claimed n.operations ≡ claimed k.operations → used n.operations.store.log + sum_by left_of k.running.items + k.reserved < area_size n.operations.store.log → IsIn seen may_leave origin base (state_of k base) (record k { operations = n.operations })
+  pub ended_in : (k n : Core D) (t : ℕ) → IsConsistent g origin base k → is_open (member_of k.live.members t) ≡ false → t ≤ k.live.begun → All (λ (q : OpScope). q.txn ≢ t) k.running.items
+      → IsRight g origin.pages origin.relations origin.counters n.operations → Notes (world g origin.pages k.operations) (world g origin.pages n.operations) (AbortEnd t)
+      → ((u : OpScope) → IsUnderWay origin.relations origin.counters (world g origin.pages k.operations) u → u.txn ≢ t → IsUnderWay origin.relations origin.counters (world g origin.pages n.operations) u)
+      → claimed n.operations ≡ claimed k.operations → used n.operations.store.log + sum_by left_of k.running.items + k.reserved < area_size n.operations.store.log → IsIn g origin base (state_of k base) (record k { operations = n.operations })
   ended_in k n t safe closed low idle right notes others same log =
       let fit = safe.fit in
       let apart : (u : ℕ) → is_open (member_of k.live.members u) ≡ true → t ≢ u = λ u h is. let here : is_open (member_of k.live.members u) ≡ false = ap (λ v. is_open (member_of k.live.members v)) (sym is) ∙ closed in absurd cc in
@@ -67,11 +69,11 @@ module _ {D : Type 0} (seen : D → List ℕ) (may_leave : D → List ℕ → Ty
       } in
       record {
         consistent = record {
-          fit = fit_over seen may_leave origin base k n fit right notes.locks
+          fit = fit_over g origin base k n fit right notes.locks
               (subst (λ (X : Type 0). X) (λ i. IsNumbered k.last k.live.begun k.live.members (sym notes.locks i) (sym notes.records i)) numbered)
               (subst (λ (X : Type 0). X) (λ i. IsQueued k.live.members (sym notes.records i) k.commits.items) (queued_records k.live.members (appended k.operations.store.log) (AbortEnd t ∷ []) k.commits.items fit.queued))
               log;
-          holds = subst (λ (p : PageBytes). Holds p base) (sym (notes_held origin.relations origin.counters (world seen origin.pages k.operations) (world seen origin.pages n.operations) t (AbortEnd t) notes (inr refl))) safe.holds;
+          holds = subst (λ (p : PageBytes). Holds p base) (sym (notes_held origin.relations origin.counters (world g origin.pages k.operations) (world g origin.pages n.operations) t (AbortEnd t) notes (inr refl))) safe.holds;
           runs = λ i d lt. let was = safe.runs i d lt in record { under = others (get_or k.running.items i d) was.under (idle i d lt); budget = was.budget; number = was.number; moving = was.moving };
           outcome = subst (AreReported k.last k.live.members) (sym notes.records) (reported_more k.last k.last k.live.members (appended k.operations.store.log) (AbortEnd t ∷ []) (omega arith) (λ u v less. refl) safe.outcome);
           claims = same ∙ safe.claims;

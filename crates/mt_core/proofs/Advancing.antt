@@ -6,9 +6,10 @@ use Rattle.std.specs.Option.{option_map}
 use Rattle.std.proofs.lemmas.List.{get_or_read, get_or-set_same, get_or-set_other, length-set}
 use Rattle.std.proofs.lemmas.List.Sums.{sum_by-set, get_or-le-sum_by}
 use Rattle.std.proofs.lemmas.Bool.{eq-eqb, cases_eq}
+use Rattle.mt_disk.specs.declared.device.Device.{Ghosts}
 use Rattle.mt_base.specs.declared.refusal.Refusal.{Refusal}
 use Rattle.mt_frame.specs.declared.records.Record.{Record}
-use Rattle.mt_frame.specs.History.{some_record, undoes_op}
+use Rattle.mt_area_rules.specs.History.{some_record, undoes_op}
 use Rattle.mt_live.specs.Entries.{Entry}
 use Rattle.mt_live.specs.Lives.{member_of, IsAbove}
 use Rattle.mt_live.specs.Machine.{State, IsKept}
@@ -35,7 +36,8 @@ use Rattle.mt_slock.specs.Views.{held_of}
 use Rattle.mt_steps.specs.Held.{Holds}
 use Rattle.mt_steps.specs.Plans.{own_needs, undo_pages}
 use Rattle.mt_live.specs.declared.transactions.TxnState.TheVariants.{Aborting}
-use Rattle.mt_core.specs.Runs.{running_in, state_in, AreApart, AreHeldBy, IsMoving, IsRunning, IsOwned, pages_of, entry_pages, left_of, kept_bytes, taken_bytes}
+use Rattle.mt_core.specs.Runs.{running_in, state_in, AreApart, AreHeldBy, IsMoving, IsRunning, IsOwned, pages_of, entry_pages, kept_bytes, taken_bytes}
+use Rattle.mt_op.specs.World.{left_of}
 use Rattle.mt_core.specs.Consistent.{Origin, state_of, IsNumbered, AreReported, IsQueued, IsFit, IsConsistent, IsAlone, IsReady, IsIn, Advances}
 use Rattle.mt_core.specs.declared.parts.Core.{Core}
 use Rattle.mt_core.proofs.Lists.{all_set, pair_at, pairs_set}
@@ -81,9 +83,9 @@ taken_same : (r q : OpScope) → IsSame r q → taken_bytes q ≡ taken_bytes r
 taken_same r q same = rw same.undoes refl
 
 -- what is known once the operation of one has made a step
-pub record HasStepped {D : Type 0} (seen : D → List ℕ) (may_leave : D → List ℕ → Type 0) (opening : PageBytes) (relations counters : ℕ) (o n : Operations D) (s t : OpScope) (r : Result Stepped Refusal) : Type 0 where
-  pub right : IsRight seen may_leave opening relations counters n
-  pub steps : Steps relations counters (world seen opening o) (world seen opening n) s t r
+pub record HasStepped {D : Type 0} (g : Ghosts D) (opening : PageBytes) (relations counters : ℕ) (o n : Operations D) (s t : OpScope) (r : Result Stepped Refusal) : Type 0 where
+  pub right : IsRight g opening relations counters n
+  pub steps : Steps relations counters (world g opening o) (world g opening n) s t r
   pub log : used n.store.log + t.left ≡ used o.store.log + s.left
   pub area : area_size n.store.log ≡ area_size o.store.log
   pub budget : HasBudget t
@@ -101,7 +103,7 @@ steps_same relations counters w z s t (Ok stepped.Flush) k = k.same
 steps_same relations counters w z s t (Ok (stepped.Ready first second)) k = k.0.same
 steps_same relations counters w z s t (Err why) k = k.same
 
-module _ {D : Type 0} (seen : D → List ℕ) (may_leave : D → List ℕ → Type 0) (origin : Origin) (base : Base) where
+module _ {D : Type 0} (g : Ghosts D) (origin : Origin) (base : Base) where
   state_moved : (k n : Core D) (place : ℕ) (r q : OpScope) → place < length k.running.items → r ≡ get_or k.running.items place r → n.running.items ≡ set k.running.items place q → IsSame r q
       → state_of k base ≡ state_of (moved k n) base
   state_moved k n place r q within there items same = λ i. record {
@@ -116,9 +118,9 @@ module _ {D : Type 0} (seen : D → List ℕ) (may_leave : D → List ℕ → Ty
   }
 
   -- the others are under way as before
-  pub others_run : (k n : Core D) (place : ℕ) (r : OpScope) → IsConsistent seen may_leave origin base k → place < length k.running.items → r ≡ get_or k.running.items place r
-      → ((u : OpScope) → IsUnderWay origin.relations origin.counters (world seen origin.pages k.operations) u → IsOther r u → IsUnderWay origin.relations origin.counters (world seen origin.pages n.operations) u)
-      → (i : ℕ) (d : OpScope) → i < length k.running.items → i ≢ place → IsRunning origin.relations origin.counters (world seen origin.pages n.operations) k.last (get_or k.running.items i d)
+  pub others_run : (k n : Core D) (place : ℕ) (r : OpScope) → IsConsistent g origin base k → place < length k.running.items → r ≡ get_or k.running.items place r
+      → ((u : OpScope) → IsUnderWay origin.relations origin.counters (world g origin.pages k.operations) u → IsOther r u → IsUnderWay origin.relations origin.counters (world g origin.pages n.operations) u)
+      → (i : ℕ) (d : OpScope) → i < length k.running.items → i ≢ place → IsRunning origin.relations origin.counters (world g origin.pages n.operations) k.last (get_or k.running.items i d)
   others_run k n place r safe within there others i d lt apart =
       let was = safe.runs i d lt in
       let other : AreApart r (get_or k.running.items i d) = subst (λ (x : OpScope). AreApart x (get_or k.running.items i d)) (sym (get_or_read k.running.items place r within there d)) (pair_at AreApart k.running.items apart_flip safe.fit.apart place i d within lt apart) in
@@ -126,13 +128,13 @@ module _ {D : Type 0} (seen : D → List ℕ) (may_leave : D → List ℕ → Ty
 
   -- what a step keeps, whatever it answers
   pub record Carried (k n : Core D) (place : ℕ) (q : OpScope) : Type 0 where
-    pub fit : IsFit seen may_leave origin base (moved k n)
+    pub fit : IsFit g origin base (moved k n)
     pub state : state_of k base ≡ state_of (moved k n) base
     pub pages : sum_by pages_of n.running.items ≡ sum_by pages_of k.running.items
     pub known : q.number ≤ k.last
 
-  pub carried : (k n : Core D) (place : ℕ) (r q : OpScope) (more : List Record) → IsConsistent seen may_leave origin base k → place < length k.running.items → r ≡ get_or k.running.items place r → n.running.items ≡ set k.running.items place q
-      → SameOp r q → used n.operations.store.log + q.left ≡ used k.operations.store.log + r.left → area_size n.operations.store.log ≡ area_size k.operations.store.log → IsRight seen may_leave origin.pages origin.relations origin.counters n.operations
+  pub carried : (k n : Core D) (place : ℕ) (r q : OpScope) (more : List Record) → IsConsistent g origin base k → place < length k.running.items → r ≡ get_or k.running.items place r → n.running.items ≡ set k.running.items place q
+      → SameOp r q → used n.operations.store.log + q.left ≡ used k.operations.store.log + r.left → area_size n.operations.store.log ≡ area_size k.operations.store.log → IsRight g origin.pages origin.relations origin.counters n.operations
       → appended n.operations.store.log ≡ appended k.operations.store.log ++ more → (q.stage ≡ Taking → (q.undoes ≡ 0) × (state_in k.live.members q.txn ≡ Some Aborting)) → (r.number ≤ k.last → IsNumbered k.last k.live.begun k.live.members n.operations.locks (appended n.operations.store.log)) → AreHeldBy k.running.items n.operations.locks → Carried k n place q
   carried k n place r q more safe within there items same_op log_now area right records taken numbered locked =
       let fit = safe.fit in
@@ -184,23 +186,23 @@ module _ {D : Type 0} (seen : D → List ℕ) (may_leave : D → List ℕ → Ty
       }
 
   -- the records had each call, and none of those more is an inverse
-  pub reported_on : (k n : Core D) → IsConsistent seen may_leave origin base k → (a : AddsNoInverse (appended k.operations.store.log) (appended n.operations.store.log)) → AreReported k.last k.live.members (appended n.operations.store.log)
+  pub reported_on : (k n : Core D) → IsConsistent g origin base k → (a : AddsNoInverse (appended k.operations.store.log) (appended n.operations.store.log)) → AreReported k.last k.live.members (appended n.operations.store.log)
   reported_on k n safe a = subst (AreReported k.last k.live.members) (sym a.is) (reported_more k.last k.last k.live.members (appended k.operations.store.log) a.more (omega arith) (λ t m low. a.none t m) safe.outcome)
 
-  goes_in : (k n : Core D) (place : ℕ) (r q : OpScope) (res : Result Stepped Refusal) → IsConsistent seen may_leave origin base k → place < length k.running.items → r ≡ get_or k.running.items place r → n.running.items ≡ set k.running.items place q
-      → HasStepped seen may_leave origin.pages origin.relations origin.counters k.operations n.operations r q res → Goes origin.relations origin.counters (world seen origin.pages k.operations) (world seen origin.pages n.operations) r q
-      → IsGoing q.stage → claimed n.operations ≡ claimed k.operations → AddsNoInverse (appended k.operations.store.log) (appended n.operations.store.log) → IsIn seen may_leave origin base (state_of k base) (moved k n)
-  goes_in k n place r q res safe within there items h g going claims adds =
-      let c = carried k n place r q adds.more safe within there items g.same h.log h.area h.right adds.is (λ is. absurd (going_stays q.stage going is)) (λ known. numbered_step k.last k.live.begun k.live.members k.operations.rooms origin.relations origin.counters (world seen origin.pages k.operations) (world seen origin.pages n.operations) r q res known h.steps h.locks h.records safe.fit.numbered)
+  goes_in : (k n : Core D) (place : ℕ) (r q : OpScope) (res : Result Stepped Refusal) → IsConsistent g origin base k → place < length k.running.items → r ≡ get_or k.running.items place r → n.running.items ≡ set k.running.items place q
+      → HasStepped g origin.pages origin.relations origin.counters k.operations n.operations r q res → Goes origin.relations origin.counters (world g origin.pages k.operations) (world g origin.pages n.operations) r q
+      → IsGoing q.stage → claimed n.operations ≡ claimed k.operations → AddsNoInverse (appended k.operations.store.log) (appended n.operations.store.log) → IsIn g origin base (state_of k base) (moved k n)
+  goes_in k n place r q res safe within there items h goes going claims adds =
+      let c = carried k n place r q adds.more safe within there items goes.same h.log h.area h.right adds.is (λ is. absurd (going_stays q.stage going is)) (λ known. numbered_step k.last k.live.begun k.live.members k.operations.rooms origin.relations origin.counters (world g origin.pages k.operations) (world g origin.pages n.operations) r q res known h.steps h.locks h.records safe.fit.numbered)
       (held_step k.running.items r.number (IsNext k.operations.rooms k.operations.locks r) k.operations.locks n.operations.locks res (way_at k.running.items place r within there) h.locks safe.fit.locked) in
-      let own : IsRunning origin.relations origin.counters (world seen origin.pages n.operations) k.last q = record { under = g.own; budget = h.budget; number = c.known; moving = going_moves q.stage going } in
+      let own : IsRunning origin.relations origin.counters (world g origin.pages n.operations) k.last q = record { under = goes.own; budget = h.budget; number = c.known; moving = going_moves q.stage going } in
       let pages = c.pages in let claims_was = safe.claims in
       record {
         consistent = record {
           fit = c.fit;
-          holds = subst (λ (p : PageBytes). Holds p base) (sym g.held) safe.holds;
-          runs = subst (All (IsRunning origin.relations origin.counters (world seen origin.pages n.operations) k.last)) (sym items)
-              (all_set (IsRunning origin.relations origin.counters (world seen origin.pages n.operations) k.last) k.running.items place q within own (others_run k n place r safe within there g.others));
+          holds = subst (λ (p : PageBytes). Holds p base) (sym goes.held) safe.holds;
+          runs = subst (All (IsRunning origin.relations origin.counters (world g origin.pages n.operations) k.last)) (sym items)
+              (all_set (IsRunning origin.relations origin.counters (world g origin.pages n.operations) k.last) k.running.items place q within own (others_run k n place r safe within there goes.others));
           outcome = reported_on k n safe adds;
           claims = omega arith;
         };
@@ -208,8 +210,8 @@ module _ {D : Type 0} (seen : D → List ℕ) (may_leave : D → List ℕ → Ty
       }
 
   -- the operation at a place has come to a stage, and the others are under way
-  pub alone_at : (k n : Core D) (place : ℕ) (r q : OpScope) (stage : Stage) → place < length k.running.items → n.running.items ≡ set k.running.items place q → IsUnderWay origin.relations origin.counters (world seen origin.pages n.operations) q → q.stage ≡ stage → q.number ≤ k.last
-      → ((i : ℕ) (d : OpScope) → i < length k.running.items → i ≢ place → IsRunning origin.relations origin.counters (world seen origin.pages n.operations) k.last (get_or k.running.items i d)) → IsAlone seen origin (moved k n) place q stage
+  pub alone_at : (k n : Core D) (place : ℕ) (r q : OpScope) (stage : Stage) → place < length k.running.items → n.running.items ≡ set k.running.items place q → IsUnderWay origin.relations origin.counters (world g origin.pages n.operations) q → q.stage ≡ stage → q.number ≤ k.last
+      → ((i : ℕ) (d : OpScope) → i < length k.running.items → i ≢ place → IsRunning origin.relations origin.counters (world g origin.pages n.operations) k.last (get_or k.running.items i d)) → IsAlone g origin (moved k n) place q stage
   alone_at k n place r q stage within items own is known others = record {
     within = subst (λ (rs : List OpScope). place < length rs) (sym items) (let len = length-set k.running.items place q in omega arith);
     there = sym (ap (λ (rs : List OpScope). get_or rs place q) items ∙ get_or-set_same k.running.items place q q within);
@@ -218,40 +220,40 @@ module _ {D : Type 0} (seen : D → List ℕ) (may_leave : D → List ℕ → Ty
     known = known;
     others = λ i d lt apart.
         let less : i < length k.running.items = let len = length-set k.running.items place q in let sizes = ap (λ (rs : List OpScope). length rs) items in omega arith in
-        subst (IsRunning origin.relations origin.counters (world seen origin.pages n.operations) k.last) (sym (ap (λ (rs : List OpScope). get_or rs i d) items ∙ get_or-set_other k.running.items place i q d apart)) (others i d less apart);
+        subst (IsRunning origin.relations origin.counters (world g origin.pages n.operations) k.last) (sym (ap (λ (rs : List OpScope). get_or rs i d) items ∙ get_or-set_other k.running.items place i q d apart)) (others i d less apart);
   }
 
-  is_ready : (k n : Core D) (place : ℕ) (r q : OpScope) (first second : Reply) → IsConsistent seen may_leave origin base k → place < length k.running.items → r ≡ get_or k.running.items place r → n.running.items ≡ set k.running.items place q
-      → HasStepped seen may_leave origin.pages origin.relations origin.counters k.operations n.operations r q (Ok (stepped.Ready first second)) → IsReady seen may_leave origin base (moved k n) place q first × (state_of k base ≡ state_of (moved k n) base)
+  is_ready : (k n : Core D) (place : ℕ) (r q : OpScope) (first second : Reply) → IsConsistent g origin base k → place < length k.running.items → r ≡ get_or k.running.items place r → n.running.items ≡ set k.running.items place q
+      → HasStepped g origin.pages origin.relations origin.counters k.operations n.operations r q (Ok (stepped.Ready first second)) → IsReady g origin base (moved k n) place q first × (state_of k base ≡ state_of (moved k n) base)
   is_ready k n place r q first second safe within there items h =
       let a = h.steps.0 in
       let same = a.same in
       let ended : appended n.operations.store.log ≡ appended k.operations.store.log ++ end_of r first = a.ended in
-      let c = carried k n place r q (end_of r first) safe within there items same h.log h.area h.right ended (λ is. absurd (let ready = h.stage in cc)) (λ known. numbered_step k.last k.live.begun k.live.members k.operations.rooms origin.relations origin.counters (world seen origin.pages k.operations) (world seen origin.pages n.operations) r q (Ok (stepped.Ready first second)) known h.steps h.locks h.records safe.fit.numbered)
+      let c = carried k n place r q (end_of r first) safe within there items same h.log h.area h.right ended (λ is. absurd (let ready = h.stage in cc)) (λ known. numbered_step k.last k.live.begun k.live.members k.operations.rooms origin.relations origin.counters (world g origin.pages k.operations) (world g origin.pages n.operations) r q (Ok (stepped.Ready first second)) known h.steps h.locks h.records safe.fit.numbered)
       (subst (AreHeldBy k.running.items) (sym h.locks) safe.fit.locked) in
       let pages = c.pages in let claims_was = safe.claims in let back = h.claims in
       let needs : own_needs q.op q.split ≡ own_needs r.op r.split = λ i. own_needs (same.op i) (same.split i) in
-      let was : IsRunning origin.relations origin.counters (world seen origin.pages k.operations) k.last r = subst (IsRunning origin.relations origin.counters (world seen origin.pages k.operations) k.last) (sym there) (safe.runs place r within) in
+      let was : IsRunning origin.relations origin.counters (world g origin.pages k.operations) k.last r = subst (IsRunning origin.relations origin.counters (world g origin.pages k.operations) k.last) (sym there) (safe.runs place r within) in
       let end_same : end_of r first ≡ end_of q first = (λ i. end_with (sym same.txn i) (sym same.number i) (sym same.undoes i) (logged_of (sym same.op i) first)) in (
         record {
           fit = c.fit;
           alone = alone_at k n place r q Ready within items a.own h.stage c.known (others_run k n place r safe within there a.others);
-          holds = subst (λ (o : Op). Holds (held_in (world seen origin.pages n.operations)) (base_after base o)) (sym same.op) (a.base base safe.holds);
+          holds = subst (λ (o : Op). Holds (held_in (world g origin.pages n.operations)) (base_after base o)) (sym same.op) (a.base base safe.holds);
           replies = ap (reply_of base) same.op ∙ a.replies base safe.holds;
           small = a.small;
           outcome = record {
             was = appended k.operations.store.log;
             ended = ended ∙ ap (λ (rs : List Record). appended k.operations.store.log ++ rs) end_same;
             outcome = safe.outcome;
-            standing = λ fore. (λ i. some_record (undoes_op (same.txn i) (same.number i)) (appended k.operations.store.log)) ∙ none_undone origin.relations origin.counters seen may_leave origin.pages k.operations r safe.fit.right was.under was.moving;
+            standing = λ fore. (λ i. some_record (undoes_op (same.txn i) (same.number i)) (appended k.operations.store.log)) ∙ none_undone origin.relations origin.counters g origin.pages k.operations r safe.fit.right was.under was.moving;
           };
           claims = omega arith;
         },
         c.state,
       )
 
-  pub advanced : (k n : Core D) (place : ℕ) (r q : OpScope) (res : Result Stepped Refusal) → place < length k.running.items → r ≡ get_or k.running.items place r → n.running.items ≡ set k.running.items place q → IsConsistent seen may_leave origin base k
-      → HasStepped seen may_leave origin.pages origin.relations origin.counters k.operations n.operations r q res → Advances seen may_leave origin base (state_of k base) (moved k n) place res
+  pub advanced : (k n : Core D) (place : ℕ) (r q : OpScope) (res : Result Stepped Refusal) → place < length k.running.items → r ≡ get_or k.running.items place r → n.running.items ≡ set k.running.items place q → IsConsistent g origin base k
+      → HasStepped g origin.pages origin.relations origin.counters k.operations n.operations r q res → Advances g origin base (state_of k base) (moved k n) place res
   advanced k n place r q (Ok stepped.Went) within there items safe h = goes_in k n place r q (Ok stepped.Went) safe within there items h h.steps h.stage h.claims (adds_pages q (appended k.operations.store.log) (appended n.operations.store.log) h.records)
   advanced k n place r q (Ok (stepped.Wait holder)) within there items safe h = goes_in k n place r q (Ok (stepped.Wait holder)) safe within there items h h.steps h.stage h.claims (adds_none (appended k.operations.store.log) (appended n.operations.store.log) h.records)
   advanced k n place r q (Ok (stepped.Again holder)) within there items safe h = goes_in k n place r q (Ok (stepped.Again holder)) safe within there items h h.steps h.stage h.claims (adds_none (appended k.operations.store.log) (appended n.operations.store.log) h.records)
@@ -260,14 +262,14 @@ module _ {D : Type 0} (seen : D → List ℕ) (may_leave : D → List ℕ → Ty
       let ready = is_ready k n place r q first second safe within there items h in (
         (λ x is.
             let here : q ≡ x = sym (is ∙ ap (λ (rs : List OpScope). get_or rs place x) items ∙ get_or-set_same k.running.items place q x within) in
-            subst (λ (y : OpScope). IsReady seen may_leave origin base (moved k n) place y first) here ready.0),
+            subst (λ (y : OpScope). IsReady g origin base (moved k n) place y first) here ready.0),
         h.steps.1,
         ready.1,
       )
   advanced k n place r q (Err why) within there items safe h = goes_in k n place r q (Err why) safe within there items h h.steps h.stage h.claims (adds_none (appended k.operations.store.log) (appended n.operations.store.log) h.records)
 
   -- what the operation's step asks for is claimed
-  pub needs_claimed : (k : Core D) (place : ℕ) (r : OpScope) → IsConsistent seen may_leave origin base k → place < length k.running.items → r ≡ get_or k.running.items place r → own_needs r.op r.split ≤ claimed k.operations
+  pub needs_claimed : (k : Core D) (place : ℕ) (r : OpScope) → IsConsistent g origin base k → place < length k.running.items → r ≡ get_or k.running.items place r → own_needs r.op r.split ≤ claimed k.operations
   needs_claimed k place r safe within there =
       let owned : IsOwned k.live.members k.live.standing r = subst (IsOwned k.live.members k.live.standing) (sym there) (safe.fit.owned place r within) in
       let part = get_or-le-sum_by pages_of k.running.items place r within in
@@ -288,7 +290,7 @@ module _ {D : Type 0} (seen : D → List ℕ) (may_leave : D → List ℕ → Ty
       omega arith) (cases_eq r.undoes 0)
 
   -- an operation that is not ready yet
-  pub not_ready : (s : State) (z : Core D) (place : ℕ) (res : Result Stepped Refusal) → ((first second : Reply) → res ≡ Ok (stepped.Ready first second) → ⊥) → Advances seen may_leave origin base s z place res → IsIn seen may_leave origin base s z
+  pub not_ready : (s : State) (z : Core D) (place : ℕ) (res : Result Stepped Refusal) → ((first second : Reply) → res ≡ Ok (stepped.Ready first second) → ⊥) → Advances g origin base s z place res → IsIn g origin base s z
   not_ready s z place (Ok (stepped.Ready first second)) not a = absurd (not first second refl)
   not_ready s z place (Ok stepped.Went) not a = a
   not_ready s z place (Ok (stepped.Wait holder)) not a = a

@@ -3,7 +3,8 @@ use Rattle.std.proofs.Common.{◌≡◌, ℕ, ◌<◌, ◌+◌, ◌^◌, ◌==�
 use Rattle.std.specs.Prelude.{All, is_some}
 use Rattle.std.specs.Option.{option_map}
 use Rattle.std.proofs.lemmas.Bool.{eq-eqb, eqb-true}
-use Rattle.mt_frame.specs.History.{some_record, ends_txn}
+use Rattle.mt_disk.specs.declared.device.Device.{Ghosts}
+use Rattle.mt_area_rules.specs.History.{some_record, ends_txn}
 use Rattle.mt_frame.specs.declared.records.Record.{Record}
 use Rattle.mt_live.proofs.Keeping.{kept_begun}
 use Rattle.mt_live.specs.Lives.{member_of, has_room, IsChanged, IsAbove}
@@ -18,7 +19,8 @@ use Rattle.mt_log.specs.Words.{appended, used, area_size}
 use Rattle.mt_model.specs.Model.{Base}
 use Rattle.mt_slock.specs.Views.{held_of}
 use Rattle.mt_live.specs.declared.transactions.TxnState.TheVariants.{Open, Committing, Aborting}
-use Rattle.mt_core.specs.Runs.{running_in, IsOwned, is_at_work, is_open, entry_pages, entry_bytes, left_of}
+use Rattle.mt_core.specs.Runs.{running_in, IsOwned, is_at_work, is_open, entry_pages, entry_bytes}
+use Rattle.mt_op.specs.World.{left_of}
 use Rattle.mt_core.specs.Consistent.{Origin, state_of, state_in, AreLeft, IsNumbered, IsReported, IsWithinSchema, IsConsistent, IsIn}
 use Rattle.mt_core.specs.declared.parts.Core.{Core}
 use Rattle.mt_op.specs.declared.scope.OpScope.{OpScope}
@@ -85,11 +87,11 @@ changed_above f old new t u number same changed above = subst (IsAbove number) (
     go true is = mapped (member_of old t) (subst (λ (v : ℕ). IsAbove number (member_of old v)) (eqb-true u t is) above)
     go false is = above
 
-module _ {D : Type 0} (seen : D → List ℕ) (may_leave : D → List ℕ → Type 0) (origin : Origin) (base : Base) where
-  pub begun_in : (k n : Core D) (t session : ℕ) → IsConsistent seen may_leave origin base k → k.live.begun < 2 ^ 40 → t ≡ k.live.begun + 1 → n.live.begun ≡ k.live.begun + 1 → member_of k.live.members t ≡ None
+module _ {D : Type 0} (g : Ghosts D) (origin : Origin) (base : Base) where
+  pub begun_in : (k n : Core D) (t session : ℕ) → IsConsistent g origin base k → k.live.begun < 2 ^ 40 → t ≡ k.live.begun + 1 → n.live.begun ≡ k.live.begun + 1 → member_of k.live.members t ≡ None
       → ((u : ℕ) → member_of n.live.members u ≡ put (member_of k.live.members) t (Some (members.fresh t session)) u) → n.live.standing ≡ k.live.standing → length n.live.members ≡ length k.live.members + 1
       → n.reserved ≡ k.reserved + 128 → used k.operations.store.log + sum_by left_of k.running.items + n.reserved < area_size k.operations.store.log
-      → IsIn seen may_leave origin base (begun (state_of k base) session) (record k { live = n.live; reserved = n.reserved })
+      → IsIn g origin base (begun (state_of k base) session) (record k { live = n.live; reserved = n.reserved })
   begun_in k n t session safe few number more none new standing count reserved log =
       let fit = safe.fit in
       let z : Core D = record k { live = n.live; reserved = n.reserved } in
@@ -159,11 +161,11 @@ module _ {D : Type 0} (seen : D → List ℕ) (may_leave : D → List ℕ → Ty
       stated u false is h = let here : option_map (λ (m : Member). m.state) (put (member_of k.live.members) t (Some (members.fresh t session)) u) ≡ state_in k.live.members u = rw is refl in sym here ∙ sym (ap (option_map (λ (m : Member). m.state)) (new u)) ∙ h
 
   -- one that is changed, stays at work and keeps its calls, with what it has of room or more
-  pub changed_in : (k n : Core D) (t : ℕ) (f : Member → Member) → IsConsistent seen may_leave origin base k → IsChanged k.live.members n.live.members t f → n.live.begun ≡ k.live.begun → n.live.standing ≡ k.live.standing → length n.live.members ≡ length k.live.members
+  pub changed_in : (k n : Core D) (t : ℕ) (f : Member → Member) → IsConsistent g origin base k → IsChanged k.live.members n.live.members t f → n.live.begun ≡ k.live.begun → n.live.standing ≡ k.live.standing → length n.live.members ≡ length k.live.members
       → ((m : Member) → (f m).session ≡ m.session) → ((last : ℕ) (records : List Record) (m : Member) → IsReported last records t m → IsReported last records t (f m)) → ((m : Member) → last_operation (Some (f m)) ≡ last_operation (Some m)) → ((m : Member) → (f m).operations ≡ m.operations)
       → ((u : ℕ) → is_open (member_of n.live.members u) ≡ is_open (member_of k.live.members u)) → ((u : ℕ) → has_room (member_of k.live.members u) ≡ true → has_room (member_of n.live.members u) ≡ true)
       → ((u : ℕ) → state_in k.live.members u ≡ Some Committing → state_in n.live.members u ≡ Some Committing) → ((u : ℕ) → state_in n.live.members u ≡ Some Committing → state_in k.live.members u ≡ Some Committing) → ((u : ℕ) → state_in k.live.members u ≡ Some Aborting → state_in n.live.members u ≡ Some Aborting)
-      → IsIn seen may_leave origin base (state_of k base) (record k { live = n.live })
+      → IsIn g origin base (state_of k base) (record k { live = n.live })
   changed_in k n t f safe changed begun_same standing count session outcome last_same same_operations open_same roomy states stated aborting =
       let fit = safe.fit in
       let z : Core D = record k { live = n.live } in
@@ -221,8 +223,8 @@ module _ {D : Type 0} (seen : D → List ℕ) (may_leave : D → List ℕ → Ty
       }
 
   -- there is room for the end of one more of its operations
-  pub roomed_in : (k n : Core D) (t : ℕ) → IsConsistent seen may_leave origin base k → IsChanged k.live.members n.live.members t members.with_room → n.live.begun ≡ k.live.begun → n.live.standing ≡ k.live.standing → length n.live.members ≡ length k.live.members
-      → IsIn seen may_leave origin base (state_of k base) (record k { live = n.live })
+  pub roomed_in : (k n : Core D) (t : ℕ) → IsConsistent g origin base k → IsChanged k.live.members n.live.members t members.with_room → n.live.begun ≡ k.live.begun → n.live.standing ≡ k.live.standing → length n.live.members ≡ length k.live.members
+      → IsIn g origin base (state_of k base) (record k { live = n.live })
   roomed_in k n t safe changed begun_same standing count =
       let states : (u : ℕ) → state_in n.live.members u ≡ state_in k.live.members u = changed_keeps (option_map (λ (m : Member). m.state)) members.with_room k.live.members n.live.members t (λ m. refl) changed in
       changed_in k n t members.with_room safe changed begun_same standing count (λ m. refl) (λ last records m outcome. record { many = outcome.many; numbers = outcome.numbers; rising = outcome.rising; due = outcome.due }) (λ m. refl) (λ m. refl)

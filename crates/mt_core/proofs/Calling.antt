@@ -6,6 +6,7 @@ use Rattle.std.specs.Option.{option_map}
 use Rattle.std.proofs.lemmas.Bool.{eq-eqb, cases_lt, cases_eq}
 use Rattle.std.proofs.lemmas.List.Elements.{All-push, All-weaker}
 use Rattle.std.proofs.lemmas.List.Quantifiers.{all_pairs_push}
+use Rattle.mt_disk.specs.declared.device.Device.{Ghosts}
 use Rattle.mt_escrow.specs.Seen.{Escrowed}
 use Rattle.mt_frame.specs.Grammar.{IsTxn}
 use Rattle.mt_live.proofs.Keeping.{kept_called}
@@ -32,7 +33,8 @@ use Rattle.mt_space.specs.Changes.{PageBytes}
 use Rattle.mt_slock.specs.declared.holders.Holder.{Holder}
 use Rattle.mt_steps.specs.Held.{Holds}
 use Rattle.mt_steps.specs.Plans.{own_needs, undo_pages}
-use Rattle.mt_core.specs.Runs.{running_in, AreApart, AreHeldBy, IsRunning, IsOwned, is_open, undo_bytes, pages_of, left_of, kept_bytes, taken_bytes}
+use Rattle.mt_core.specs.Runs.{running_in, AreApart, AreHeldBy, IsRunning, IsOwned, is_open, undo_bytes, pages_of, kept_bytes, taken_bytes}
+use Rattle.mt_op.specs.World.{left_of}
 use Rattle.mt_core.specs.Consistent.{Origin, state_of, IsNumbered, AreReported, IsQueued, IsFit, IsConsistent, IsGranted, IsIn}
 use Rattle.mt_core.specs.declared.parts.Core.{Core}
 use Rattle.mt_core.proofs.Underway.{runs_none, running_push}
@@ -49,12 +51,12 @@ mapped_some None is = absurd cc
 mapped_some (Some m) is = refl
 
 -- what begin_op, and the claim before it, say
-pub record HasBegun {D : Type 0} (seen : D → List ℕ) (may_leave : D → List ℕ → Type 0) (opening : PageBytes) (relations counters : ℕ) (o n : Operations D) (txn number : ℕ) (op : Op) (split : Bool) (s : OpScope) : Type 0 where
-  pub right : IsRight seen may_leave opening relations counters n
+pub record HasBegun {D : Type 0} (g : Ghosts D) (opening : PageBytes) (relations counters : ℕ) (o n : Operations D) (txn number : ℕ) (op : Op) (split : Bool) (s : OpScope) : Type 0 where
+  pub right : IsRight g opening relations counters n
   pub store : n.store ≡ o.store
   pub locks : n.locks ≡ o.locks
   pub claims : claimed n ≡ claimed o + (own_needs op split + undo_pages op)
-  pub under : IsUnderWay relations counters (world seen opening n) s
+  pub under : IsUnderWay relations counters (world g opening n) s
   pub budget : HasBudget s
   pub is_txn : s.txn ≡ txn
   pub is_number : s.number ≡ number
@@ -88,14 +90,14 @@ needs_few (Delete r k) split = omega arith
 needs_few (Add c d) split = omega arith
 needs_few (Read c) split = omega arith
 
-module _ {D : Type 0} (seen : D → List ℕ) (may_leave : D → List ℕ → Type 0) (origin : Origin) (base : Base) where
+module _ {D : Type 0} (g : Ghosts D) (origin : Origin) (base : Base) where
   -- a transaction that is open has a number that was given
-  pub txn_low : (k : Core D) (t : ℕ) → IsFit seen may_leave origin base k → is_open (member_of k.live.members t) ≡ true → t ≤ k.live.begun
+  pub txn_low : (k : Core D) (t : ℕ) → IsFit g origin base k → is_open (member_of k.live.members t) ≡ true → t ≤ k.live.begun
   txn_low k t fit at_work =
       let live = mapped_some (member_of k.live.members t) (open_some (member_of k.live.members t) at_work) in
       ⊎_elim (λ (less : t < k.live.begun + 1). omega arith) (λ (above : k.live.begun + 1 ≤ t). absurd (fit.kept.owned.fresh t above live)) (cases_lt t (k.live.begun + 1))
 
-  pub txn_named : (k : Core D) (t : ℕ) → IsFit seen may_leave origin base k → is_open (member_of k.live.members t) ≡ true → IsTxn t
+  pub txn_named : (k : Core D) (t : ℕ) → IsFit g origin base k → is_open (member_of k.live.members t) ≡ true → IsTxn t
   txn_named k t fit at_work =
       let there = open_some (member_of k.live.members t) at_work in
       let few = fit.numbered.few_transactions in
@@ -106,19 +108,19 @@ module _ {D : Type 0} (seen : D → List ℕ) (may_leave : D → List ℕ → Ty
       low u there = ⊎_elim (λ (zero_is : u ≡ 0). let none : is_some (member_of k.live.members u) ≡ false = ap (λ v. is_some (member_of k.live.members v)) zero_is ∙ fit.numbered.nobody in absurd cc) (λ (some : u ≡ 0 → ⊥). omega arith) (cases_eq u 0)
 
   -- the number that comes next is fresh
-  pub next_fresh : (k : Core D) (t n : ℕ) → IsFit seen may_leave origin base k → is_open (member_of k.live.members t) ≡ true → k.last < n → IsFresh (world seen origin.pages k.operations) t n 0
-  next_fresh k t n fit at_work above = fresh k.last k.live.begun k.live.members origin.relations origin.counters (world seen origin.pages k.operations) t n fit.right.sound above at_work fit.numbered
+  pub next_fresh : (k : Core D) (t n : ℕ) → IsFit g origin base k → is_open (member_of k.live.members t) ≡ true → k.last < n → IsFresh (world g origin.pages k.operations) t n 0
+  next_fresh k t n fit at_work above = fresh k.last k.live.begun k.live.members origin.relations origin.counters (world g origin.pages k.operations) t n fit.right.sound above at_work fit.numbered
 
-  pub called_in : (was : List (Object × List Holder)) (escrow : Escrowed) (k n : Core D) (t : ℕ) (op : Op) (split : Bool) (r : OpScope) → IsGranted seen may_leave origin base was escrow k t op → n.running.items ≡ k.running.items ++ r ∷ []
-      → HasBegun seen may_leave origin.pages origin.relations origin.counters k.operations n.operations t (k.last + 1) op split r → k.last < 2 ^ 40 → n.reserved ≡ k.reserved + undo_bytes op
+  pub called_in : (was : List (Object × List Holder)) (escrow : Escrowed) (k n : Core D) (t : ℕ) (op : Op) (split : Bool) (r : OpScope) → IsGranted g origin base was escrow k t op → n.running.items ≡ k.running.items ++ r ∷ []
+      → HasBegun g origin.pages origin.relations origin.counters k.operations n.operations t (k.last + 1) op split r → k.last < 2 ^ 40 → n.reserved ≡ k.reserved + undo_bytes op
       → used k.operations.store.log + sum_by left_of k.running.items + r.left + n.reserved < area_size k.operations.store.log
-      → IsIn seen may_leave origin base (called (state_of (record k { locks = was; escrow = escrow }) base) t op) (record k { operations = n.operations; running = n.running; last = k.last + 1; reserved = n.reserved })
-  called_in was escrow k n t op split r g items h few reserved log =
-      let safe = g.was in let fit = safe.fit in let may_run = g.may in
+      → IsIn g origin base (called (state_of (record k { locks = was; escrow = escrow }) base) t op) (record k { operations = n.operations; running = n.running; last = k.last + 1; reserved = n.reserved })
+  called_in was escrow k n t op split r granted items h few reserved log =
+      let safe = granted.was in let fit = safe.fit in let may_run = granted.may in
       let z : Core D = record k { operations = n.operations; running = n.running; last = k.last + 1; reserved = n.reserved } in
       let s : State = state_of (record k { locks = was; escrow = escrow }) base in
       let none : running_in k.running.items t ≡ None = runs_none k.running.items t may_run.idle in
-      let may : MayCall origin.first s t op = record { live = mapped_some (member_of k.live.members t) (open_some (member_of k.live.members t) may_run.at_work); idle = none; free = g.free; admitted = g.admitted } in
+      let may : MayCall origin.first s t op = record { live = mapped_some (member_of k.live.members t) (open_some (member_of k.live.members t) may_run.at_work); idle = none; free = granted.free; admitted = granted.admitted } in
       let none_r : running_in k.running.items r.txn ≡ None = ap (running_in k.running.items) h.is_txn ∙ none in
       let runs : (u : ℕ) → put (running_in k.running.items) t (Some op) u ≡ running_in n.running.items u =
       λ u. (λ i. put (running_in k.running.items) (sym h.is_txn i) (Some (sym h.is_op i)) u) ∙ sym (running_push k.running.items r h.is_undoes none_r u) ∙ ap (λ (rs : List OpScope). running_in rs u) (sym items) in
@@ -128,14 +130,14 @@ module _ {D : Type 0} (seen : D → List ℕ) (may_leave : D → List ℕ → Ty
         next = k.live.begun + 1;
         standing = k.live.standing;
         running = λ u. runs u i;
-        held = sym g.locked i;
-        pending = sym g.more i;
+        held = sym granted.locked i;
+        pending = sym granted.more i;
         base = base;
       } in
-      let w_same : world seen origin.pages k.operations ≡ world seen origin.pages n.operations = world_same seen k.operations n.operations origin.pages h.store h.locks in
-      let still : All (IsRunning origin.relations origin.counters (world seen origin.pages n.operations) (k.last + 1)) k.running.items =
+      let w_same : world g origin.pages k.operations ≡ world g origin.pages n.operations = world_same g k.operations n.operations origin.pages h.store h.locks in
+      let still : All (IsRunning origin.relations origin.counters (world g origin.pages n.operations) (k.last + 1)) k.running.items =
       λ i d lt. let was = safe.runs i d lt in record { under = subst (λ (w : World). IsUnderWay origin.relations origin.counters w (get_or k.running.items i d)) w_same was.under; budget = was.budget; number = let low = was.number in omega arith; moving = was.moving } in
-      let mine : IsRunning origin.relations origin.counters (world seen origin.pages n.operations) (k.last + 1) r = record { under = h.under; budget = h.budget; number = let is = h.is_number in omega arith; moving = inl h.planning } in
+      let mine : IsRunning origin.relations origin.counters (world g origin.pages n.operations) (k.last + 1) r = record { under = h.under; budget = h.budget; number = let is = h.is_number in omega arith; moving = inl h.planning } in
       let own : IsOwned k.live.members k.live.standing r = record {
         at_work = rw h.is_txn may_run.at_work;
         room = λ fore. rw h.is_txn may_run.room;
@@ -173,10 +175,10 @@ module _ {D : Type 0} (seen : D → List ℕ) (may_leave : D → List ℕ → Ty
             numbers = let small = area_small k.operations.store.log in omega (arith, small, less, few);
             queued = subst (λ (X : Type 0). X) (λ i. IsQueued k.live.members (appended (sym h.store i).log) k.commits.items) fit.queued;
             booked = fit.booked;
-            escrowed = record { all = ap length g.committed ∙ fit.escrowed.all; counts = λ c lt. ap (λ (cs : List Count). count_at cs c) g.committed ∙ fit.escrowed.counts c lt };
+            escrowed = record { all = ap length granted.committed ∙ fit.escrowed.all; counts = λ c lt. ap (λ (cs : List Count). count_at cs c) granted.committed ∙ fit.escrowed.counts c lt };
           };
           holds = subst (λ (w : World). Holds (held_in w) base) w_same safe.holds;
-          runs = subst (All (IsRunning origin.relations origin.counters (world seen origin.pages n.operations) (k.last + 1))) (sym items) (All-push (IsRunning origin.relations origin.counters (world seen origin.pages n.operations) (k.last + 1)) k.running.items r still mine);
+          runs = subst (All (IsRunning origin.relations origin.counters (world g origin.pages n.operations) (k.last + 1))) (sym items) (All-push (IsRunning origin.relations origin.counters (world g origin.pages n.operations) (k.last + 1)) k.running.items r still mine);
           outcome = reported_last k.last (k.last + 1) k.live.members (appended n.operations.store.log) (omega arith) (subst (λ (X : Type 0). X) (λ i. AreReported k.last k.live.members (appended (sym h.store i).log)) safe.outcome);
           claims = omega arith;
         };
@@ -184,11 +186,11 @@ module _ {D : Type 0} (seen : D → List ℕ) (may_leave : D → List ℕ → Ty
       }
 
   -- nothing but room for claims has changed of the operations, and as much is claimed
-  pub claims_consistent : (k n : Core D) → IsConsistent seen may_leave origin base k → IsRight seen may_leave origin.pages origin.relations origin.counters n.operations → n.operations.store ≡ k.operations.store → n.operations.locks ≡ k.operations.locks → claimed n.operations ≡ claimed k.operations
-      → IsConsistent seen may_leave origin base (record k { operations = n.operations })
+  pub claims_consistent : (k n : Core D) → IsConsistent g origin base k → IsRight g origin.pages origin.relations origin.counters n.operations → n.operations.store ≡ k.operations.store → n.operations.locks ≡ k.operations.locks → claimed n.operations ≡ claimed k.operations
+      → IsConsistent g origin base (record k { operations = n.operations })
   claims_consistent k n safe right store locks same =
       let fit = safe.fit in
-      let w_same : world seen origin.pages k.operations ≡ world seen origin.pages n.operations = world_same seen k.operations n.operations origin.pages store locks in
+      let w_same : world g origin.pages k.operations ≡ world g origin.pages n.operations = world_same g k.operations n.operations origin.pages store locks in
       let claims = safe.claims in
       record {
         fit = record {
@@ -213,14 +215,14 @@ module _ {D : Type 0} (seen : D → List ℕ) (may_leave : D → List ℕ → Ty
         claims = same ∙ claims;
       }
 
-  pub claims_granted : (was : List (Object × List Holder)) (escrow : Escrowed) (k n : Core D) (t : ℕ) (op : Op) → IsGranted seen may_leave origin base was escrow k t op → IsRight seen may_leave origin.pages origin.relations origin.counters n.operations → n.operations.store ≡ k.operations.store → n.operations.locks ≡ k.operations.locks → claimed n.operations ≡ claimed k.operations
-      → IsGranted seen may_leave origin base was escrow (record k { operations = n.operations }) t op
-  claims_granted was escrow k n t op g right store locks same = record {
-    was = claims_consistent (record k { locks = was; escrow = escrow }) n g.was right store locks same;
-    may = record { within = g.may.within; at_work = g.may.at_work; room = g.may.room; idle = g.may.idle };
-    locked = g.locked;
-    free = g.free;
-    committed = g.committed;
-    more = g.more;
-    admitted = g.admitted;
+  pub claims_granted : (was : List (Object × List Holder)) (escrow : Escrowed) (k n : Core D) (t : ℕ) (op : Op) → IsGranted g origin base was escrow k t op → IsRight g origin.pages origin.relations origin.counters n.operations → n.operations.store ≡ k.operations.store → n.operations.locks ≡ k.operations.locks → claimed n.operations ≡ claimed k.operations
+      → IsGranted g origin base was escrow (record k { operations = n.operations }) t op
+  claims_granted was escrow k n t op granted right store locks same = record {
+    was = claims_consistent (record k { locks = was; escrow = escrow }) n granted.was right store locks same;
+    may = record { within = granted.may.within; at_work = granted.may.at_work; room = granted.may.room; idle = granted.may.idle };
+    locked = granted.locked;
+    free = granted.free;
+    committed = granted.committed;
+    more = granted.more;
+    admitted = granted.admitted;
   }

@@ -4,7 +4,8 @@ use Rattle.std.specs.Prelude.{All, is_some}
 use Rattle.std.specs.List.{sum_by}
 use Rattle.std.specs.Option.{option_map}
 use Rattle.std.proofs.lemmas.Bool.{ne_eqb, eq-eqb, or_from}
-use Rattle.mt_frame.specs.History.{some_record, ends_txn, ends_op, may_stand}
+use Rattle.mt_disk.specs.declared.device.Device.{Ghosts}
+use Rattle.mt_area_rules.specs.History.{some_record, ends_txn, ends_op, may_stand}
 use Rattle.mt_frame.specs.declared.records.Record.{Record}
 use Rattle.mt_frame.specs.declared.records.Record.TheVariants.{Commit}
 use Rattle.mt_live.specs.Lives.{member_of, IsChanged}
@@ -47,14 +48,14 @@ closed_other old new t changed u h is = go (member_of old t) (sym (ap is_open (c
     go None k = absurd cc
     go (Some m) k = absurd cc
 
-module _ {D : Type 0} (seen : D → List ℕ) (may_leave : D → List ℕ → Type 0) (origin : Origin) (base : Base) where
-  pub committing_in : (k n : Core D) (c : Queued) → IsConsistent seen may_leave origin base k → is_open (member_of k.live.members c.txn) ≡ true → All (λ (q : OpScope). q.txn ≢ c.txn) k.running.items
-      → IsRight seen may_leave origin.pages origin.relations origin.counters n.operations → Notes (world seen origin.pages k.operations) (world seen origin.pages n.operations) (Commit c.txn)
-      → ((u : OpScope) → IsUnderWay origin.relations origin.counters (world seen origin.pages k.operations) u → u.txn ≢ c.txn → IsUnderWay origin.relations origin.counters (world seen origin.pages n.operations) u)
+module _ {D : Type 0} (g : Ghosts D) (origin : Origin) (base : Base) where
+  pub committing_in : (k n : Core D) (c : Queued) → IsConsistent g origin base k → is_open (member_of k.live.members c.txn) ≡ true → All (λ (q : OpScope). q.txn ≢ c.txn) k.running.items
+      → IsRight g origin.pages origin.relations origin.counters n.operations → Notes (world g origin.pages k.operations) (world g origin.pages n.operations) (Commit c.txn)
+      → ((u : OpScope) → IsUnderWay origin.relations origin.counters (world g origin.pages k.operations) u → u.txn ≢ c.txn → IsUnderWay origin.relations origin.counters (world g origin.pages n.operations) u)
       → claimed n.operations ≡ claimed k.operations → used n.operations.store.log ≡ used k.operations.store.log + 14 → area_size n.operations.store.log ≡ area_size k.operations.store.log
       → IsChanged k.live.members n.live.members c.txn (λ m. with_state m Committing) → n.live.begun ≡ k.live.begun → n.live.standing ≡ k.live.standing → length n.live.members ≡ length k.live.members
       → n.commits.items ≡ k.commits.items ++ c ∷ [] → c.place ≡ length (appended k.operations.store.log) + 1 → n.book.items ≡ k.book.items → vec_len n.book + length n.commits.items ≤ vec_capacity n.book → n.reserved + 14 ≡ k.reserved
-      → IsIn seen may_leave origin base (state_of k base) (record k { operations = n.operations; live = n.live; commits = n.commits; book = n.book; reserved = n.reserved })
+      → IsIn g origin base (state_of k base) (record k { operations = n.operations; live = n.live; commits = n.commits; book = n.book; reserved = n.reserved })
   committing_in k n c safe at_work idle right notes others same used_now area changed begun_same standing count pushed place book room freed =
       let fit = safe.fit in
       let t = c.txn in
@@ -71,7 +72,7 @@ module _ {D : Type 0} (seen : D → List ℕ) (may_leave : D → List ℕ → Ty
       } in
       let other : (u : ℕ) → u ≢ t → member_of n.live.members u ≡ member_of k.live.members u = changed_other (λ m. with_state m Committing) k.live.members n.live.members t changed in
       let old : (u : ℕ) → is_open (member_of n.live.members u) ≡ true → is_open (member_of k.live.members u) ≡ true = λ u h. sym (ap is_open (other u (closed_other k.live.members n.live.members t changed u h))) ∙ h in
-      let low = txn_low seen may_leave origin base k t fit at_work in
+      let low = txn_low g origin base k t fit at_work in
       let numbered : IsNumbered k.last k.live.begun n.live.members k.operations.locks (appended k.operations.store.log ++ Commit t ∷ []) = record {
         locks = fit.numbered.locks;
         ops = λ m above. no_records (ends_op m) (appended k.operations.store.log) (Commit t ∷ []) (fit.numbered.ops m above) refl;
@@ -111,7 +112,7 @@ module _ {D : Type 0} (seen : D → List ℕ) (may_leave : D → List ℕ → Ty
             booked = room;
             escrowed = subst (λ (X : Type 0). X) (λ i. IsEscrowed origin.counters (after origin.first (sym book i)) k.escrow) fit.escrowed;
           };
-          holds = subst (λ (p : PageBytes). Holds p base) (sym (notes_held origin.relations origin.counters (world seen origin.pages k.operations) (world seen origin.pages n.operations) t (Commit t) notes (inl refl))) safe.holds;
+          holds = subst (λ (p : PageBytes). Holds p base) (sym (notes_held origin.relations origin.counters (world g origin.pages k.operations) (world g origin.pages n.operations) t (Commit t) notes (inl refl))) safe.holds;
           runs = λ i d lt. let was = safe.runs i d lt in record { under = others (get_or k.running.items i d) was.under (idle i d lt); budget = was.budget; number = was.number; moving = was.moving };
           outcome = subst (AreReported k.last n.live.members) (sym notes.records) outcome;
           claims = omega arith;

@@ -4,6 +4,7 @@ use Rattle.std.specs.Prelude.{All, Result, Ok, Err, OnErr}
 use Rattle.std.specs.List.{remove}
 use Rattle.std.proofs.lemmas.Bool.{eq-eqb}
 use Rattle.std.proofs.lemmas.List.Sums.{get_or-le-sum_by}
+use Rattle.mt_disk.specs.declared.device.Device.{Ghosts}
 use Rattle.mt_steps.specs.Plans.{own_needs, undo_pages}
 use Rattle.std.proofs.lemmas.List.{get_or-set_same}
 use Rattle.mt_base.specs.declared.refusal.Refusal.{Refusal}
@@ -35,9 +36,9 @@ use Rattle.mt_core.proofs.Advancing.{moved, carried, others_run, alone_at, repor
 use Rattle.mt_core.proofs.Ending.{HasEnded, left}
 
 -- what a step of a taking back says
-pub record HasGoneBack {D : Type 0} (seen : D → List ℕ) (may_leave : D → List ℕ → Type 0) (opening : PageBytes) (relations counters : ℕ) (o n : Operations D) (s t : OpScope) (r : Result TakenBack Refusal) : Type 0 where
-  pub right : IsRight seen may_leave opening relations counters n
-  pub goes : Goes relations counters (world seen opening o) (world seen opening n) s t
+pub record HasGoneBack {D : Type 0} (g : Ghosts D) (opening : PageBytes) (relations counters : ℕ) (o n : Operations D) (s t : OpScope) (r : Result TakenBack Refusal) : Type 0 where
+  pub right : IsRight g opening relations counters n
+  pub goes : Goes relations counters (world g opening o) (world g opening n) s t
   pub log : used n.store.log + t.left ≡ used o.store.log + s.left
   pub area : area_size n.store.log ≡ area_size o.store.log
   pub budget : HasBudget t
@@ -45,18 +46,18 @@ pub record HasGoneBack {D : Type 0} (seen : D → List ℕ) (may_leave : D → L
   pub records : TellsDropped s (appended o.store.log) (appended n.store.log) r
   pub locks : n.locks ≡ o.locks
 
-module _ {D : Type 0} (seen : D → List ℕ) (may_leave : D → List ℕ → Type 0) (origin : Origin) (base : Base) where
+module _ {D : Type 0} (g : Ghosts D) (origin : Origin) (base : Base) where
   -- an operation that is no inverse is dropped out; its claims and those for its inverse are given back, and the log bytes kept for that
-  pub dropped_in : (k n : Core D) (place : ℕ) (r : OpScope) → IsCleared seen may_leave origin base k place r → r.undoes ≡ 0 → n.running.items ≡ remove k.running.items place
-      → HasEnded seen may_leave origin.pages origin.relations origin.counters k.operations n.operations r → claimed n.operations + pages_of r ≡ claimed k.operations → n.reserved + undo_bytes r.op ≡ k.reserved
+  pub dropped_in : (k n : Core D) (place : ℕ) (r : OpScope) → IsCleared g origin base k place r → r.undoes ≡ 0 → n.running.items ≡ remove k.running.items place
+      → HasEnded g origin.pages origin.relations origin.counters k.operations n.operations r → claimed n.operations + pages_of r ≡ claimed k.operations → n.reserved + undo_bytes r.op ≡ k.reserved
       → GivesBack r.txn r.op k.escrow.pending n.escrow.pending → n.escrow.committed ≡ k.escrow.committed
-      → DropsIn seen may_leave origin base (state_of k base) (record k { operations = n.operations; running = n.running; escrow = n.escrow; reserved = n.reserved }) r.txn
+      → DropsIn g origin base (state_of k base) (record k { operations = n.operations; running = n.running; escrow = n.escrow; reserved = n.reserved }) r.txn
   dropped_in k n place r y fore items h back freed given committed =
       let fit = y.fit in let alone = y.alone in
       let z : Core D = record k { operations = n.operations; running = n.running; escrow = n.escrow; reserved = n.reserved } in
       let s : State = state_of k base in
       let runs : s.running r.txn ≡ Some r.op = running_at k.running.items place r alone.within alone.there fore fit.apart in
-      let l = left seen may_leave origin base k n place r Cleared fit alone items h in
+      let l = left g origin base k n place r Cleared fit alone items h in
       let gone : (t : ℕ) → put (running_in k.running.items) r.txn None t ≡ running_in n.running.items t =
       λ t. sym (running_remove k.running.items place r alone.within alone.there fore fit.apart t) ∙ ap (λ (rs : List OpScope). running_in rs t) (sym items) in
       let state : dropped s r.txn n.escrow.pending ≡ state_of z base = λ i. record {
@@ -110,50 +111,50 @@ module _ {D : Type 0} (seen : D → List ℕ) (may_leave : D → List ℕ → Ty
   still : (k : Core D) (r q : OpScope) → SameOp r q → (r.undoes ≡ 0) × (state_in k.live.members r.txn ≡ Some Aborting) → (q.undoes ≡ 0) × (state_in k.live.members q.txn ≡ Some Aborting)
   still k r q same aborting = (same.undoes ∙ aborting.0, ap (state_in k.live.members) same.txn ∙ aborting.1)
 
-  back_in : (k n : Core D) (place : ℕ) (r q : OpScope) (res : Result TakenBack Refusal) → IsConsistent seen may_leave origin base k → place < length k.running.items → r ≡ get_or k.running.items place r → n.running.items ≡ set k.running.items place q
-      → HasGoneBack seen may_leave origin.pages origin.relations origin.counters k.operations n.operations r q res → IsMoving q.stage → (q.undoes ≡ 0) × (state_in k.live.members q.txn ≡ Some Aborting) → IsIn seen may_leave origin base (state_of k base) (moved k n)
+  back_in : (k n : Core D) (place : ℕ) (r q : OpScope) (res : Result TakenBack Refusal) → IsConsistent g origin base k → place < length k.running.items → r ≡ get_or k.running.items place r → n.running.items ≡ set k.running.items place q
+      → HasGoneBack g origin.pages origin.relations origin.counters k.operations n.operations r q res → IsMoving q.stage → (q.undoes ≡ 0) × (state_in k.live.members q.txn ≡ Some Aborting) → IsIn g origin base (state_of k base) (moved k n)
   back_in k n place r q res safe within there items h moving aborting =
-      let g = h.goes in
+      let goes = h.goes in
       let taken_now : q.stage ≡ Taking → (q.undoes ≡ 0) × (state_in k.live.members q.txn ≡ Some Aborting) = λ is. aborting in
       let adds = adds_dropped r (appended k.operations.store.log) (appended n.operations.store.log) res h.records in
-      let c = carried seen may_leave origin base k n place r q adds.more safe within there items g.same h.log h.area h.right adds.is taken_now (λ known. numbered_dropped k.last k.live.begun k.live.members r k.operations.locks n.operations.locks (appended k.operations.store.log) (appended n.operations.store.log) res known h.locks h.records safe.fit.numbered)
+      let c = carried g origin base k n place r q adds.more safe within there items goes.same h.log h.area h.right adds.is taken_now (λ known. numbered_dropped k.last k.live.begun k.live.members r k.operations.locks n.operations.locks (appended k.operations.store.log) (appended n.operations.store.log) res known h.locks h.records safe.fit.numbered)
       (subst (AreHeldBy k.running.items) (sym h.locks) safe.fit.locked) in
-      let own : IsRunning origin.relations origin.counters (world seen origin.pages n.operations) k.last q = record { under = g.own; budget = h.budget; number = c.known; moving = moving } in
+      let own : IsRunning origin.relations origin.counters (world g origin.pages n.operations) k.last q = record { under = goes.own; budget = h.budget; number = c.known; moving = moving } in
       let pages = c.pages in let claims_was = safe.claims in let claims = h.claims in
       record {
         consistent = record {
           fit = c.fit;
-          holds = subst (λ (p : PageBytes). Holds p base) (sym g.held) safe.holds;
-          runs = subst (All (IsRunning origin.relations origin.counters (world seen origin.pages n.operations) k.last)) (sym items)
-              (all_set (IsRunning origin.relations origin.counters (world seen origin.pages n.operations) k.last) k.running.items place q within own (others_run seen may_leave origin base k n place r safe within there g.others));
-          outcome = reported_on seen may_leave origin base k n safe adds;
+          holds = subst (λ (p : PageBytes). Holds p base) (sym goes.held) safe.holds;
+          runs = subst (All (IsRunning origin.relations origin.counters (world g origin.pages n.operations) k.last)) (sym items)
+              (all_set (IsRunning origin.relations origin.counters (world g origin.pages n.operations) k.last) k.running.items place q within own (others_run g origin base k n place r safe within there goes.others));
+          outcome = reported_on g origin base k n safe adds;
           claims = omega arith;
         };
         state = c.state;
       }
 
-  is_cleared : (k n : Core D) (place : ℕ) (r q : OpScope) → IsConsistent seen may_leave origin base k → place < length k.running.items → r ≡ get_or k.running.items place r → n.running.items ≡ set k.running.items place q
-      → HasGoneBack seen may_leave origin.pages origin.relations origin.counters k.operations n.operations r q (Ok taken.Clear) → q.stage ≡ Cleared → IsCleared seen may_leave origin base (moved k n) place q × (state_of k base ≡ state_of (moved k n) base)
+  is_cleared : (k n : Core D) (place : ℕ) (r q : OpScope) → IsConsistent g origin base k → place < length k.running.items → r ≡ get_or k.running.items place r → n.running.items ≡ set k.running.items place q
+      → HasGoneBack g origin.pages origin.relations origin.counters k.operations n.operations r q (Ok taken.Clear) → q.stage ≡ Cleared → IsCleared g origin base (moved k n) place q × (state_of k base ≡ state_of (moved k n) base)
   is_cleared k n place r q safe within there items h cleared =
-      let g = h.goes in
+      let goes = h.goes in
       let taken_now : q.stage ≡ Taking → (q.undoes ≡ 0) × (state_in k.live.members q.txn ≡ Some Aborting) = λ is. absurd cc in
       let adds = adds_dropped r (appended k.operations.store.log) (appended n.operations.store.log) (Ok taken.Clear) h.records in
-      let c = carried seen may_leave origin base k n place r q adds.more safe within there items g.same h.log h.area h.right adds.is taken_now (λ known. numbered_dropped k.last k.live.begun k.live.members r k.operations.locks n.operations.locks (appended k.operations.store.log) (appended n.operations.store.log) (Ok taken.Clear) known h.locks h.records safe.fit.numbered)
+      let c = carried g origin base k n place r q adds.more safe within there items goes.same h.log h.area h.right adds.is taken_now (λ known. numbered_dropped k.last k.live.begun k.live.members r k.operations.locks n.operations.locks (appended k.operations.store.log) (appended n.operations.store.log) (Ok taken.Clear) known h.locks h.records safe.fit.numbered)
       (subst (AreHeldBy k.running.items) (sym h.locks) safe.fit.locked) in
       let pages = c.pages in let claims_was = safe.claims in let claims = h.claims in (
         record {
           fit = c.fit;
-          alone = alone_at seen may_leave origin base k n place r q Cleared within items g.own cleared c.known (others_run seen may_leave origin base k n place r safe within there g.others);
-          holds = subst (λ (p : PageBytes). Holds p base) (sym g.held) safe.holds;
-          outcome = reported_on seen may_leave origin base k n safe adds;
+          alone = alone_at g origin base k n place r q Cleared within items goes.own cleared c.known (others_run g origin base k n place r safe within there goes.others);
+          holds = subst (λ (p : PageBytes). Holds p base) (sym goes.held) safe.holds;
+          outcome = reported_on g origin base k n safe adds;
           claims = omega arith;
         },
         c.state,
       )
 
-  pub gone_back : (k n : Core D) (place : ℕ) (r q : OpScope) (res : Result TakenBack Refusal) → place < length k.running.items → r ≡ get_or k.running.items place r → n.running.items ≡ set k.running.items place q → IsConsistent seen may_leave origin base k → IsMoving r.stage → (r.undoes ≡ 0) × (state_in k.live.members r.txn ≡ Some Aborting)
-      → HasGoneBack seen may_leave origin.pages origin.relations origin.counters k.operations n.operations r q res → (res ≡ Ok taken.More → q.stage ≡ Taking) → (res ≡ Ok taken.Clear → q.stage ≡ Cleared) → (res ≡ Ok taken.Flush → q ≡ r) → OnErr res (q ≡ r)
-      → GoesBack seen may_leave origin base (state_of k base) (moved k n) place res
+  pub gone_back : (k n : Core D) (place : ℕ) (r q : OpScope) (res : Result TakenBack Refusal) → place < length k.running.items → r ≡ get_or k.running.items place r → n.running.items ≡ set k.running.items place q → IsConsistent g origin base k → IsMoving r.stage → (r.undoes ≡ 0) × (state_in k.live.members r.txn ≡ Some Aborting)
+      → HasGoneBack g origin.pages origin.relations origin.counters k.operations n.operations r q res → (res ≡ Ok taken.More → q.stage ≡ Taking) → (res ≡ Ok taken.Clear → q.stage ≡ Cleared) → (res ≡ Ok taken.Flush → q ≡ r) → OnErr res (q ≡ r)
+      → GoesBack g origin base (state_of k base) (moved k n) place res
   gone_back k n place r q (Ok taken.More) within there items safe moving aborting h more clear flush err = back_in k n place r q (Ok taken.More) safe within there items h (inr (inr (more refl))) (still k r q h.goes.same aborting)
   gone_back k n place r q (Ok taken.Flush) within there items safe moving aborting h more clear flush err = back_in k n place r q (Ok taken.Flush) safe within there items h (subst (λ (s : OpScope). IsMoving s.stage) (sym (flush refl)) moving) (still k r q h.goes.same aborting)
   gone_back k n place r q (Err why) within there items safe moving aborting h more clear flush err = back_in k n place r q (Err why) safe within there items h (subst (λ (s : OpScope). IsMoving s.stage) (sym err) moving) (still k r q h.goes.same aborting)
@@ -161,18 +162,18 @@ module _ {D : Type 0} (seen : D → List ℕ) (may_leave : D → List ℕ → Ty
       let cleared = is_cleared k n place r q safe within there items h (clear refl) in (
         (λ x is.
             let here : q ≡ x = sym (is ∙ ap (λ (rs : List OpScope). get_or rs place x) items ∙ get_or-set_same k.running.items place q x within) in
-            subst (λ (y : OpScope). IsCleared seen may_leave origin base (moved k n) place y) here cleared.0),
+            subst (λ (y : OpScope). IsCleared g origin base (moved k n) place y) here cleared.0),
         cleared.1,
       )
 
   -- what is given back of one that is dropped out was claimed for it
-  pub given_back : (k : Core D) (place : ℕ) (r : OpScope) → IsCleared seen may_leave origin base k place r → r.undoes ≡ 0 → own_needs r.op r.split + undo_pages r.op ≡ pages_of r
+  pub given_back : (k : Core D) (place : ℕ) (r : OpScope) → IsCleared g origin base k place r → r.undoes ≡ 0 → own_needs r.op r.split + undo_pages r.op ≡ pages_of r
   given_back k place r y fore =
       let test : (r.undoes == 0) ≡ true = eq-eqb r.undoes 0 fore in
       let is : pages_of r ≡ own_needs r.op r.split + undo_pages r.op = rw test refl in
       sym is
 
-  pub claimed_enough : (k : Core D) (place : ℕ) (r : OpScope) → IsCleared seen may_leave origin base k place r → pages_of r ≤ claimed k.operations
+  pub claimed_enough : (k : Core D) (place : ℕ) (r : OpScope) → IsCleared g origin base k place r → pages_of r ≤ claimed k.operations
   claimed_enough k place r y =
       let part = get_or-le-sum_by pages_of k.running.items place r y.alone.within in
       let mine : pages_of (get_or k.running.items place r) ≡ pages_of r = ap pages_of (sym y.alone.there) in

@@ -8,7 +8,8 @@ use Rattle.std.proofs.lemmas.List.{get_or_read}
 use Rattle.std.proofs.lemmas.List.Elements.{All-push}
 use Rattle.std.proofs.lemmas.List.Quantifiers.{all_pairs_remove}
 use Rattle.std.proofs.lemmas.List.Sums.{sum_by-remove}
-use Rattle.mt_frame.specs.History.{some_record, undoes_op}
+use Rattle.mt_disk.specs.declared.device.Device.{Ghosts}
+use Rattle.mt_area_rules.specs.History.{some_record, undoes_op}
 use Rattle.mt_live.proofs.Keeping.{kept_ended, kept_undone}
 use Rattle.mt_live.proofs.Lasts.{last_within}
 use Rattle.mt_live.specs.Adds.{GivesBack}
@@ -40,7 +41,8 @@ use Rattle.mt_slock.specs.Views.{held_of}
 use Rattle.mt_steps.specs.Held.{Holds}
 use Rattle.mt_steps.specs.Logged.{logged_of}
 use Rattle.mt_steps.specs.Plans.{own_needs, undo_pages}
-use Rattle.mt_core.specs.Runs.{running_in, AreApart, AreHeldBy, IsRunning, IsOwned, is_open, undo_bytes, pages_of, entry_pages, entry_bytes, left_of, kept_bytes, taken_bytes}
+use Rattle.mt_core.specs.Runs.{running_in, AreApart, AreHeldBy, IsRunning, IsOwned, is_open, undo_bytes, pages_of, entry_pages, entry_bytes, kept_bytes, taken_bytes}
+use Rattle.mt_op.specs.World.{left_of}
 use Rattle.mt_core.specs.Consistent.{Origin, state_of, state_in, AreLeft, IsNumbered, IsDue, IsReported, AreReported, IsQueued, IsWithinSchema, IsFit, IsAlone, IsReady, IsIn, UndoesIn}
 use Rattle.mt_core.specs.declared.parts.Core.{Core}
 use Rattle.mt_pool.proofs.Logged.{no_records}
@@ -54,18 +56,18 @@ use Rattle.mt_core.proofs.Reported.{due_more, some_back, end_undoes_fore, end_un
 use Rattle.mt_core.proofs.Queued.{queued_members}
 
 -- what `end` says of an operation that ends
-pub record HasEnded {D : Type 0} (seen : D → List ℕ) (may_leave : D → List ℕ → Type 0) (opening : PageBytes) (relations counters : ℕ) (o n : Operations D) (s : OpScope) : Type 0 where
-  pub right : IsRight seen may_leave opening relations counters n
-  pub held : held_in (world seen opening n) ≡ held_in (world seen opening o)
-  pub others : (u : OpScope) → IsUnderWay relations counters (world seen opening o) u → u.number ≢ s.number → IsUnderWay relations counters (world seen opening n) u
+pub record HasEnded {D : Type 0} (g : Ghosts D) (opening : PageBytes) (relations counters : ℕ) (o n : Operations D) (s : OpScope) : Type 0 where
+  pub right : IsRight g opening relations counters n
+  pub held : held_in (world g opening n) ≡ held_in (world g opening o)
+  pub others : (u : OpScope) → IsUnderWay relations counters (world g opening o) u → u.number ≢ s.number → IsUnderWay relations counters (world g opening n) u
   pub locks : n.locks ≡ locks_without s.number o.locks
   pub store : n.store ≡ o.store
 
 -- claims that are given back then change nothing else
-pub ended_given : {D : Type 0} (seen : D → List ℕ) (may_leave : D → List ℕ → Type 0) (opening : PageBytes) (relations counters : ℕ) (o m n : Operations D) (s : OpScope) → HasEnded seen may_leave opening relations counters o m s
-    → IsRight seen may_leave opening relations counters n → n.store ≡ m.store → n.locks ≡ m.locks → HasEnded seen may_leave opening relations counters o n s
-ended_given seen may_leave opening relations counters o m n s h right store locks =
-    let same : world seen opening m ≡ world seen opening n = world_same seen m n opening store locks in
+pub ended_given : {D : Type 0} (g : Ghosts D) (opening : PageBytes) (relations counters : ℕ) (o m n : Operations D) (s : OpScope) → HasEnded g opening relations counters o m s
+    → IsRight g opening relations counters n → n.store ≡ m.store → n.locks ≡ m.locks → HasEnded g opening relations counters o n s
+ended_given g opening relations counters o m n s h right store locks =
+    let same : world g opening m ≡ world g opening n = world_same g m n opening store locks in
     record {
       right = right;
       held = ap held_in (sym same) ∙ h.held;
@@ -74,10 +76,10 @@ ended_given seen may_leave opening relations counters o m n s h right store lock
       store = store ∙ h.store;
     }
 
-module _ {D : Type 0} (seen : D → List ℕ) (may_leave : D → List ℕ → Type 0) (origin : Origin) (base : Base) where
+module _ {D : Type 0} (g : Ghosts D) (origin : Origin) (base : Base) where
   -- what is left of the operations under way, whatever the end does to the transaction
   pub record Left (k n : Core D) (place : ℕ) (r : OpScope) : Type 0 where
-    pub runs : All (IsRunning origin.relations origin.counters (world seen origin.pages n.operations) k.last) n.running.items
+    pub runs : All (IsRunning origin.relations origin.counters (world g origin.pages n.operations) k.last) n.running.items
     pub apart : AllPairs AreApart n.running.items
     pub numbered : IsNumbered k.last k.live.begun k.live.members n.operations.locks (appended n.operations.store.log)
     pub locked : AreHeldBy n.running.items n.operations.locks
@@ -87,10 +89,10 @@ module _ {D : Type 0} (seen : D → List ℕ) (may_leave : D → List ℕ → Ty
     pub log : used n.operations.store.log + sum_by left_of n.running.items + k.reserved < area_size n.operations.store.log
     pub queued : IsQueued k.live.members (appended n.operations.store.log) k.commits.items
 
-  pub other_at : (k : Core D) (place : ℕ) (r : OpScope) (stage : Stage) → IsFit seen may_leave origin base k → IsAlone seen origin k place r stage → (i : ℕ) (d : OpScope) → i < length k.running.items → i ≢ place → AreApart r (get_or k.running.items i d)
+  pub other_at : (k : Core D) (place : ℕ) (r : OpScope) (stage : Stage) → IsFit g origin base k → IsAlone g origin k place r stage → (i : ℕ) (d : OpScope) → i < length k.running.items → i ≢ place → AreApart r (get_or k.running.items i d)
   other_at k place r stage fit y i d lt apart = subst (λ (x : OpScope). AreApart x (get_or k.running.items i d)) (sym (get_or_read k.running.items place r y.within y.there d)) (pair_at AreApart k.running.items apart_flip fit.apart place i d y.within lt apart)
 
-  pub left : (k n : Core D) (place : ℕ) (r : OpScope) (stage : Stage) → IsFit seen may_leave origin base k → IsAlone seen origin k place r stage → n.running.items ≡ remove k.running.items place → HasEnded seen may_leave origin.pages origin.relations origin.counters k.operations n.operations r → Left k n place r
+  pub left : (k n : Core D) (place : ℕ) (r : OpScope) (stage : Stage) → IsFit g origin base k → IsAlone g origin k place r stage → n.running.items ≡ remove k.running.items place → HasEnded g origin.pages origin.relations origin.counters k.operations n.operations r → Left k n place r
   left k n place r stage fit y items h =
       let r_there : get_or k.running.items place r ≡ r = sym y.there in
       let pages = sum_by-remove pages_of k.running.items place r y.within in
@@ -107,8 +109,8 @@ module _ {D : Type 0} (seen : D → List ℕ) (may_leave : D → List ℕ → Ty
       let log = fit.log in
       let less : used k.operations.store.log + sum_by left_of n.running.items + k.reserved < area_size k.operations.store.log = omega arith in
       record {
-        runs = subst (All (IsRunning origin.relations origin.counters (world seen origin.pages n.operations) k.last)) (sym items)
-            (all_remove (IsRunning origin.relations origin.counters (world seen origin.pages n.operations) k.last) k.running.items place y.within (λ i d lt apart.
+        runs = subst (All (IsRunning origin.relations origin.counters (world g origin.pages n.operations) k.last)) (sym items)
+            (all_remove (IsRunning origin.relations origin.counters (world g origin.pages n.operations) k.last) k.running.items place y.within (λ i d lt apart.
             let was = y.others i d lt apart in
             record { under = h.others (get_or k.running.items i d) was.under ((other_at k place r stage fit y i d lt apart).number); budget = was.budget; number = was.number; moving = was.moving }));
         apart = subst (AllPairs AreApart) (sym items) (all_pairs_remove AreApart k.running.items place y.within fit.apart);
@@ -140,12 +142,12 @@ module _ {D : Type 0} (seen : D → List ℕ) (may_leave : D → List ℕ → Ty
         aborts = λ back. ap (option_map (λ (m : Member). m.state)) same ∙ o.aborts back;
       }
 
-  pub noted_in : (k n : Core D) (place : ℕ) (r : OpScope) (reply : Reply) → IsReady seen may_leave origin base k place r reply → r.undoes ≡ 0 → n.running.items ≡ remove k.running.items place
-      → HasEnded seen may_leave origin.pages origin.relations origin.counters k.operations n.operations r
+  pub noted_in : (k n : Core D) (place : ℕ) (r : OpScope) (reply : Reply) → IsReady g origin base k place r reply → r.undoes ≡ 0 → n.running.items ≡ remove k.running.items place
+      → HasEnded g origin.pages origin.relations origin.counters k.operations n.operations r
       → claimed n.operations + undo_pages r.op ≡ claimed k.operations + entry_pages (record { txn = r.txn; op = r.op; reply = reply }) → n.reserved + undo_bytes r.op ≡ k.reserved + entry_bytes (record { txn = r.txn; op = r.op; reply = reply })
       → n.live.standing ≡ k.live.standing ++ record { txn = r.txn; op = r.op; reply = reply } ∷ []
       → IsChanged k.live.members n.live.members r.txn (λ m. with_call m r.number (r.op, reply)) → n.live.begun ≡ k.live.begun → length n.live.members ≡ length k.live.members
-      → IsIn seen may_leave origin (base_after base r.op) (ended (state_of k base) r.txn r.op) (record k { operations = n.operations; running = n.running; live = n.live; reserved = n.reserved })
+      → IsIn g origin (base_after base r.op) (ended (state_of k base) r.txn r.op) (record k { operations = n.operations; running = n.running; live = n.live; reserved = n.reserved })
   noted_in k n place r reply y fore items h claims_now reserves_now standing changed begun count =
       let fit = y.fit in let alone = y.alone in
       let z : Core D = record k { operations = n.operations; running = n.running; live = n.live; reserved = n.reserved } in
@@ -256,11 +258,11 @@ module _ {D : Type 0} (seen : D → List ℕ) (may_leave : D → List ℕ → Ty
           let within : n < length m.calls = subst (λ o. IfSome o (λ i. i < length m.calls)) at (last_within m.calls) in
           reported_cut last was (was ++ more) t n m outcome within (λ i below due. due_more t (get_or m.operations i 0) was more (none (get_or m.operations i 0) (λ is. absurd (omega (arith, is, this, below)))) due)
 
-  pub undone_in : (k n : Core D) (place : ℕ) (r : OpScope) (reply : Reply) → IsReady seen may_leave origin base k place r reply → r.undoes ≢ 0 → n.running.items ≡ remove k.running.items place
-      → HasEnded seen may_leave origin.pages origin.relations origin.counters k.operations n.operations r → claimed n.operations ≡ claimed k.operations
+  pub undone_in : (k n : Core D) (place : ℕ) (r : OpScope) (reply : Reply) → IsReady g origin base k place r reply → r.undoes ≢ 0 → n.running.items ≡ remove k.running.items place
+      → HasEnded g origin.pages origin.relations origin.counters k.operations n.operations r → claimed n.operations ≡ claimed k.operations
       → n.live.standing ≡ cut_back r.txn k.live.standing → IsChanged k.live.members n.live.members r.txn taken_back → n.live.begun ≡ k.live.begun → length n.live.members ≡ length k.live.members
       → ((o : Op) (u : Reply) → inverse_of o u ≡ Some r.op → GivesBack r.txn o k.escrow.pending n.escrow.pending) → n.escrow.committed ≡ k.escrow.committed
-      → UndoesIn seen may_leave origin base (state_of k base) (record k { operations = n.operations; running = n.running; live = n.live; escrow = n.escrow }) r.txn r.op
+      → UndoesIn g origin base (state_of k base) (record k { operations = n.operations; running = n.running; live = n.live; escrow = n.escrow }) r.txn r.op
   undone_in k n place r reply y back items h claims_now standing changed begun count given committed =
       let fit = y.fit in let alone = y.alone in
       let z : Core D = record k { operations = n.operations; running = n.running; live = n.live; escrow = n.escrow } in

@@ -5,6 +5,7 @@ use Rattle.std.specs.List.{sum_by}
 use Rattle.std.specs.Option.{option_map}
 use Rattle.std.proofs.lemmas.Bool.{eq-eqb}
 use Rattle.std.proofs.lemmas.List.Sums.{get_or-le-sum_by}
+use Rattle.mt_disk.specs.declared.device.Device.{Ghosts}
 use Rattle.mt_live.specs.Entries.{Entry, kept}
 use Rattle.mt_live.specs.Lives.{member_of}
 use Rattle.mt_live.specs.Members.{Member}
@@ -49,26 +50,26 @@ mapped_few kinds n = let same = length-map (take n kinds) (λ (kind : ℕ). kind
     take_few : (xs : List ℕ) (m : ℕ) → length (take m xs) ≤ m
     take_few xs m = let is = length-take m xs in omega (arith, is)
 
-module _ {D : Type 0} (seen : D → List ℕ) (may_leave : D → List ℕ → Type 0) (origin : Origin) (base : Base) where
-  commits_few : (k : Core D) → IsFit seen may_leave origin base k → length k.commits.items ≤ length k.live.members
+module _ {D : Type 0} (g : Ghosts D) (origin : Origin) (base : Base) where
+  commits_few : (k : Core D) → IsFit g origin base k → length k.commits.items ≤ length k.live.members
   commits_few k fit = members_many k.commits.items k.live.members fit.queued.apart (λ i d lt. stated_some (member_of k.live.members (get_or k.commits.items i d).txn) (fit.queued.each i d lt))
 
   -- with one that is at work besides
-  commits_fewer : (k : Core D) (t : ℕ) → IsFit seen may_leave origin base k → is_open (member_of k.live.members t) ≡ true → length k.commits.items + 1 ≤ length k.live.members
+  commits_fewer : (k : Core D) (t : ℕ) → IsFit g origin base k → is_open (member_of k.live.members t) ≡ true → length k.commits.items + 1 ≤ length k.live.members
   commits_fewer k t fit at_work = members_more t k.commits.items k.live.members (open_member (member_of k.live.members t) at_work) (λ i d lt. open_apart k.live.members t (get_or k.commits.items i d).txn at_work (fit.queued.each i d lt)) fit.queued.apart
       (λ i d lt. stated_some (member_of k.live.members (get_or k.commits.items i d).txn) (fit.queued.each i d lt))
 
-  entries_have : (k : Core D) → IsFit seen may_leave origin base k → All (λ (r : OpScope). r.undoes ≢ 0 → HasEntry k.live.standing r) k.running.items
+  entries_have : (k : Core D) → IsFit g origin base k → All (λ (r : OpScope). r.undoes ≢ 0 → HasEntry k.live.standing r) k.running.items
   entries_have k fit i d lt = λ back. has_entry k.live.members k.live.standing (get_or k.running.items i d) (fit.owned i d lt) back
 
   -- those of the others alone, where a transaction runs nothing
-  others_have : (k : Core D) (t : ℕ) → IsFit seen may_leave origin base k → All (λ (r : OpScope). r.txn ≢ t) k.running.items → sum_by taken_bytes k.running.items ≤ sum_by entry_bytes (kept (others t) k.live.standing)
+  others_have : (k : Core D) (t : ℕ) → IsFit g origin base k → All (λ (r : OpScope). r.txn ≢ t) k.running.items → sum_by taken_bytes k.running.items ≤ sum_by entry_bytes (kept (others t) k.live.standing)
   others_have k t fit idle = taken_within k.running.items (kept (others t) k.live.standing) fit.apart (λ i d lt back.
       let e = entries_have k fit i d lt back in
       record { entry = e.entry; last = last_kept (get_or k.running.items i d).txn t k.live.standing (idle i d lt) ∙ e.last; weighs = e.weighs })
 
   -- for the inverse of an operation that runs
-  pub kept_enough : (k : Core D) (place : ℕ) (r : OpScope) → IsFit seen may_leave origin base k → place < length k.running.items → r ≡ get_or k.running.items place r → r.undoes ≡ 0 → undo_bytes r.op ≤ k.reserved
+  pub kept_enough : (k : Core D) (place : ℕ) (r : OpScope) → IsFit g origin base k → place < length k.running.items → r ≡ get_or k.running.items place r → r.undoes ≡ 0 → undo_bytes r.op ≤ k.reserved
   kept_enough k place r fit within there fore =
       let part = get_or-le-sum_by kept_bytes k.running.items place r within in
       let mine : kept_bytes (get_or k.running.items place r) ≡ kept_bytes r = ap kept_bytes (sym there) in
@@ -89,7 +90,7 @@ module _ {D : Type 0} (seen : D → List ℕ) (may_leave : D → List ℕ → Ty
       omega arith
 
   -- for the next inverse of a transaction that runs nothing
-  pub undo_enough : (k : Core D) (t : ℕ) (e : Entry) → IsFit seen may_leave origin base k → All (λ (r : OpScope). r.txn ≢ t) k.running.items → last_effect t k.live.standing ≡ Some e → is_some (inverse_of e.op e.reply) ≡ true → entry_bytes e ≡ 106496 → 106496 ≤ k.reserved
+  pub undo_enough : (k : Core D) (t : ℕ) (e : Entry) → IsFit g origin base k → All (λ (r : OpScope). r.txn ≢ t) k.running.items → last_effect t k.live.standing ≡ Some e → is_some (inverse_of e.op e.reply) ≡ true → entry_bytes e ≡ 106496 → 106496 ≤ k.reserved
   undo_enough k t e fit idle last some weighs =
       let others_taken = others_have k t fit idle in
       let own = own_last t k.live.standing e last in
@@ -98,14 +99,14 @@ module _ {D : Type 0} (seen : D → List ℕ) (may_leave : D → List ℕ → Ty
       let reserves = fit.reserves in omega arith
 
   -- for the end of a transaction at work
-  pub end_enough : (k : Core D) (t : ℕ) → IsFit seen may_leave origin base k → is_open (member_of k.live.members t) ≡ true → 128 ≤ k.reserved
+  pub end_enough : (k : Core D) (t : ℕ) → IsFit g origin base k → is_open (member_of k.live.members t) ≡ true → 128 ≤ k.reserved
   end_enough k t fit at_work =
       let taken = taken_within k.running.items k.live.standing fit.apart (entries_have k fit) in
       let few = commits_fewer k t fit at_work in
       let reserves = fit.reserves in omega arith
 
   -- for one whose commit is durable, with what was kept for its inverses
-  pub leave_enough : (k : Core D) (t : ℕ) → IsFit seen may_leave origin base k → All (λ (r : OpScope). r.txn ≢ t) k.running.items → 0 < length k.commits.items → 114 + sum_by entry_bytes (kept (only t) k.live.standing) ≤ k.reserved
+  pub leave_enough : (k : Core D) (t : ℕ) → IsFit g origin base k → All (λ (r : OpScope). r.txn ≢ t) k.running.items → 0 < length k.commits.items → 114 + sum_by entry_bytes (kept (only t) k.live.standing) ≤ k.reserved
   leave_enough k t fit idle some =
       let others_taken = others_have k t fit idle in
       let both = weighs_apart undo_bytes t k.live.standing in
@@ -113,14 +114,14 @@ module _ {D : Type 0} (seen : D → List ℕ) (may_leave : D → List ℕ → Ty
       let reserves = fit.reserves in omega arith
 
   -- no more is claimed than there are pages
-  pub claims_few : (k : Core D) → IsFit seen may_leave origin base k → claimed k.operations ≤ 4000
+  pub claims_few : (k : Core D) → IsFit g origin base k → claimed k.operations ≤ 4000
   claims_few k fit =
       let right = fit.right in
       let claims = right.claims in
       let free = count_by-le-length (λ (b : Bool). b) k.operations.map.space.0 in
-      let flags : length k.operations.map.space.0 ≡ length (mapped (held_in (world seen origin.pages k.operations) 0) (pages k.operations.store.pool)) = ap (λ (xs : List Bool). length xs) right.space in
-      let less = mapped_few (held_in (world seen origin.pages k.operations) 0) (pages k.operations.store.pool) in
+      let flags : length k.operations.map.space.0 ≡ length (mapped (held_in (world g origin.pages k.operations) 0) (pages k.operations.store.pool)) = ap (λ (xs : List Bool). length xs) right.space in
+      let less = mapped_few (held_in (world g origin.pages k.operations) 0) (pages k.operations.store.pool) in
       let few = right.kept.few in omega arith
 
-  pub leave_claimed : (k : Core D) (t : ℕ) → IsConsistent seen may_leave origin base k → sum_by entry_pages (kept (only t) k.live.standing) ≤ claimed k.operations
+  pub leave_claimed : (k : Core D) (t : ℕ) → IsConsistent g origin base k → sum_by entry_pages (kept (only t) k.live.standing) ≤ claimed k.operations
   leave_claimed k t safe = let both = weighs_apart undo_pages t k.live.standing in let claims = safe.claims in omega arith

@@ -1,6 +1,7 @@
 -- What a call has made ready before it takes anything.
 use Rattle.std.proofs.Common.{◌≡◌, ◌≢◌, ◌∙◌, ℕ, List, length, refl, sym, subst, arith}
 use Rattle.std.specs.Prelude.{All}
+use Rattle.mt_disk.specs.declared.device.Device.{Ghosts}
 use Rattle.mt_live.specs.Lives.{IsChanged}
 use Rattle.mt_live.specs.Members.{with_room}
 use Rattle.mt_model.specs.Model.{Base}
@@ -11,12 +12,12 @@ use Rattle.mt_op.specs.declared.scope.OpScope.{OpScope}
 use Rattle.mt_core.proofs.Beginning.{roomed_in, roomed_open}
 use Rattle.mt_core.proofs.Rooms.{rooms_in}
 
-module _ {D : Type 0} (seen : D → List ℕ) (may_leave : D → List ℕ → Type 0) (origin : Origin) (base : Base) where
-  pub prepared_in : (k n : Core D) (t : ℕ) → IsConsistent seen may_leave origin base k → IsChanged k.live.members n.live.members t with_room → n.live.begun ≡ k.live.begun → n.live.standing ≡ k.live.standing → length n.live.members ≡ length k.live.members → n.running.items ≡ k.running.items
-      → IsIn seen may_leave origin base (state_of k base) (record k { live = n.live; running = n.running })
+module _ {D : Type 0} (g : Ghosts D) (origin : Origin) (base : Base) where
+  pub prepared_in : (k n : Core D) (t : ℕ) → IsConsistent g origin base k → IsChanged k.live.members n.live.members t with_room → n.live.begun ≡ k.live.begun → n.live.standing ≡ k.live.standing → length n.live.members ≡ length k.live.members → n.running.items ≡ k.running.items
+      → IsIn g origin base (state_of k base) (record k { live = n.live; running = n.running })
   prepared_in k n t safe changed begun standing count items =
-      let a = roomed_in seen may_leave origin base k (record k { live = n.live }) t safe changed begun standing count in
-      let b = rooms_in seen may_leave origin base (record k { live = n.live }) (record k { running = n.running }) a.consistent items refl refl refl (omega arith) in
+      let a = roomed_in g origin base k (record k { live = n.live }) t safe changed begun standing count in
+      let b = rooms_in g origin base (record k { live = n.live }) (record k { running = n.running }) a.consistent items refl refl refl (omega arith) in
       record { consistent = b.consistent; state = a.state ∙ b.state }
 
   pub prepared_may : (k n : Core D) (t : ℕ) (op : Op) → MayBeCalled origin k t op → IsChanged k.live.members n.live.members t with_room → n.running.items ≡ k.running.items → MayRun origin (record k { live = n.live; running = n.running }) t op

@@ -3,6 +3,7 @@ use Rattle.std.proofs.Common.{◌≡◌, ℕ, ◌+◌, ◌∷◌, [], List, leng
 use Rattle.std.specs.Prelude.{vec_len}
 use Rattle.std.specs.List.{sum_by}
 use Rattle.std.specs.Option.{option_map}
+use Rattle.mt_disk.specs.declared.device.Device.{Ghosts}
 use Rattle.mt_live.proofs.Schedule.{start_kept}
 use Rattle.mt_live.specs.Entries.{Entry}
 use Rattle.mt_live.specs.Lives.{member_of}
@@ -18,7 +19,8 @@ use Rattle.mt_slock.specs.Views.{held_of}
 use Rattle.mt_space.specs.Changes.{PageBytes}
 use Rattle.mt_steps.specs.Held.{Holds}
 use Rattle.mt_core.proofs.Imaged.{images_end_nothing, images_held}
-use Rattle.mt_core.specs.Runs.{running_in, pages_of, entry_pages, entry_bytes, left_of, kept_bytes, taken_bytes}
+use Rattle.mt_core.specs.Runs.{running_in, pages_of, entry_pages, entry_bytes, kept_bytes, taken_bytes}
+use Rattle.mt_op.specs.World.{left_of}
 use Rattle.mt_core.specs.Consistent.{Origin, IsSchema, state_of, IsNumbered, IsQueued, IsEscrowed, IsFresh, IsIn}
 use Rattle.mt_core.specs.declared.parts.Commit.{Commit}
 use Rattle.mt_core.specs.declared.parts.Core.{Core}
@@ -41,9 +43,9 @@ pub record IsEmpty {D : Type 0} (k : Core D) : Type 0 where
   pub last : k.last ≡ 0
   pub reserved : k.reserved ≡ 0
 
-module _ {D : Type 0} (seen : D → List ℕ) (may_leave : D → List ℕ → Type 0) (origin : Origin) where
-  pub starts_in : (k : Core D) → IsFresh k.operations k.escrow → IsEmpty k → IsSchema origin → IsBase origin.first → Holds origin.pages origin.first → IsRight seen may_leave origin.pages origin.relations origin.counters k.operations
-      → IsEscrowed origin.counters origin.first k.escrow → IsIn seen may_leave origin origin.first (start origin.first) k
+module _ {D : Type 0} (g : Ghosts D) (origin : Origin) where
+  pub starts_in : (k : Core D) → IsFresh k.operations k.escrow → IsEmpty k → IsSchema origin → IsBase origin.first → Holds origin.pages origin.first → IsRight g origin.pages origin.relations origin.counters k.operations
+      → IsEscrowed origin.counters origin.first k.escrow → IsIn g origin origin.first (start origin.first) k
   starts_in k fresh empty schema bounds holds right escrowed =
       let state : start origin.first ≡ state_of k origin.first = λ i. record {
         book = sym empty.book i;

@@ -2,6 +2,7 @@
 use Rattle.std.proofs.Common.{◌≡◌, ◌∙◌, ℕ, ◌≤◌, ◌+◌, List, ◌∷◌, length, get_or, Option, Some, None, refl, ap, subst, arith}
 use Rattle.std.specs.List.{sum_by, remove}
 use Rattle.std.specs.Option.{option_map}
+use Rattle.mt_disk.specs.declared.device.Device.{Ghosts}
 use Rattle.mt_live.specs.Entries.{calls, kept}
 use Rattle.mt_live.specs.Lives.{member_of}
 use Rattle.mt_live.specs.Members.{Member}
@@ -43,14 +44,14 @@ pub record HasLeft {D : Type 0} (k : Core D) (t : ℕ) (cs : List Call) : Type 0
   pub claims : sum_by entry_pages (kept (only t) k.live.standing) ≤ claimed k.operations
   pub reserved : 114 + sum_by entry_bytes (kept (only t) k.live.standing) ≤ k.reserved
 
-module _ {D : Type 0} (seen : D → List ℕ) (may_leave : D → List ℕ → Type 0) (origin : Origin) (base : Base) where
-  pub left_sums : (k : Core D) (t : ℕ) (first : Commit) (cs : List Commit) → IsConsistent seen may_leave origin base k → k.commits.items ≡ first ∷ cs → first.txn ≡ t → (done : List Call) → done ≡ calls (kept (only t) k.live.standing) → HasLeft k t done
+module _ {D : Type 0} (g : Ghosts D) (origin : Origin) (base : Base) where
+  pub left_sums : (k : Core D) (t : ℕ) (first : Commit) (cs : List Commit) → IsConsistent g origin base k → k.commits.items ≡ first ∷ cs → first.txn ≡ t → (done : List Call) → done ≡ calls (kept (only t) k.live.standing) → HasLeft k t done
   left_sums k t first cs safe queue is done its =
       let some : length k.commits.items ≡ length (first ∷ cs) = ap (λ (xs : List Commit). length xs) queue in
       record {
         pages = ap (sum_by call_pages) its ∙ weighs_calls undo_pages (kept (only t) k.live.standing);
         bytes = ap (sum_by call_bytes) its ∙ weighs_calls undo_bytes (kept (only t) k.live.standing);
-        few = claims_few seen may_leave origin base k safe.fit;
-        claims = leave_claimed seen may_leave origin base k t safe;
-        reserved = subst (λ (u : ℕ). 114 + sum_by entry_bytes (kept (only u) k.live.standing) ≤ k.reserved) is (leave_enough seen may_leave origin base k first.txn safe.fit (first_idle seen may_leave origin base k first cs safe.fit queue) (omega arith));
+        few = claims_few g origin base k safe.fit;
+        claims = leave_claimed g origin base k t safe;
+        reserved = subst (λ (u : ℕ). 114 + sum_by entry_bytes (kept (only u) k.live.standing) ≤ k.reserved) is (leave_enough g origin base k first.txn safe.fit (first_idle g origin base k first cs safe.fit queue) (omega arith));
       }

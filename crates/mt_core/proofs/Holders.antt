@@ -19,7 +19,8 @@ use Rattle.mt_plock.specs.Holding.{lock_of, IsLeastHolder}
 use Rattle.mt_plock.specs.Releasing.{locks_without}
 use Rattle.mt_plock.specs.declared.guards.PageLock.{PageLock}
 use Rattle.mt_core.specs.Consistent.{IsOwnerOf}
-use Rattle.mt_core.specs.Runs.{AreApart, AreHeldBy, IsOwned, is_open, is_under_way, kept_bytes, left_of, pages_of, taken_bytes}
+use Rattle.mt_core.specs.Runs.{AreApart, AreHeldBy, IsOwned, is_open, is_under_way, kept_bytes, pages_of, taken_bytes}
+use Rattle.mt_op.specs.World.{left_of}
 use Rattle.mt_core.specs.Steps.{IsOfOther, TellsOther}
 use Rattle.mt_op.specs.declared.scope.OpScope.{OpScope}
 use Rattle.mt_core.proofs.Lists.{pair_at}

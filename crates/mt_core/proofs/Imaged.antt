@@ -3,7 +3,8 @@ use Rattle.std.proofs.Common.{◌≡◌, ℕ, false, List, [], ◌∷◌, ◌++�
 use Rattle.std.specs.List.{AllByRecursion}
 use Rattle.std.proofs.lemmas.List.Elements.{All-from_recursion, recursion_from_All}
 use Rattle.mt_frame.specs.Grammar.{IsTxn, IsRecord}
-use Rattle.mt_frame.specs.History.{txn_of, some_record, ends_txn, ends_op}
+use Rattle.mt_frame.specs.Grammar.{txn_of}
+use Rattle.mt_area_rules.specs.History.{some_record, ends_txn, ends_op}
 use Rattle.mt_frame.specs.declared.records.Record.{Record}
 use Rattle.mt_frame.specs.declared.records.Record.TheVariants.{Page, OpEnd, OpDropped, Commit, AbortEnd}
 use Rattle.mt_log.proofs.Prefix.{each_front}

@@ -6,6 +6,7 @@ use Rattle.std.proofs.lemmas.Int.{ints}
 use Rattle.std.proofs.lemmas.Bool.{ne_eqb}
 use Rattle.std.proofs.lemmas.List.{get_or_default}
 use Rattle.std.proofs.lemmas.List.Elements.{All-head, All-tail}
+use Rattle.mt_disk.specs.declared.device.Device.{Ghosts}
 use Rattle.mt_base.specs.Limits.{IsStep}
 use Rattle.mt_frame.specs.declared.records.Record.{Record}
 use Rattle.mt_inverse.specs.Steps.{IsWithinSteps}
@@ -93,17 +94,17 @@ reported_due last records t u m k named = go (last_place m.calls) refl named
         let due = k.due n it within (get_or_default m.calls n some.0 (get_or m.calls n some.0) within) (last_did m.calls n some.0 at) in
         (subst (IsDue records t) this due, subst (λ (x : ℕ). 1 ≤ x) this (k.numbers n 0 (omega (arith, within, many))).0)
 
-module _ {D : Type 0} (seen : D → List ℕ) (may_leave : D → List ℕ → Type 0) (origin : Origin) (base : Base) where
+module _ {D : Type 0} (g : Ghosts D) (origin : Origin) (base : Base) where
   -- the number that comes next is fresh for the inverse of a transaction's last effect
-  pub undo_fresh : (k : Core D) (t n u : ℕ) → IsConsistent seen may_leave origin base k → is_open (member_of k.live.members t) ≡ true → k.last < n → last_operation (member_of k.live.members t) ≡ Some u → IsFresh (world seen origin.pages k.operations) t n u × (u ≢ 0)
+  pub undo_fresh : (k : Core D) (t n u : ℕ) → IsConsistent g origin base k → is_open (member_of k.live.members t) ≡ true → k.last < n → last_operation (member_of k.live.members t) ≡ Some u → IsFresh (world g origin.pages k.operations) t n u × (u ≢ 0)
   undo_fresh k t n u safe at_work above named = go (member_of k.live.members t) refl named
     where
-      go : (o : Option Member) → member_of k.live.members t ≡ o → last_operation o ≡ Some u → IsFresh (world seen origin.pages k.operations) t n u × (u ≢ 0)
+      go : (o : Option Member) → member_of k.live.members t ≡ o → last_operation o ≡ Some u → IsFresh (world g origin.pages k.operations) t n u × (u ≢ 0)
       go None at h = absurd cc
       go (Some m) at h =
           let outcome = reported_due k.last (appended k.operations.store.log) t u m (safe.outcome t m at) h in
           let due = outcome.0 in
-          let fresh = next_fresh seen may_leave origin base k t n safe.fit at_work above in
+          let fresh = next_fresh g origin base k t n safe.fit at_work above in
           let some : u ≢ 0 = λ is. let low = outcome.1 in absurd (omega arith) in
           let apart : (u == 0) ≡ false = ne_eqb u 0 some in (
             record {

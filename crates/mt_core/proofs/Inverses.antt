@@ -1,7 +1,8 @@
 -- In a log that breaks no rule, no inverse names an operation that has not ended.
 use Rattle.std.proofs.Common.{◌≡◌, ⊎_elim, ℕ, ◌==◌, ◌&&◌, ◌||◌, not, Bool, true, false, List, [], ◌∷◌, ◌++◌, append-nil, append_assoc, refl, sym, ap, ◌∙◌, subst}
 use Rattle.std.proofs.lemmas.Bool.{eqb-true, and_parts, or_from}
-use Rattle.mt_frame.specs.History.{some_record, finishes, undoes_op, ends_op, inverse_is_due, is_in_its_batch, txn_is_open, op_is_open, image_is_first, may_stand, MayFollow, BatchesMayFollow, IsHistory}
+use Rattle.mt_disk.specs.declared.device.Device.{Ghosts}
+use Rattle.mt_area_rules.specs.History.{some_record, finishes, undoes_op, ends_op, inverse_is_due, is_in_its_batch, txn_is_open, op_is_open, image_is_first, may_stand, MayFollow, BatchesMayFollow, IsHistory}
 use Rattle.mt_frame.specs.declared.records.Record.{Record}
 use Rattle.mt_frame.specs.declared.records.Record.TheVariants.{OpEnd}
 use Rattle.mt_log.proofs.Prefix.{durable-joined}
@@ -71,9 +72,9 @@ in_history t n (b ∷ bs) rules none =
     all_follow t n b bs rules.1 none (follows t n true [] b rules.0 none_first refl)
 
 -- so none names one that has not ended
-pub none_named : {D : Type 0} (relations counters : ℕ) (seen : D → List ℕ) (may_leave : D → List ℕ → Type 0) (opening : PageBytes) (o : Operations D) (t n : ℕ) → IsRight seen may_leave opening relations counters o
+pub none_named : {D : Type 0} (relations counters : ℕ) (g : Ghosts D) (opening : PageBytes) (o : Operations D) (t n : ℕ) → IsRight g opening relations counters o
     → some_record (ends_op n) (appended o.store.log) ≡ false → some_record (undoes_op t n) (appended o.store.log) ≡ false
-none_named relations counters seen may_leave opening o t n right unended =
+none_named relations counters g opening o t n right unended =
     let log = o.store.log in
     let whole : appended log ≡ joined (durable_batches log ++ (in_flight log ++ waiting log) ∷ []) = (λ i. durable-joined log i ++ (in_flight log ++ waiting log)) ∙ sym (joined_push (durable_batches log) (in_flight log ++ waiting log)) in
     let none : some_record (finishes t n) (joined (durable_batches log ++ (in_flight log ++ waiting log) ∷ [])) ≡ false = ap (some_record (finishes t n)) (sym whole) ∙ unfinished_finishes t n (appended log) unended in
@@ -86,7 +87,7 @@ moving_open relations counters w s under moving =
     (λ more. ⊎_elim (λ (is : s.stage ≡ Writing). (subst (IsAt relations counters w s) is under.at).unended)
     (λ (is : s.stage ≡ Taking). (subst (IsAt relations counters w s) is under.at).unended) more) moving
 
-pub none_undone : {D : Type 0} (relations counters : ℕ) (seen : D → List ℕ) (may_leave : D → List ℕ → Type 0) (opening : PageBytes) (o : Operations D) (s : OpScope) → IsRight seen may_leave opening relations counters o
-    → IsUnderWay relations counters (world seen opening o) s → IsMoving s.stage → some_record (undoes_op s.txn s.number) (appended o.store.log) ≡ false
-none_undone relations counters seen may_leave opening o s right under moving =
-    none_named relations counters seen may_leave opening o s.txn s.number right (moving_open relations counters (world seen opening o) s under moving).unfinished.operation
+pub none_undone : {D : Type 0} (relations counters : ℕ) (g : Ghosts D) (opening : PageBytes) (o : Operations D) (s : OpScope) → IsRight g opening relations counters o
+    → IsUnderWay relations counters (world g opening o) s → IsMoving s.stage → some_record (undoes_op s.txn s.number) (appended o.store.log) ≡ false
+none_undone relations counters g opening o s right under moving =
+    none_named relations counters g opening o s.txn s.number right (moving_open relations counters (world g opening o) s under moving).unfinished.operation

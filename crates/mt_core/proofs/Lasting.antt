@@ -3,6 +3,7 @@ use Rattle.std.proofs.Common.{◌≡◌, ◌≢◌, ◌⊎◌, inl, inr, ⊎_eli
 use Rattle.std.specs.Prelude.{All, AllPairs}
 use Rattle.std.proofs.lemmas.Bool.{cases_eq, cases_lt, lt-ltb, ltb-true}
 use Rattle.std.proofs.lemmas.List.{get_or_push, get_or_append_left, length_push}
+use Rattle.mt_disk.specs.declared.device.Device.{Ghosts}
 use Rattle.mt_frame.specs.declared.records.Record.{Record}
 use Rattle.mt_frame.specs.declared.records.Record.TheVariants as record_of
 use Rattle.mt_log.specs.Words.{appended, durable, in_flight, waiting, Moves}
@@ -156,9 +157,9 @@ module _ {D : Type 0} where
   pub lasts_then : (k m n : Core D) → Lasts k m → n.operations.store ≡ m.operations.store → Lasts k n
   lasts_then k m n (more, is) store = (more, ap (λ s. durable s.log) store ∙ is)
 
-module _ {D : Type 0} (seen : D → List ℕ) (may_leave : D → List ℕ → Type 0) (origin : Origin) where
+module _ {D : Type 0} (g : Ghosts D) (origin : Origin) where
   -- with the same book and the same commits under way
-  pub stays_reported : (k n : Core D) (later : Base) → IsConsistent seen may_leave origin later n → Lasts k n → SameBook k n → TellsBook origin k → TellsBook origin n
+  pub stays_reported : (k n : Core D) (later : Base) → IsConsistent g origin later n → Lasts k n → SameBook k n → TellsBook origin k → TellsBook origin n
   stays_reported k n later safe (more, is) same was =
       let old = durable k.operations.store.log in
       let rest = in_flight n.operations.store.log ++ waiting n.operations.store.log in

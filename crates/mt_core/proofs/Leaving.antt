@@ -4,6 +4,7 @@ use Rattle.std.specs.Prelude.{All, is_some}
 use Rattle.std.specs.List.{sum_by}
 use Rattle.std.specs.Option.{option_map}
 use Rattle.std.proofs.lemmas.Bool.{eq-eqb}
+use Rattle.mt_disk.specs.declared.device.Device.{Ghosts}
 use Rattle.mt_live.proofs.Keeping.{kept_booked, kept_gone, committed_count}
 use Rattle.mt_live.specs.Entries.{Entry, calls, kept}
 use Rattle.mt_live.specs.Lives.{member_of, has_room, IsAbove}
@@ -29,7 +30,8 @@ use Rattle.mt_model.specs.Model.{Base}
 use Rattle.mt_plock.specs.declared.guards.PageLock.{PageLock}
 use Rattle.mt_frame.specs.declared.records.Record.{Record}
 use Rattle.mt_slock.specs.Views.{held_of}
-use Rattle.mt_core.specs.Runs.{running_in, AreHeldBy, is_at_work, IsOwned, is_open, entry_pages, entry_bytes, undo_bytes, left_of}
+use Rattle.mt_core.specs.Runs.{running_in, AreHeldBy, is_at_work, IsOwned, is_open, entry_pages, entry_bytes, undo_bytes}
+use Rattle.mt_op.specs.World.{left_of}
 use Rattle.mt_steps.specs.Plans.{undo_pages}
 use Rattle.mt_core.specs.Consistent.{Origin, state_of, state_in, IsNumbered, AreReported, IsQueued, IsWithinSchema, IsFit, IsConsistent, IsIn}
 use Rattle.mt_core.specs.declared.parts.Core.{Core}
@@ -99,16 +101,16 @@ committing_closed : (o : Option Member) → option_map (λ (m : Member). m.state
 committing_closed None is = refl
 committing_closed (Some m) is = let state : m.state ≡ Committing = cc in ap is_at_work state
 
-module _ {D : Type 0} (seen : D → List ℕ) (may_leave : D → List ℕ → Type 0) (origin : Origin) (base : Base) where
+module _ {D : Type 0} (g : Ghosts D) (origin : Origin) (base : Base) where
   -- the first of the commits under way is durable: its transaction leaves
-  pub booked_in : (k n : Core D) (c : Commit) (cs : List Commit) (done : Committed) → IsConsistent seen may_leave origin base k → k.commits.items ≡ c ∷ cs → n.commits.items ≡ cs
+  pub booked_in : (k n : Core D) (c : Commit) (cs : List Commit) (done : Committed) → IsConsistent g origin base k → k.commits.items ≡ c ∷ cs → n.commits.items ≡ cs
       → n.book.items ≡ k.book.items ++ done ∷ [] → vec_len n.book ≡ vec_len k.book + 1 → vec_capacity n.book ≡ vec_capacity k.book → done.calls ≡ calls (kept (only c.txn) k.live.standing) → n.live.standing ≡ kept (others c.txn) k.live.standing
       → ((u : ℕ) → member_of n.live.members u ≡ put (member_of k.live.members) c.txn None u) → n.live.begun ≡ k.live.begun → length n.live.members + 1 ≡ length k.live.members
       → held_of n.locks ≡ without_holder (held_of k.locks) c.txn
       → length n.escrow.committed ≡ length k.escrow.committed → ((x : ℕ) → count_at n.escrow.committed x ≡ moved_by c.txn x k.escrow.pending (count_at k.escrow.committed x)) → n.escrow.pending ≡ pending_without c.txn k.escrow.pending
-      → IsRight seen may_leave origin.pages origin.relations origin.counters n.operations → n.operations.store ≡ k.operations.store → n.operations.locks ≡ k.operations.locks → claimed n.operations + sum_by entry_pages (kept (only c.txn) k.live.standing) ≡ claimed k.operations
+      → IsRight g origin.pages origin.relations origin.counters n.operations → n.operations.store ≡ k.operations.store → n.operations.locks ≡ k.operations.locks → claimed n.operations + sum_by entry_pages (kept (only c.txn) k.live.standing) ≡ claimed k.operations
       → n.reserved + 114 + sum_by entry_bytes (kept (only c.txn) k.live.standing) ≡ k.reserved
-      → IsIn seen may_leave origin base (booked (state_of k base) c.txn done.session) (record k { operations = n.operations; live = n.live; book = n.book; locks = n.locks; escrow = n.escrow; commits = n.commits; reserved = n.reserved })
+      → IsIn g origin base (booked (state_of k base) c.txn done.session) (record k { operations = n.operations; live = n.live; book = n.book; locks = n.locks; escrow = n.escrow; commits = n.commits; reserved = n.reserved })
   booked_in k n c cs done safe queue rest book len capacity its standing members begun count locks all moved pending right store page_locks claims_now reserved =
       let fit = safe.fit in
       let t = c.txn in
@@ -129,7 +131,7 @@ module _ {D : Type 0} (seen : D → List ℕ) (may_leave : D → List ℕ → Ty
         pending = sym pending i;
         base = base;
       } in
-      let w_same : world seen origin.pages k.operations ≡ world seen origin.pages n.operations = world_same seen k.operations n.operations origin.pages store page_locks in
+      let w_same : world g origin.pages k.operations ≡ world g origin.pages n.operations = world_same g k.operations n.operations origin.pages store page_locks in
       let apart_pages = weighs_apart undo_pages t k.live.standing in
       let apart_bytes = weighs_apart undo_bytes t k.live.standing in
       let sum_pages : sum_by entry_pages n.live.standing ≡ sum_by entry_pages (kept (others t) k.live.standing) = ap (sum_by entry_pages) standing in
@@ -170,16 +172,16 @@ module _ {D : Type 0} (seen : D → List ℕ) (may_leave : D → List ℕ → Ty
       }
 
   -- the first of the commits under way runs nothing
-  pub first_idle : (k : Core D) (c : Commit) (cs : List Commit) → IsFit seen may_leave origin base k → k.commits.items ≡ c ∷ cs → All (λ (r : OpScope). r.txn ≢ c.txn) k.running.items
+  pub first_idle : (k : Core D) (c : Commit) (cs : List Commit) → IsFit g origin base k → k.commits.items ≡ c ∷ cs → All (λ (r : OpScope). r.txn ≢ c.txn) k.running.items
   first_idle k c cs fit queue =
       let in_queue : IsQueued k.live.members (appended k.operations.store.log) (c ∷ cs) = subst (IsQueued k.live.members (appended k.operations.store.log)) queue fit.queued in
       none_runs k.live.members k.live.standing k.running.items c.txn (committing_closed (member_of k.live.members c.txn) (All-head (λ (x : Commit). state_in k.live.members x.txn ≡ Some Committing) c cs in_queue.each)) fit.owned
 
   -- a transaction of which nothing is left to undo goes
-  pub gone_in : (k n : Core D) (t : ℕ) → IsConsistent seen may_leave origin base k → is_open (member_of k.live.members t) ≡ true → All (λ (r : OpScope). r.txn ≢ t) k.running.items → last_effect t k.live.standing ≡ None
+  pub gone_in : (k n : Core D) (t : ℕ) → IsConsistent g origin base k → is_open (member_of k.live.members t) ≡ true → All (λ (r : OpScope). r.txn ≢ t) k.running.items → last_effect t k.live.standing ≡ None
       → n.live.standing ≡ kept (others t) k.live.standing → ((u : ℕ) → member_of n.live.members u ≡ put (member_of k.live.members) t None u) → n.live.begun ≡ k.live.begun → length n.live.members + 1 ≡ length k.live.members
       → held_of n.locks ≡ without_holder (held_of k.locks) t → n.escrow.committed ≡ k.escrow.committed → n.escrow.pending ≡ pending_without t k.escrow.pending → n.reserved + 128 ≡ k.reserved
-      → IsIn seen may_leave origin base (gone (state_of k base) t) (record k { live = n.live; locks = n.locks; escrow = n.escrow; reserved = n.reserved })
+      → IsIn g origin base (gone (state_of k base) t) (record k { live = n.live; locks = n.locks; escrow = n.escrow; reserved = n.reserved })
   gone_in k n t safe at_work none nothing standing members begun count locks committed pending reserved =
       let fit = safe.fit in
       let z : Core D = record k { live = n.live; locks = n.locks; escrow = n.escrow; reserved = n.reserved } in

@@ -46,3 +46,4 @@ pub mod Lasting
 pub mod Restarts
 pub mod Turning
 pub mod Detached
+mod GoingOn

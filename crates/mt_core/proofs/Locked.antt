@@ -1,6 +1,7 @@
 -- A call on its way from its lock to its operation, and back where it is refused.
 use Rattle.std.proofs.Common.{◌≡◌, ℕ, ◌<◌, ◌+◌, true, false, List, [], ◌∷◌, ◌++◌, sym, ap, ◌∙◌, subst}
 use Rattle.std.specs.Option.{option_map}
+use Rattle.mt_disk.specs.declared.device.Device.{Ghosts}
 use Rattle.mt_escrow.specs.Seen.{Escrowed, add_of}
 use Rattle.mt_live.specs.Adds.{add_before}
 use Rattle.mt_live.specs.Lives.{member_of}
@@ -32,9 +33,9 @@ admitted_of relations counters m e t (Update r k v) within same asked = tt
 admitted_of relations counters m e t (Delete r k) within same asked = tt
 admitted_of relations counters m e t (Read c) within same asked = tt
 
-module _ {D : Type 0} (seen : D → List ℕ) (may_leave : D → List ℕ → Type 0) (origin : Origin) (base : Base) where
-  pub granted_from : (was : List (Object × List Holder)) (k n : Core D) (t : ℕ) (op : Op) → IsLocked seen may_leave origin base was k t op → n.escrow.pending ≡ k.escrow.pending ++ add_before t op [] → n.escrow.committed ≡ k.escrow.committed → IsAskedFor k.escrow t op
-      → IsGranted seen may_leave origin base was k.escrow (record k { escrow = n.escrow }) t op
+module _ {D : Type 0} (g : Ghosts D) (origin : Origin) (base : Base) where
+  pub granted_from : (was : List (Object × List Holder)) (k n : Core D) (t : ℕ) (op : Op) → IsLocked g origin base was k t op → n.escrow.pending ≡ k.escrow.pending ++ add_before t op [] → n.escrow.committed ≡ k.escrow.committed → IsAskedFor k.escrow t op
+      → IsGranted g origin base was k.escrow (record k { escrow = n.escrow }) t op
   granted_from was k n t op l more committed asked = record {
     was = l.was;
     may = record { within = l.may.within; at_work = l.may.at_work; room = l.may.room; idle = l.may.idle };
@@ -45,7 +46,7 @@ module _ {D : Type 0} (seen : D → List ℕ) (may_leave : D → List ℕ → Ty
     admitted = admitted_of origin.relations origin.counters (after origin.first k.book.items) k.escrow t op l.may.within l.was.fit.escrowed.counts asked;
   }
 
-  pub relocked_in : (k n : Core D) → IsConsistent seen may_leave origin base k → held_of n.locks ≡ held_of k.locks → IsIn seen may_leave origin base (state_of k base) (record k { locks = n.locks })
+  pub relocked_in : (k n : Core D) → IsConsistent g origin base k → held_of n.locks ≡ held_of k.locks → IsIn g origin base (state_of k base) (record k { locks = n.locks })
   relocked_in k n safe held =
       let fit = safe.fit in
       let state : state_of k base ≡ state_of (record k { locks = n.locks }) base = λ i. record {
@@ -84,29 +85,29 @@ module _ {D : Type 0} (seen : D → List ℕ) (may_leave : D → List ℕ → Ty
         state = state;
       }
 
-  pub locked_from : (k n : Core D) (t : ℕ) (op : Op) → IsConsistent seen may_leave origin base k → MayRun origin k t op → IsFree (held_of k.locks) t (object_of op) (mode_of op) → held_of n.locks ≡ with_lock (held_of k.locks) t (object_of op) (mode_of op)
-      → IsLocked seen may_leave origin base k.locks (record k { locks = n.locks }) t op
+  pub locked_from : (k n : Core D) (t : ℕ) (op : Op) → IsConsistent g origin base k → MayRun origin k t op → IsFree (held_of k.locks) t (object_of op) (mode_of op) → held_of n.locks ≡ with_lock (held_of k.locks) t (object_of op) (mode_of op)
+      → IsLocked g origin base k.locks (record k { locks = n.locks }) t op
   locked_from k n t op safe may free locked = record { was = safe; may = record { within = may.within; at_work = may.at_work; room = may.room; idle = may.idle }; locked = locked; free = free }
 
   -- as before, in whatever room the operations have
-  restored : (k n : Core D) → IsConsistent seen may_leave origin base k → IsRestored seen may_leave k n → IsConsistent seen may_leave origin base n
-  restored k n safe r = subst (IsConsistent seen may_leave origin base) (sym r.same) (claims_consistent seen may_leave origin base k n safe (r.right origin.pages origin.relations origin.counters safe.fit.right) r.store r.page_locks r.claimed)
+  restored : (k n : Core D) → IsConsistent g origin base k → IsRestored g k n → IsConsistent g origin base n
+  restored k n safe r = subst (IsConsistent g origin base) (sym r.same) (claims_consistent g origin base k n safe (r.right origin.pages origin.relations origin.counters safe.fit.right) r.store r.page_locks r.claimed)
 
   -- the lock was held before
-  pub restored_in : (k m n : Core D) (t : ℕ) (op : Op) → IsConsistent seen may_leave origin base k → held_of m.locks ≡ with_lock (held_of k.locks) t (object_of op) (mode_of op) → held_of k.locks t (object_of op) (mode_of op) ≡ true → IsRestored seen may_leave (record k { locks = m.locks }) n
-      → IsIn seen may_leave origin base (state_of k base) n
+  pub restored_in : (k m n : Core D) (t : ℕ) (op : Op) → IsConsistent g origin base k → held_of m.locks ≡ with_lock (held_of k.locks) t (object_of op) (mode_of op) → held_of k.locks t (object_of op) (mode_of op) ≡ true → IsRestored g (record k { locks = m.locks }) n
+      → IsIn g origin base (state_of k base) n
   restored_in k m n t op safe locked had r =
       let z : Core D = record k { locks = m.locks } in
       let a = relocked_in k z safe (locked ∙ held_already (held_of k.locks) t (object_of op) (mode_of op) had) in
       record { consistent = restored z n a.consistent r; state = a.state ∙ (λ i. state_of (sym r.same i) base) }
 
   -- it was not, and is taken out
-  pub restored_out : (k m n p : Core D) (t : ℕ) (op : Op) → IsConsistent seen may_leave origin base k → held_of m.locks ≡ with_lock (held_of k.locks) t (object_of op) (mode_of op) → held_of k.locks t (object_of op) (mode_of op) ≡ false → IsRestored seen may_leave (record k { locks = m.locks }) n
-      → held_of p.locks ≡ without_lock (held_of n.locks) t (object_of op) (mode_of op) → IsIn seen may_leave origin base (state_of k base) (record n { locks = p.locks })
+  pub restored_out : (k m n p : Core D) (t : ℕ) (op : Op) → IsConsistent g origin base k → held_of m.locks ≡ with_lock (held_of k.locks) t (object_of op) (mode_of op) → held_of k.locks t (object_of op) (mode_of op) ≡ false → IsRestored g (record k { locks = m.locks }) n
+      → held_of p.locks ≡ without_lock (held_of n.locks) t (object_of op) (mode_of op) → IsIn g origin base (state_of k base) (record n { locks = p.locks })
   restored_out k m n p t op safe locked new r out =
       let z : Core D = record k { locks = m.locks } in
       let held : held_of n.locks ≡ held_of m.locks = ap (λ (x : Core D). held_of x.locks) r.same in
       let back : held_of p.locks ≡ held_of k.locks = out ∙ (λ i. without_lock ((held ∙ locked) i) t (object_of op) (mode_of op)) ∙ taken_out (held_of k.locks) t (object_of op) (mode_of op) new in
       let b = relocked_in k (record k { locks = p.locks }) safe back in
-      let r2 : IsRestored seen may_leave (record k { locks = p.locks }) (record n { locks = p.locks }) = record { same = ap (λ (x : Core D). record x { locks = p.locks }) r.same; right = r.right; store = r.store; page_locks = r.page_locks; claimed = r.claimed } in
+      let r2 : IsRestored g (record k { locks = p.locks }) (record n { locks = p.locks }) = record { same = ap (λ (x : Core D). record x { locks = p.locks }) r.same; right = r.right; store = r.store; page_locks = r.page_locks; claimed = r.claimed } in
       record { consistent = restored (record k { locks = p.locks }) (record n { locks = p.locks }) b.consistent r2; state = b.state ∙ (λ i. state_of (sym r2.same i) base) }

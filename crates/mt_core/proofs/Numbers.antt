@@ -8,7 +8,7 @@ use Rattle.mt_base.specs.declared.modes.Mode.TheVariants.{Write}
 use Rattle.mt_base.specs.declared.refusal.Refusal.{Refusal}
 use Rattle.mt_frame.specs.declared.records.Record.{Record}
 use Rattle.mt_frame.specs.declared.records.LoggedOp.{LoggedOp}
-use Rattle.mt_frame.specs.History.{some_record, ends_txn, ends_op, undoes_op}
+use Rattle.mt_area_rules.specs.History.{some_record, ends_txn, ends_op, undoes_op}
 use Rattle.mt_live.specs.Lives.{member_of}
 use Rattle.mt_live.specs.Members.{Member}
 use Rattle.mt_op.specs.Holds.{IsNext, KeepsLocks}

@@ -7,6 +7,7 @@ use Rattle.std.proofs.Math.Seq.{take-append-add}
 use Rattle.std.proofs.lemmas.List.Elements.{All-head, All-tail, All-filter}
 use Rattle.std.proofs.lemmas.List.Filters.{sum_by-filter_both}
 use Rattle.std.proofs.lemmas.List.Sums.{sum_by-cons}
+use Rattle.mt_disk.specs.declared.device.Device.{Ghosts}
 use Rattle.mt_frame.specs.declared.records.LoggedOp.{LoggedOp}
 use Rattle.mt_frame.specs.declared.records.LoggedOp.TheVariants as logged
 use Rattle.mt_frame.specs.declared.records.Record.{Record}
@@ -138,7 +139,7 @@ state_some (Some m) is = refl
 
 -- ---- consistent parts
 
-module _ {D : Type 0} (seen : D → List ℕ) (may_leave : D → List ℕ → Type 0) (origin : Origin) (base : Base) (n : Core D) (safe : IsConsistent seen may_leave origin base n) where
+module _ {D : Type 0} (g : Ghosts D) (origin : Origin) (base : Base) (n : Core D) (safe : IsConsistent g origin base n) where
   abbrev pub records : List Record
   records = appended n.operations.store.log
 

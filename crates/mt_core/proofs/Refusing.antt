@@ -2,6 +2,7 @@
 use Rattle.std.proofs.Common.{ℕ, Bool, List, ap, arith}
 use Rattle.std.specs.Prelude.{ℤ}
 use Rattle.std.proofs.Props.{props}
+use Rattle.mt_disk.specs.declared.device.Device.{Ghosts}
 use Rattle.mt_base.specs.declared.refusal.Refusal.{Refusal}
 use Rattle.mt_base.specs.declared.refusal.Refusal.TheVariants as refusal
 use Rattle.mt_base.specs.Limits.{IsStep}
@@ -37,9 +38,9 @@ Steps-prop (Delete r k) = hlevel props
 Steps-prop (Add c d) = Step-prop d
 Steps-prop (Read c) = hlevel props
 
-module _ {D : Type 0} (seen : D → List ℕ) (origin : Origin) (k : Core D) (kept t : ℕ) (op : Op) (split : Bool) where
+module _ {D : Type 0} (g : Ghosts D) (origin : Origin) (k : Core D) (kept t : ℕ) (op : Op) (split : Bool) where
   -- escrow admitted it
-  pub behind : (why : Refusal) → IsAskedFor k.escrow t op → IsUnreserved seen origin k kept op split why → IsRefusedBehind seen origin k kept t op split why
+  pub behind : (why : Refusal) → IsAskedFor k.escrow t op → IsUnreserved g origin k kept op split why → IsRefusedBehind g origin k kept t op split why
   behind refusal.NoMemory a u = tt
   behind refusal.DeviceFailed a u = absurd u
   behind refusal.NotFormatted a u = absurd u
@@ -60,7 +61,7 @@ module _ {D : Type 0} (seen : D → List ℕ) (origin : Origin) (k : Core D) (ke
   behind (refusal.BadLine x) a u = absurd u
 
   -- nobody was in the way
-  pub refused_call : (why : Refusal) → IsFree (held_of k.locks) t (object_of op) (mode_of op) → IsRefusedBehind seen origin k kept t op split why → IsRefusedCall seen origin k kept t op split why
+  pub refused_call : (why : Refusal) → IsFree (held_of k.locks) t (object_of op) (mode_of op) → IsRefusedBehind g origin k kept t op split why → IsRefusedCall g origin k kept t op split why
   refused_call refusal.NoMemory f b = tt
   refused_call refusal.DeviceFailed f b = (f, b)
   refused_call refusal.NotFormatted f b = (f, b)
@@ -81,7 +82,7 @@ module _ {D : Type 0} (seen : D → List ℕ) (origin : Origin) (k : Core D) (ke
   refused_call (refusal.BadLine x) f b = (f, b)
 
   -- somebody was
-  pub barred_call : (why : Refusal) → IsRefused (held_of k.locks) t (object_of op) (mode_of op) why → IsRefusedCall seen origin k kept t op split why
+  pub barred_call : (why : Refusal) → IsRefused (held_of k.locks) t (object_of op) (mode_of op) why → IsRefusedCall g origin k kept t op split why
   barred_call refusal.NoMemory b = tt
   barred_call refusal.DeviceFailed b = absurd b
   barred_call refusal.NotFormatted b = absurd b

@@ -6,7 +6,7 @@ use Rattle.std.proofs.lemmas.Bool.{eq-eqb, eqb-true, ne_eqb, and_left, and_right
 use Rattle.std.proofs.lemmas.List.{get_or_push, get_or_append_left, get_or-take, length_push, length-take-le}
 use Rattle.std.proofs.lemmas.List.Elements.{All-push, All-take}
 use Rattle.std.proofs.lemmas.List.Quantifiers.{all_pairs_push}
-use Rattle.mt_frame.specs.History.{some_record, finishes, undoes_op, ends_op}
+use Rattle.mt_area_rules.specs.History.{some_record, finishes, undoes_op, ends_op}
 use Rattle.mt_frame.specs.declared.records.Record.{Record}
 use Rattle.mt_frame.specs.declared.records.LoggedOp.{LoggedOp}
 use Rattle.mt_frame.specs.declared.records.Record.TheVariants.{OpEnd}

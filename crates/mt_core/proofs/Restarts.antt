@@ -6,6 +6,7 @@ use Rattle.std.specs.Option.{option_map}
 use Rattle.std.proofs.lemmas.Bool.{eq-eqb, ne_eqb, cases_eq}
 use Rattle.std.proofs.lemmas.List.{map-append}
 use Rattle.std.proofs.lemmas.List.Elements.{All-head, All-tail, filter-append}
+use Rattle.mt_disk.specs.declared.device.Device.{Ghosts}
 use Rattle.mt_frame.specs.declared.records.LoggedOp.{LoggedOp}
 use Rattle.mt_frame.specs.declared.records.Record.{Record}
 use Rattle.mt_frame.specs.declared.records.Record.TheVariants.{OpEnd, Commit as CommitOf, AbortEnd}
@@ -149,7 +150,7 @@ at_place (y ∷ ys) (suc i) lt = at_place ys i (omega (arith, lt))
 
 -- ---- parts
 
-module _ {D : Type 0} (seen : D → List ℕ) (may_leave : D → List ℕ → Type 0) (origin : Origin) where
+module _ {D : Type 0} (g : Ghosts D) (origin : Origin) where
   -- these records tell of the parts, and have led to this base
   pub record Now (k : Core D) (rs : List Record) (base : Base) : Type 0 where
     pub since : List Committed
@@ -157,10 +158,10 @@ module _ {D : Type 0} (seen : D → List ℕ) (may_leave : D → List ℕ → Ty
     pub tally : Tallies (map effects_of since) (txns_of k.commits.items) (num k.live.members) (filter did k.live.standing) (tells rs)
     pub leads : run origin.begun (calls_in rs) ≡ base
 
-  pub base_is : (k : Core D) (base : Base) → IsConsistent seen may_leave origin base k → runs (after origin.first k.book.items) k.live.standing ≡ base
+  pub base_is : (k : Core D) (base : Base) → IsConsistent g origin base k → runs (after origin.first k.book.items) k.live.standing ≡ base
   base_is k base safe = safe.fit.kept.base
 
-  pub now_of : (k : Core D) (rs : List Record) (base : Base) → IsConsistent seen may_leave origin base k → TellsOf origin k rs → Now k rs base
+  pub now_of : (k : Core D) (rs : List Record) (base : Base) → IsConsistent g origin base k → TellsOf origin k rs → Now k rs base
   now_of k rs base safe t =
       let turned = in_turn (session_in k.live.members) (txns_of k.commits.items) k.live.standing in
       record {
@@ -174,7 +175,7 @@ module _ {D : Type 0} (seen : D → List ℕ) (may_leave : D → List ℕ → Ty
         leads = t.calls ∙ base_is k base safe;
       }
 
-  pub tells_of : (k : Core D) (rs : List Record) (base : Base) → IsConsistent seen may_leave origin base k → Now k rs base → TellsOf origin k rs
+  pub tells_of : (k : Core D) (rs : List Record) (base : Base) → IsConsistent g origin base k → Now k rs base → TellsOf origin k rs
   tells_of k rs base safe n =
       let turned = in_turn (session_in k.live.members) (txns_of k.commits.items) k.live.standing in
       record {
@@ -206,7 +207,7 @@ module _ {D : Type 0} (seen : D → List ℕ) (may_leave : D → List ℕ → Ty
   moved_each k n same r area front back is = moved_recovers k n front same (r.beginnings (subst (λ (b : ℕ). 4194304 ≤ b) same.bytes area) front back is)
 
   -- nothing is appended that tells
-  pub stays : (k n : Core D) (later : Base) → IsConsistent seen may_leave origin later n → QuietlyAppends origin.pages k n → length n.live.members ≤ 64
+  pub stays : (k n : Core D) (later : Base) → IsConsistent g origin later n → QuietlyAppends origin.pages k n → length n.live.members ≤ 64
       → Now n (appended n.operations.store.log) later → TellsBook origin n → IsRestartable origin k → IsRestartable origin n
   stays k n later safe q few now booked r =
       let old = appended k.operations.store.log in
@@ -221,7 +222,7 @@ module _ {D : Type 0} (seen : D → List ℕ) (may_leave : D → List ℕ → Ty
       }
 
   -- one record is
-  pub grows : (k n : Core D) (later : Base) (entry : Record) → IsConsistent seen may_leave origin later n → SameArea k n → length n.live.members ≤ 64
+  pub grows : (k n : Core D) (later : Base) (entry : Record) → IsConsistent g origin later n → SameArea k n → length n.live.members ≤ 64
       → appended n.operations.store.log ≡ appended k.operations.store.log ++ entry ∷ []
       → (LeadsOn origin.relations origin.counters (pages k.operations.store.pool) origin.pages (appended k.operations.store.log) → LeadsOn origin.relations origin.counters (pages k.operations.store.pool) origin.pages (appended n.operations.store.log))
       → Now n (appended n.operations.store.log) later → TellsBook origin n → IsRestartable origin k → IsRestartable origin n
@@ -233,7 +234,7 @@ module _ {D : Type 0} (seen : D → List ℕ) (may_leave : D → List ℕ → Ty
         beginnings = λ area.
             let each = moved_each k n same r area in
             let was : LeadsOn origin.relations origin.counters (pages k.operations.store.pool) origin.pages old = subst (λ (t : ℕ). LeadsOn origin.relations origin.counters t origin.pages old) same.total (begin_all (Recovers origin n) old each).leads in
-            let whole : Recovers origin n (appended n.operations.store.log) = recovers seen may_leave origin later n safe r.begun tells area few (led was) in
+            let whole : Recovers origin n (appended n.operations.store.log) = recovers g origin later n safe r.begun tells area few (led was) in
             subst (EachBeginning (Recovers origin n)) (sym is) (begin_one (Recovers origin n) old entry each (subst (Recovers origin n) is whole));
         begun = r.begun;
         tells = tells;
@@ -249,7 +250,7 @@ module _ {D : Type 0} (seen : D → List ℕ) (may_leave : D → List ℕ → Ty
   pub quiet_store : (k n : Core D) → n.operations.store ≡ k.operations.store → QuietlyAppends origin.pages k n
   quiet_store k n store = record { area = same_area k n store; appends = appends_none origin.pages (appended k.operations.store.log) (appended n.operations.store.log) (ap (λ s. appended s.log) store) }
 
-  pub stays_same : (k n : Core D) (base later : Base) → IsConsistent seen may_leave origin base k → IsConsistent seen may_leave origin later n → QuietlyAppends origin.pages k n → SameBook k n
+  pub stays_same : (k n : Core D) (base later : Base) → IsConsistent g origin base k → IsConsistent g origin later n → QuietlyAppends origin.pages k n → SameBook k n
       → n.live.standing ≡ k.live.standing → ((t : ℕ) → num n.live.members t ≡ num k.live.members t) → length n.live.members ≤ 64 → IsRestartable origin k → IsRestartable origin n
   stays_same k n base later safe_k safe_n q book standing numbers few r =
       let old = appended k.operations.store.log in
@@ -257,18 +258,18 @@ module _ {D : Type 0} (seen : D → List ℕ) (may_leave : D → List ℕ → Ty
       let bases : base ≡ later = sym (base_is k base safe_k) ∙ (λ i. runs (after origin.first (sym book.book i)) (sym standing i)) ∙ base_is n later safe_n in
       let tally : Tallies (map effects_of was.since) (txns_of k.commits.items) (num n.live.members) (filter did k.live.standing) (tells old) = tally_same (map effects_of was.since) (txns_of k.commits.items) (num k.live.members) (num n.live.members) (filter did k.live.standing) (tells old) was.tally numbers in
       let here : Now n old later = record { since = was.since; book = book.book ∙ was.book; tally = subst (λ (X : Type 0). X) (λ i. Tallies (map effects_of was.since) (txns_of (sym book.commits i)) (num n.live.members) (filter did (sym standing i)) (tells old)) tally; leads = was.leads ∙ bases } in
-      stays k n later safe_n q few (appended_now n old (appended n.operations.store.log) later q.appends here) (stays_reported seen may_leave origin k n later safe_n q.area.lasts book r.booked) r
+      stays k n later safe_n q few (appended_now n old (appended n.operations.store.log) later q.appends here) (stays_reported g origin k n later safe_n q.area.lasts book r.booked) r
 
-  pub store_same : (k n : Core D) (base later : Base) → IsConsistent seen may_leave origin base k → IsConsistent seen may_leave origin later n → n.operations.store ≡ k.operations.store → SameBook k n → n.live ≡ k.live → IsRestartable origin k → IsRestartable origin n
+  pub store_same : (k n : Core D) (base later : Base) → IsConsistent g origin base k → IsConsistent g origin later n → n.operations.store ≡ k.operations.store → SameBook k n → n.live ≡ k.live → IsRestartable origin k → IsRestartable origin n
   store_same k n base later safe_k safe_n store book live r = stays_same k n base later safe_k safe_n (quiet_store k n store) book (ap (λ l. l.standing) live) (λ t. ap (λ l. num l.members t) live) (subst (λ l. length l.members ≤ 64) (sym live) r.few) r
 
-  pub rests_same : (k n : Core D) (base later : Base) → IsConsistent seen may_leave origin base k → IsConsistent seen may_leave origin later n → Rests (world seen origin.pages k.operations) (world seen origin.pages n.operations)
+  pub rests_same : (k n : Core D) (base later : Base) → IsConsistent g origin base k → IsConsistent g origin later n → Rests (world g origin.pages k.operations) (world g origin.pages n.operations)
       → area_size n.operations.store.log ≡ area_size k.operations.store.log → Lasts k n → SameBook k n → n.live ≡ k.live → IsRestartable origin k → IsRestartable origin n
   rests_same k n base later safe_k safe_n rests area lasts book live r = stays_same k n base later safe_k safe_n
       (record { area = record { total = rests.area.total; bytes = area; lasts = lasts }; appends = appends_none origin.pages (appended k.operations.store.log) (appended n.operations.store.log) rests.records })
       book (ap (λ l. l.standing) live) (λ t. ap (λ l. num l.members t) live) (subst (λ l. length l.members ≤ 64) (sym live) r.few) r
 
-  pub goes_on : (k n : Core D) (base later : Base) → IsConsistent seen may_leave origin base k → IsConsistent seen may_leave origin later n → QuietlyAppends origin.pages k n → n.book ≡ k.book → n.commits ≡ k.commits → n.live ≡ k.live → IsRestartable origin k → IsRestartable origin n
+  pub goes_on : (k n : Core D) (base later : Base) → IsConsistent g origin base k → IsConsistent g origin later n → QuietlyAppends origin.pages k n → n.book ≡ k.book → n.commits ≡ k.commits → n.live ≡ k.live → IsRestartable origin k → IsRestartable origin n
   goes_on k n base later safe_k safe_n q book commits live r = stays_same k n base later safe_k safe_n q (record { book = ap (λ v. v.items) book; commits = ap (λ v. v.items) commits }) (ap (λ l. l.standing) live) (λ t. ap (λ l. num l.members t) live) (subst (λ l. length l.members ≤ 64) (sym live) r.few) r
 
   -- in the same store
@@ -304,7 +305,7 @@ module _ {D : Type 0} (seen : D → List ℕ) (may_leave : D → List ℕ → Ty
 
   -- ---- an operation has ended
 
-  pub ended : (k n : Core D) (base later : Base) (r : OpScope) (reply : Reply) → IsConsistent seen may_leave origin base k → IsConsistent seen may_leave origin later n → SameArea k n
+  pub ended : (k n : Core D) (base later : Base) (r : OpScope) (reply : Reply) → IsConsistent g origin base k → IsConsistent g origin later n → SameArea k n
       → AppendsEnd origin (pages k.operations.store.pool) (appended k.operations.store.log) (appended n.operations.store.log) r reply → NotesEnd k n r reply → r.undoes ≡ 0
       → is_open (member_of k.live.members r.txn) ≡ true → reply_of base r.op ≡ reply → IsRestartable origin k → IsRestartable origin n
   ended k n base later r reply safe_k safe_n same a e fore working replies restartable = go (logged_of r.op reply) refl
@@ -370,7 +371,7 @@ module _ {D : Type 0} (seen : D → List ℕ) (may_leave : D → List ℕ → Ty
           let nothing : inverse_of r.op (reply_of base r.op) ≡ None = none_of (inverse_of r.op (reply_of base r.op)) (ap (λ (y : Reply). is_some (inverse_of r.op y)) replies ∙ logged_did r.op reply ∙ ap is_some is) in
           let tally = tally_same (map effects_of was.since) (txns_of k.commits.items) (num k.live.members) (num n.live.members) (filter did k.live.standing) (tells old) was.tally numbers in
           let now : Now n old later = record { since = was.since; book = e.same.book ∙ was.book; tally = tally_in (tells old) (filter did k.live.standing) entries tally; leads = was.leads ∙ sym (later_is ∙ base_effectless base r.op nothing) } in
-          stays k n later safe_n (record { area = same; appends = appends_none origin.pages old (appended n.operations.store.log) records }) few (subst (λ (rs : List Record). Now n rs later) (sym records) now) (stays_reported seen may_leave origin k n later safe_n same.lasts e.same restartable.booked) restartable
+          stays k n later safe_n (record { area = same; appends = appends_none origin.pages old (appended n.operations.store.log) records }) few (subst (λ (rs : List Record). Now n rs later) (sym records) now) (stays_reported g origin k n later safe_n same.lasts e.same restartable.booked) restartable
         where
           none_of : {A : Type 0} (o : Option A) → is_some o ≡ false → o ≡ None
           none_of None is = refl
@@ -390,11 +391,11 @@ module _ {D : Type 0} (seen : D → List ℕ) (may_leave : D → List ℕ → Ty
           let tally = tally_end (map effects_of was.since) (txns_of k.commits.items) (num k.live.members) (num n.live.members) (filter did k.live.standing) (tells old) was.tally f (apart_from k.live.members k.commits.items t safe_k.fit.queued.each working) mine rest in
           let led : run origin.begun (calls_in (old ++ it ∷ [])) ≡ later = ap (run origin.begun) (calls_append old (it ∷ [])) ∙ run-append origin.begun (calls_in old) (call_of done ∷ []) ∙ (λ i. base_after (was.leads i) (tells_it.0 i)) ∙ sym later_is in
           let now : Now n (old ++ it ∷ []) later = record { since = was.since; book = e.same.book ∙ was.book; tally = subst (Tallies (map effects_of was.since) (txns_of n.commits.items) (num n.live.members) (filter did n.live.standing)) (sym now_reported) (tally_in (record { live = (tells old).live ++ f ∷ []; books = (tells old).books }) (filter did k.live.standing ++ entry_of f ∷ []) entries tally); leads = led } in
-          grows k n later it safe_n same few records a.leads (subst (λ (rs : List Record). Now n rs later) (sym records) now) (stays_reported seen may_leave origin k n later safe_n same.lasts e.same restartable.booked) restartable
+          grows k n later it safe_n same few records a.leads (subst (λ (rs : List Record). Now n rs later) (sym records) now) (stays_reported g origin k n later safe_n same.lasts e.same restartable.booked) restartable
 
   -- ---- an inverse has ended
 
-  pub undone : (k n : Core D) (base : Base) (r : OpScope) (reply : Reply) → IsConsistent seen may_leave origin base k → IsConsistent seen may_leave origin (base_after base r.op) n → SameArea k n
+  pub undone : (k n : Core D) (base : Base) (r : OpScope) (reply : Reply) → IsConsistent g origin base k → IsConsistent g origin (base_after base r.op) n → SameArea k n
       → AppendsEnd origin (pages k.operations.store.pool) (appended k.operations.store.log) (appended n.operations.store.log) r reply → NotesUndone k n r → r.undoes ≢ 0
       → is_open (member_of k.live.members r.txn) ≡ true → TakesBack k.live.members k.live.standing r → reply_of base r.op ≡ reply → IsRestartable origin k → IsRestartable origin n
   undone k n base r reply safe_k safe_n same a e back working takes replies restartable = go (logged_of r.op reply) refl
@@ -475,7 +476,7 @@ module _ {D : Type 0} (seen : D → List ℕ) (may_leave : D → List ℕ → Ty
           tallied tally =
               let here = subst (λ (X : Type 0). X) (λ i. Tallies (map effects_of was.since) (txns_of (sym e.same.commits i)) (num n.live.members) (sym stands i) (sym now_reported i)) tally in
               let now : Now n (old ++ it ∷ []) (base_after base r.op) = record { since = was.since; book = e.same.book ∙ was.book; tally = here; leads = led } in
-              grows k n (base_after base r.op) it safe_n same few records a.leads (subst (λ (rs : List Record). Now n rs (base_after base r.op)) (sym records) now) (stays_reported seen may_leave origin k n (base_after base r.op) safe_n same.lasts e.same restartable.booked) restartable
+              grows k n (base_after base r.op) it safe_n same few records a.leads (subst (λ (rs : List Record). Now n rs (base_after base r.op)) (sym records) now) (stays_reported g origin k n (base_after base r.op) safe_n same.lasts e.same restartable.booked) restartable
 
           at : (o : Option ℕ) → last_place m.member.calls ≡ o → IsRestartable origin n
           at None place = let none : operation_at m.member None ≡ Some r.undoes = ap (operation_at m.member) (sym place) ∙ named in absurd cc
@@ -500,7 +501,7 @@ module _ {D : Type 0} (seen : D → List ℕ) (may_leave : D → List ℕ → Ty
   ends_calls : (rs : List Record) (entry : Record) → calls_in (entry ∷ []) ≡ [] → calls_in (rs ++ entry ∷ []) ≡ calls_in rs
   ends_calls rs entry none = calls_append rs (entry ∷ []) ∙ ap (λ (cs : List Call). calls_in rs ++ cs) none ∙ append-nil (calls_in rs)
 
-  pub committed : (k n : Core D) (base later : Base) (it : Commit) → IsConsistent seen may_leave origin base k → IsConsistent seen may_leave origin later n → SameArea k n
+  pub committed : (k n : Core D) (base later : Base) (it : Commit) → IsConsistent g origin base k → IsConsistent g origin later n → SameArea k n
       → appended n.operations.store.log ≡ appended k.operations.store.log ++ CommitOf it.txn ∷ [] → IsChanged k.live.members n.live.members it.txn (λ m. with_state m Committing) → length n.live.members ≡ length k.live.members
       → n.live.standing ≡ k.live.standing → n.book.items ≡ k.book.items → n.commits.items ≡ k.commits.items ++ it ∷ [] → is_open (member_of k.live.members it.txn) ≡ true
       → durable n.operations.store.log ≡ durable k.operations.store.log → length (durable k.operations.store.log) < it.place → IsRestartable origin k → IsRestartable origin n
@@ -518,9 +519,9 @@ module _ {D : Type 0} (seen : D → List ℕ) (may_leave : D → List ℕ → Ty
       let here = subst (λ (X : Type 0). X) (λ i. Tallies (map effects_of was.since) (names i) (num n.live.members) (filter did (sym standing i)) (now_reported i)) tally in
       let now : Now n (old ++ CommitOf t ∷ []) later = record { since = was.since; book = book ∙ was.book; tally = here; leads = ap (run origin.begun) (ends_calls old (CommitOf t) refl) ∙ was.leads ∙ bases } in
       grows k n later (CommitOf t) safe_n same (subst (λ (x : ℕ). x ≤ 64) (sym count) r.few) records (ends_leads old (appended n.operations.store.log) (CommitOf t) (pages k.operations.store.pool) (ap held (logged_more origin.pages old (CommitOf t ∷ []))) refl records)
-      (subst (λ (rs : List Record). Now n rs later) (sym records) now) (begins_reported seen may_leave origin k n it lasting book commits behind r.booked) r
+      (subst (λ (rs : List Record). Now n rs later) (sym records) now) (begins_reported g origin k n it lasting book commits behind r.booked) r
 
-  pub aborted : (k n : Core D) (base later : Base) (t : ℕ) → IsConsistent seen may_leave origin base k → IsConsistent seen may_leave origin later n → SameArea k n
+  pub aborted : (k n : Core D) (base later : Base) (t : ℕ) → IsConsistent g origin base k → IsConsistent g origin later n → SameArea k n
       → appended n.operations.store.log ≡ appended k.operations.store.log ++ AbortEnd t ∷ [] → ((u : ℕ) → member_of n.live.members u ≡ put (member_of k.live.members) t None u) → length n.live.members + 1 ≡ length k.live.members
       → n.live.standing ≡ kept (others t) k.live.standing → SameBook k n → is_open (member_of k.live.members t) ≡ true → last_effect t k.live.standing ≡ None → IsRestartable origin k → IsRestartable origin n
   aborted k n base later t safe_k safe_n same records members count standing book working nothing r =
@@ -531,14 +532,14 @@ module _ {D : Type 0} (seen : D → List ℕ) (may_leave : D → List ℕ → Ty
       let stands : kept (others t) (filter did k.live.standing) ≡ filter did n.live.standing = sym (ap (filter did) standing ∙ filter-swap did (λ (x : Entry). others t x.txn) k.live.standing) in
       let now_reported : record { live = others_of t (tells old).live; books = (tells old).books } ≡ tells (old ++ AbortEnd t ∷ []) = sym (tell_more (record { live = []; books = [] }) old (AbortEnd t ∷ [])) in
       let here = subst (λ (X : Type 0). X) (λ i. Tallies (map effects_of was.since) (txns_of (sym book.commits i)) (num n.live.members) (stands i) (now_reported i)) tally in
-      let effects : (z : Core D) (b : Base) → IsConsistent seen may_leave origin b z → run (after origin.first z.book.items) (calls (filter did z.live.standing)) ≡ b = λ z b safe.
+      let effects : (z : Core D) (b : Base) → IsConsistent g origin b z → run (after origin.first z.book.items) (calls (filter did z.live.standing)) ≡ b = λ z b safe.
       ap (run (after origin.first z.book.items)) (sym (calls_did z.live.standing)) ∙ (effects_acted (after origin.first z.book.items) (calls z.live.standing) safe.fit.kept.sound.acted).1 ∙ base_is z b safe in
       let still : filter did n.live.standing ≡ filter did k.live.standing = ap (filter did) standing ∙ idle_did t k.live.standing (idle_all t k.live.standing nothing) in
       let bases : base ≡ later = sym (effects k base safe_k) ∙ (λ i. run (after origin.first (sym book.book i)) (calls (sym still i))) ∙ effects n later safe_n in
       let now : Now n (old ++ AbortEnd t ∷ []) later = record { since = was.since; book = book.book ∙ was.book; tally = here; leads = ap (run origin.begun) (ends_calls old (AbortEnd t) refl) ∙ was.leads ∙ bases } in
       let few = r.few in
       grows k n later (AbortEnd t) safe_n same (omega (arith, few, count)) records (ends_leads old (appended n.operations.store.log) (AbortEnd t) (pages k.operations.store.pool) (ap held (logged_more origin.pages old (AbortEnd t ∷ []))) refl records)
-      (subst (λ (rs : List Record). Now n rs later) (sym records) now) (stays_reported seen may_leave origin k n later safe_n same.lasts book r.booked) r
+      (subst (λ (rs : List Record). Now n rs later) (sym records) now) (stays_reported g origin k n later safe_n same.lasts book r.booked) r
 
   -- ---- a commit is booked
 
@@ -546,7 +547,7 @@ module _ {D : Type 0} (seen : D → List ℕ) (may_leave : D → List ℕ → Ty
   closed_num None is = refl
   closed_num (Some x) is = let state : x.state ≡ Committing = cc in ap (λ (y : TxnState). cond (is_at_work y) (numbers_did x.calls x.operations) []) state
 
-  pub leaves : (k n : Core D) (base later : Base) (c : Commit) (cs : List Commit) (done : Committed) → IsConsistent seen may_leave origin base k → IsConsistent seen may_leave origin later n → n.operations.store ≡ k.operations.store
+  pub leaves : (k n : Core D) (base later : Base) (c : Commit) (cs : List Commit) (done : Committed) → IsConsistent g origin base k → IsConsistent g origin later n → n.operations.store ≡ k.operations.store
       → k.commits.items ≡ c ∷ cs → n.commits.items ≡ cs → n.book.items ≡ k.book.items ++ done ∷ [] → done.calls ≡ calls (kept (only c.txn) k.live.standing)
       → ((u : ℕ) → member_of n.live.members u ≡ put (member_of k.live.members) c.txn None u) → length n.live.members + 1 ≡ length k.live.members → n.live.standing ≡ kept (others c.txn) k.live.standing → c.place ≤ length (durable k.operations.store.log) → IsRestartable origin k → IsRestartable origin n
   leaves k n base later c cs done safe_k safe_n store queue rest book its_calls members count standing there r =
@@ -568,11 +569,11 @@ module _ {D : Type 0} (seen : D → List ℕ) (may_leave : D → List ℕ → Ty
       let here : Now n old later = record { since = was.since ++ done ∷ []; book = whole; tally = subst (λ (X : Type 0). X) (λ i. Tallies (books i) (txns_of (sym rest i)) (num n.live.members) (stands i) (tells old)) tally; leads = was.leads ∙ bases } in
       let q = quiet_store k n store in
       let few = r.few in
-      stays k n later safe_n q (omega (arith, few, count)) (appended_now n old (appended n.operations.store.log) later q.appends here) (leaves_reported seen may_leave origin k n c cs done store queue rest book there r.booked) r
+      stays k n later safe_n q (omega (arith, few, count)) (appended_now n old (appended n.operations.store.log) later q.appends here) (leaves_reported g origin k n c cs done store queue rest book there r.booked) r
 
   -- ---- the log's area begins
 
-  pub starts : (k : Core D) → IsConsistent seen may_leave origin origin.begun k → IsBase origin.begun → origin.begun ≡ after origin.first origin.earlier → k.book.items ≡ origin.earlier → k.commits.items ≡ [] → k.live.members ≡ [] → k.live.standing ≡ []
+  pub starts : (k : Core D) → IsConsistent g origin origin.begun k → IsBase origin.begun → origin.begun ≡ after origin.first origin.earlier → k.book.items ≡ origin.earlier → k.commits.items ≡ [] → k.live.members ≡ [] → k.live.standing ≡ []
       → AreImages (appended k.operations.store.log) → IsRestartable origin k
   starts k safe bounds begun book commits members standing images =
       let records = appended k.operations.store.log in
@@ -602,6 +603,6 @@ module _ {D : Type 0} (seen : D → List ℕ) (may_leave : D → List ℕ → Ty
         beginnings = λ area front back is. quiet_recovers origin.pages [] front (quiet front back is) origin.relations origin.counters total (area_size k.operations.store.log) origin.begun (recovered area);
         begun = begun;
         tells = tells_of k records origin.begun safe now;
-        booked = starts_reported seen may_leave origin k book commits;
+        booked = starts_reported g origin k book commits;
         few = let nobody : length k.live.members ≡ 0 = ap (λ (ms : List Member). length ms) members in omega (arith, nobody);
       }

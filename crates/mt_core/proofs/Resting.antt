@@ -5,6 +5,7 @@ use Rattle.std.specs.List.{sum_by}
 use Rattle.std.specs.Option.{option_map}
 use Rattle.std.proofs.lemmas.Bool.{ne_eqb, and_right}
 use Rattle.std.proofs.lemmas.Option.{some_pair_parts}
+use Rattle.mt_disk.specs.declared.device.Device.{Ghosts}
 use Rattle.mt_model.specs.declared.operations.Reply.{Reply}
 use Rattle.std.proofs.lemmas.List.Elements.{All-push}
 use Rattle.std.proofs.lemmas.List.Quantifiers.{all_pairs_push}
@@ -25,7 +26,8 @@ use Rattle.mt_space.specs.Changes.{PageBytes}
 use Rattle.mt_slock.specs.Views.{held_of}
 use Rattle.mt_steps.specs.Held.{Holds}
 use Rattle.mt_live.specs.declared.transactions.TxnState.TheVariants.{Aborting}
-use Rattle.mt_core.specs.Runs.{running_in, is_for, state_in, AreApart, AreHeldBy, IsRunning, IsOwned, is_at_work, is_open, pages_of, left_of, kept_bytes, taken_bytes}
+use Rattle.mt_core.specs.Runs.{running_in, is_for, state_in, AreApart, AreHeldBy, IsRunning, IsOwned, is_at_work, is_open, pages_of, kept_bytes, taken_bytes}
+use Rattle.mt_op.specs.World.{left_of}
 use Rattle.mt_core.specs.Consistent.{Origin, state_of, IsNumbered, AreReported, IsQueued, IsConsistent, IsFit, IsIn}
 use Rattle.mt_core.specs.declared.parts.Core.{Core}
 use Rattle.mt_op.specs.declared.scope.OpScope.{OpScope}
@@ -38,11 +40,11 @@ pub aborting_open : (o : Option Member) → option_map (λ (m : Member). m.state
 aborting_open None is = absurd cc
 aborting_open (Some m) is = let state : m.state ≡ Aborting = cc in ap is_at_work state
 
-module _ {D : Type 0} (seen : D → List ℕ) (may_leave : D → List ℕ → Type 0) (origin : Origin) (base : Base) where
+module _ {D : Type 0} (g : Ghosts D) (origin : Origin) (base : Base) where
   -- operations have changed, and nothing else of the parts
-  pub fit_over : (k n : Core D) → IsFit seen may_leave origin base k → IsRight seen may_leave origin.pages origin.relations origin.counters n.operations → n.operations.locks ≡ k.operations.locks
+  pub fit_over : (k n : Core D) → IsFit g origin base k → IsRight g origin.pages origin.relations origin.counters n.operations → n.operations.locks ≡ k.operations.locks
       → IsNumbered k.last k.live.begun k.live.members n.operations.locks (appended n.operations.store.log) → IsQueued k.live.members (appended n.operations.store.log) k.commits.items
-      → used n.operations.store.log + sum_by left_of k.running.items + k.reserved < area_size n.operations.store.log → IsFit seen may_leave origin base (record k { operations = n.operations })
+      → used n.operations.store.log + sum_by left_of k.running.items + k.reserved < area_size n.operations.store.log → IsFit g origin base (record k { operations = n.operations })
   fit_over k n fit right locks numbered queued log = record {
     schema = fit.schema;
     right = right;
@@ -60,8 +62,8 @@ module _ {D : Type 0} (seen : D → List ℕ) (may_leave : D → List ℕ → Ty
     escrowed = fit.escrowed;
   }
 
-  pub rests_in : (k n : Core D) → IsConsistent seen may_leave origin base k → IsRight seen may_leave origin.pages origin.relations origin.counters n.operations → Rests (world seen origin.pages k.operations) (world seen origin.pages n.operations)
-      → claimed n.operations ≡ claimed k.operations → used n.operations.store.log ≤ used k.operations.store.log → area_size n.operations.store.log ≡ area_size k.operations.store.log → IsIn seen may_leave origin base (state_of k base) (record k { operations = n.operations })
+  pub rests_in : (k n : Core D) → IsConsistent g origin base k → IsRight g origin.pages origin.relations origin.counters n.operations → Rests (world g origin.pages k.operations) (world g origin.pages n.operations)
+      → claimed n.operations ≡ claimed k.operations → used n.operations.store.log ≤ used k.operations.store.log → area_size n.operations.store.log ≡ area_size k.operations.store.log → IsIn g origin base (state_of k base) (record k { operations = n.operations })
   rests_in k n safe right rests same less area =
       let fit = safe.fit in
       let claims = safe.claims in let log = fit.log in
@@ -71,8 +73,8 @@ module _ {D : Type 0} (seen : D → List ℕ) (may_leave : D → List ℕ → Ty
               (subst (λ (X : Type 0). X) (λ i. IsNumbered k.last k.live.begun k.live.members (sym rests.locks i) (sym rests.records i)) fit.numbered)
               (subst (λ (X : Type 0). X) (λ i. IsQueued k.live.members (sym rests.records i) k.commits.items) fit.queued)
               (omega arith);
-          holds = subst (λ (p : PageBytes). Holds p base) (sym (rests_held (world seen origin.pages k.operations) (world seen origin.pages n.operations) rests)) safe.holds;
-          runs = λ i d lt. let was = safe.runs i d lt in record { under = rests_own origin.relations origin.counters (world seen origin.pages k.operations) (world seen origin.pages n.operations) (get_or k.running.items i d) rests was.under; budget = was.budget; number = was.number; moving = was.moving };
+          holds = subst (λ (p : PageBytes). Holds p base) (sym (rests_held (world g origin.pages k.operations) (world g origin.pages n.operations) rests)) safe.holds;
+          runs = λ i d lt. let was = safe.runs i d lt in record { under = rests_own origin.relations origin.counters (world g origin.pages k.operations) (world g origin.pages n.operations) (get_or k.running.items i d) rests was.under; budget = was.budget; number = was.number; moving = was.moving };
           outcome = subst (λ (X : Type 0). X) (λ i. AreReported k.last k.live.members (sym rests.records i)) safe.outcome;
           claims = same ∙ claims;
         };
@@ -84,10 +86,10 @@ module _ {D : Type 0} (seen : D → List ℕ) (may_leave : D → List ℕ → Ty
   running_also (x ∷ xs) r u back = ap (λ (o : Option Op). cond (is_for u x) (Some x.op) o) (running_also xs r u back)
 
   -- an inverse begins, of the last entry of its transaction that did something
-  pub undoing_in : (k n : Core D) (t : ℕ) (e : Entry) (r : OpScope) → IsConsistent seen may_leave origin base k → state_in k.live.members t ≡ Some Aborting → All (λ (q : OpScope). q.txn ≢ t) k.running.items
+  pub undoing_in : (k n : Core D) (t : ℕ) (e : Entry) (r : OpScope) → IsConsistent g origin base k → state_in k.live.members t ≡ Some Aborting → All (λ (q : OpScope). q.txn ≢ t) k.running.items
       → last_effect t k.live.standing ≡ Some e → inverse_of e.op e.reply ≡ Some r.op → n.running.items ≡ k.running.items ++ r ∷ [] → last_operation (member_of k.live.members t) ≡ Some r.undoes
-      → IsUnderWay origin.relations origin.counters (world seen origin.pages k.operations) r → HasBudget r → r.txn ≡ t → r.number ≡ k.last + 1 → r.undoes ≢ 0 → r.split ≡ false → r.stage ≡ Planning
-      → r.left ≡ 106496 → n.reserved + 106496 ≡ k.reserved → IsIn seen may_leave origin base (state_of k base) (record k { running = n.running; last = k.last + 1; reserved = n.reserved })
+      → IsUnderWay origin.relations origin.counters (world g origin.pages k.operations) r → HasBudget r → r.txn ≡ t → r.number ≡ k.last + 1 → r.undoes ≢ 0 → r.split ≡ false → r.stage ≡ Planning
+      → r.left ≡ 106496 → n.reserved + 106496 ≡ k.reserved → IsIn g origin base (state_of k base) (record k { running = n.running; last = k.last + 1; reserved = n.reserved })
   undoing_in k n t e r safe aborting idle last inverse items named under budget txn number back unsplit planning left freed =
       let fit = safe.fit in
       let z : Core D = record k { running = n.running; last = k.last + 1; reserved = n.reserved } in
@@ -102,9 +104,9 @@ module _ {D : Type 0} (seen : D → List ℕ) (may_leave : D → List ℕ → Ty
         pending = k.escrow.pending;
         base = base;
       } in
-      let still : All (IsRunning origin.relations origin.counters (world seen origin.pages k.operations) (k.last + 1)) k.running.items =
+      let still : All (IsRunning origin.relations origin.counters (world g origin.pages k.operations) (k.last + 1)) k.running.items =
       λ i d lt. let was = safe.runs i d lt in record { under = was.under; budget = was.budget; number = let low = was.number in omega arith; moving = was.moving } in
-      let mine : IsRunning origin.relations origin.counters (world seen origin.pages k.operations) (k.last + 1) r = record { under = under; budget = budget; number = omega arith; moving = inl planning } in
+      let mine : IsRunning origin.relations origin.counters (world g origin.pages k.operations) (k.last + 1) r = record { under = under; budget = budget; number = omega arith; moving = inl planning } in
       let own : IsOwned k.live.members k.live.standing r = record {
         at_work = rw txn (aborting_open (member_of k.live.members t) aborting);
         room = λ fore. absurd (back fore);
@@ -142,7 +144,7 @@ module _ {D : Type 0} (seen : D → List ℕ) (may_leave : D → List ℕ → Ty
             escrowed = fit.escrowed;
           };
           holds = safe.holds;
-          runs = subst (All (IsRunning origin.relations origin.counters (world seen origin.pages k.operations) (k.last + 1))) (sym items) (All-push (IsRunning origin.relations origin.counters (world seen origin.pages k.operations) (k.last + 1)) k.running.items r still mine);
+          runs = subst (All (IsRunning origin.relations origin.counters (world g origin.pages k.operations) (k.last + 1))) (sym items) (All-push (IsRunning origin.relations origin.counters (world g origin.pages k.operations) (k.last + 1)) k.running.items r still mine);
           outcome = reported_last k.last (k.last + 1) k.live.members (appended k.operations.store.log) (omega arith) safe.outcome;
           claims = omega arith;
         };

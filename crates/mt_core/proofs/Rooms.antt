@@ -4,6 +4,7 @@ use Rattle.std.specs.Prelude.{All, AllPairs, vec_len}
 use Rattle.std.specs.List.{sum_by}
 use Rattle.std.specs.Option.{option_map}
 use Rattle.std.specs.Vec.{vec_capacity}
+use Rattle.mt_disk.specs.declared.device.Device.{Ghosts}
 use Rattle.mt_live.specs.Lives.{member_of}
 use Rattle.mt_live.specs.Machine.{IsKept}
 use Rattle.mt_live.specs.Members.{Member}
@@ -12,15 +13,16 @@ use Rattle.mt_model.specs.History.{after}
 use Rattle.mt_model.specs.Model.{Base}
 use Rattle.mt_op.specs.Operations.{world}
 use Rattle.mt_slock.specs.Views.{held_of}
-use Rattle.mt_core.specs.Runs.{running_in, AreApart, AreHeldBy, IsRunning, IsOwned, pages_of, left_of, kept_bytes, taken_bytes}
+use Rattle.mt_core.specs.Runs.{running_in, AreApart, AreHeldBy, IsRunning, IsOwned, pages_of, kept_bytes, taken_bytes}
+use Rattle.mt_op.specs.World.{left_of}
 use Rattle.mt_core.specs.Consistent.{Origin, state_of, IsQueued, IsEscrowed, IsConsistent, IsIn}
 use Rattle.mt_core.specs.declared.parts.Commit.{Commit}
 use Rattle.mt_core.specs.declared.parts.Core.{Core}
 use Rattle.mt_op.specs.declared.scope.OpScope.{OpScope}
 
-module _ {D : Type 0} (seen : D → List ℕ) (may_leave : D → List ℕ → Type 0) (origin : Origin) (base : Base) where
-  pub rooms_in : (k n : Core D) → IsConsistent seen may_leave origin base k → n.running.items ≡ k.running.items → n.commits.items ≡ k.commits.items → n.book.items ≡ k.book.items → vec_len n.book ≡ vec_len k.book → vec_capacity k.book ≤ vec_capacity n.book
-      → IsIn seen may_leave origin base (state_of k base) (record k { running = n.running; commits = n.commits; book = n.book })
+module _ {D : Type 0} (g : Ghosts D) (origin : Origin) (base : Base) where
+  pub rooms_in : (k n : Core D) → IsConsistent g origin base k → n.running.items ≡ k.running.items → n.commits.items ≡ k.commits.items → n.book.items ≡ k.book.items → vec_len n.book ≡ vec_len k.book → vec_capacity k.book ≤ vec_capacity n.book
+      → IsIn g origin base (state_of k base) (record k { running = n.running; commits = n.commits; book = n.book })
   rooms_in k n safe running commits book len capacity =
       let fit = safe.fit in
       let z : Core D = record k { running = n.running; commits = n.commits; book = n.book } in
@@ -56,7 +58,7 @@ module _ {D : Type 0} (seen : D → List ℕ) (may_leave : D → List ℕ → Ty
             escrowed = subst (λ (X : Type 0). X) (λ i. IsEscrowed origin.counters (after origin.first (sym book i)) k.escrow) fit.escrowed;
           };
           holds = safe.holds;
-          runs = subst (All (IsRunning origin.relations origin.counters (world seen origin.pages k.operations) k.last)) (sym running) safe.runs;
+          runs = subst (All (IsRunning origin.relations origin.counters (world g origin.pages k.operations) k.last)) (sym running) safe.runs;
           outcome = safe.outcome;
           claims = omega arith;
         };

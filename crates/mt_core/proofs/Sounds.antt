@@ -7,8 +7,9 @@ use Rattle.std.specs.Vec.{vec_capacity}
 use Rattle.std.proofs.lemmas.Bool.{eqb-true}
 use Rattle.std.proofs.lemmas.List.Elements.{All-head}
 use mathlib.Core.Logic.{∥∥₁_elim, ∥∥₁_map}
+use Rattle.mt_disk.specs.declared.device.Device.{Ghosts}
 use Rattle.mt_frame.specs.Grammar.{IsTxn}
-use Rattle.mt_frame.specs.History.{some_record, ends_txn}
+use Rattle.mt_area_rules.specs.History.{some_record, ends_txn}
 use Rattle.mt_live.specs.Lives.{member_of}
 use Rattle.mt_live.specs.Machine.{put}
 use Rattle.mt_live.specs.Members.{Member}
@@ -33,16 +34,16 @@ moving_of Taking m = inr (inr refl)
 moving_of Ready m = absurd (∥∥₁_elim m (hlevel props) (λ k. ⊎_elim (λ (a : Ready ≡ Planning). absurd cc) (λ b. ⊎_elim (λ (d : Ready ≡ Writing). absurd cc) (λ (e : Ready ≡ Taking). absurd cc) b) k))
 moving_of Cleared m = absurd (∥∥₁_elim m (hlevel props) (λ k. ⊎_elim (λ (a : Cleared ≡ Planning). absurd cc) (λ b. ⊎_elim (λ (d : Cleared ≡ Writing). absurd cc) (λ (e : Cleared ≡ Taking). absurd cc) b) k))
 
-module _ {D : Type 0} (seen : D → List ℕ) (may_leave : D → List ℕ → Type 0) (k : Core D) (sound : IsSound seen may_leave k) where
-  pub opening_of : HasOpening seen may_leave k.operations.store
+module _ {D : Type 0} (g : Ghosts D) (k : Core D) (sound : IsSound g k) where
+  pub opening_of : HasOpening g k.operations.store
   opening_of = ∥∥₁_map sound (λ (origin, base, safe). (origin.pages, safe.fit.right.kept))
 
-  pub steady_of : IsSteady seen may_leave k.operations.store
-  steady_of = steady seen may_leave k.operations.store opening_of
+  pub steady_of : IsSteady g k.operations.store
+  steady_of = steady g k.operations.store opening_of
 
   -- a transaction at work has a number that a record may have, and has not ended
   pub named_of : (t : ℕ) → is_open (member_of k.live.members t) ≡ true → IsTxn t
-  named_of t at_work = ∥∥₁_elim sound (hlevel props) (λ (origin, base, safe). txn_named seen may_leave origin base k t safe.fit at_work)
+  named_of t at_work = ∥∥₁_elim sound (hlevel props) (λ (origin, base, safe). txn_named g origin base k t safe.fit at_work)
 
   pub unended_of : (t : ℕ) → is_open (member_of k.live.members t) ≡ true → some_record (ends_txn t) (appended k.operations.store.log) ≡ false
   unended_of t at_work = ∥∥₁_elim sound (hlevel props) (λ (origin, base, safe). safe.fit.numbered.txns t at_work)

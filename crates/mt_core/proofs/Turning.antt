@@ -4,6 +4,7 @@ use Rattle.std.specs.Prelude.{All, is_some}
 use Rattle.std.specs.List.{sum_by}
 use Rattle.std.specs.Option.{option_map}
 use Rattle.std.proofs.lemmas.Bool.{eq-eqb}
+use Rattle.mt_disk.specs.declared.device.Device.{Ghosts}
 use Rattle.mt_live.specs.Entries.{Entry, runs}
 use Rattle.mt_live.specs.Lives.{member_of}
 use Rattle.mt_live.specs.Adds.{adds, add_of}
@@ -23,7 +24,8 @@ use Rattle.mt_space.specs.Changes.{PageBytes}
 use Rattle.mt_steps.specs.Held.{Holds}
 use Rattle.mt_core.proofs.Imaged.{images_end_nothing, images_held}
 use Rattle.mt_core.proofs.Restarts.{starts}
-use Rattle.mt_core.specs.Runs.{running_in, IsOwned, is_open, pages_of, entry_pages, entry_bytes, left_of, kept_bytes, taken_bytes}
+use Rattle.mt_core.specs.Runs.{running_in, IsOwned, is_open, pages_of, entry_pages, entry_bytes, kept_bytes, taken_bytes}
+use Rattle.mt_op.specs.World.{left_of}
 use Rattle.mt_core.specs.Consistent.{Origin, state_of, state_in, IsNumbered, IsQueued, IsEscrowed, IsFresh, IsIn, IsConsistent}
 use Rattle.mt_core.specs.Restartable.{IsRestartable}
 use Rattle.mt_core.specs.Turned.{TurnsOver, turned}
@@ -40,7 +42,7 @@ no_pending (p ∷ ps) none = absurd (let mine : (p.txn == p.txn) ≡ true = eq-e
     absurd_first true same is = absurd cc
     absurd_first false same is = absurd cc
 
-module _ {D : Type 0} (seen : D → List ℕ) (may_leave : D → List ℕ → Type 0) (origin : Origin) (base : Base) (k : Core D) (nobody : k.live.members ≡ []) (safe : IsConsistent seen may_leave origin base k) where
+module _ {D : Type 0} (g : Ghosts D) (origin : Origin) (base : Base) (k : Core D) (nobody : k.live.members ≡ []) (safe : IsConsistent g origin base k) where
   none_lives : (t : ℕ) → member_of k.live.members t ≡ None
   none_lives t = ap (λ (ms : List Member). member_of ms t) nobody
 
@@ -82,7 +84,7 @@ module _ {D : Type 0} (seen : D → List ℕ) (may_leave : D → List ℕ → Ty
       let entries = ap (sum_by entry_bytes) none_stands in let members = ap (λ (ms : List Member). length ms) nobody in
       omega (arith, is, kept, taken, entries, members)
 
-  module _ (pages : PageBytes) (n : Core D) (fresh : IsFresh n.operations n.escrow) (turns : TurnsOver seen may_leave origin base k pages n.operations n.escrow) (live : n.live ≡ k.live) (locks : n.locks ≡ k.locks) (book : n.book ≡ k.book) (last : n.last ≡ k.last) (reserved : n.reserved ≡ k.reserved)
+  module _ (pages : PageBytes) (n : Core D) (fresh : IsFresh n.operations n.escrow) (turns : TurnsOver g origin base k pages n.operations n.escrow) (live : n.live ≡ k.live) (locks : n.locks ≡ k.locks) (book : n.book ≡ k.book) (last : n.last ≡ k.last) (reserved : n.reserved ≡ k.reserved)
       (running : n.running.items ≡ []) (commits : n.commits.items ≡ []) where
     abbrev goes_on : Origin
     goes_on = turned origin base pages k
@@ -130,7 +132,7 @@ module _ {D : Type 0} (seen : D → List ℕ) (may_leave : D → List ℕ → Ty
       placed = λ i d lt. absurd (omega (arith, lt));
     }
 
-    mine : IsIn seen may_leave goes_on base (state_of k base) is_k
+    mine : IsIn g goes_on base (state_of k base) is_k
     mine =
         let was = safe.fit in
         let no_running = ap (λ (rs : List OpScope). length rs) running in let no_commits = ap (λ (cs : List Commit). length cs) commits in let no_standing = ap (λ (es : List Entry). length es) none_stands in
@@ -164,9 +166,9 @@ module _ {D : Type 0} (seen : D → List ℕ) (may_leave : D → List ℕ → Ty
         }
 
     -- the laws see nothing of it
-    pub turns_in : IsIn seen may_leave goes_on base (state_of k base) n
-    turns_in = subst (IsIn seen may_leave goes_on base (state_of k base)) (sym as_k) mine
+    pub turns_in : IsIn g goes_on base (state_of k base) n
+    turns_in = subst (IsIn g goes_on base (state_of k base)) (sym as_k) mine
 
     -- and a restart over the new area finds the base with which that began
     pub turns_restartable : IsRestartable goes_on n
-    turns_restartable = subst (IsRestartable goes_on) (sym as_k) (starts seen may_leave goes_on is_k mine.consistent turns.bounds booked_holds refl commits nobody none_stands fresh.images)
+    turns_restartable = subst (IsRestartable goes_on) (sym as_k) (starts g goes_on is_k mine.consistent turns.bounds booked_holds refl commits nobody none_stands fresh.images)

@@ -7,6 +7,7 @@ use Rattle.std.proofs.lemmas.Bool.{eq-eqb, eqb-true, ne_eqb, cases_eq}
 use Rattle.std.proofs.lemmas.List.{get_or_default}
 use Rattle.std.proofs.lemmas.List.Elements.{All-head, All-tail}
 use Rattle.std.proofs.lemmas.List.Sums.{sum_by-cons}
+use Rattle.mt_disk.specs.declared.device.Device.{Ghosts}
 use Rattle.mt_base.specs.declared.refusal.Refusal.{Refusal}
 use Rattle.mt_live.specs.Entries.{Entry, kept}
 use Rattle.mt_live.specs.Undoing.{only, others, is_effect, last_of, last_effect, cut_back}
@@ -145,12 +146,12 @@ module _ {D : Type 0} where
   forward_moved k n place x q m fore = let all = pages k.operations.store.pool in let effects = effects_left all k.live.standing x.txn in let both = steps_moved k n place x q m in
       (both.0 ∙ fore_with all effects x fore, both.1 ∙ fore_with all effects q (m.same.undoes ∙ fore))
 
-module _ {D : Type 0} (seen : D → List ℕ) (may_leave : D → List ℕ → Type 0) (origin : Origin) (base : Base) where
+module _ {D : Type 0} (g : Ghosts D) (origin : Origin) (base : Base) where
   -- how many pages there are, by an operation that is under way
-  pub total_at : (k : Core D) (place : ℕ) (x : OpScope) → IsConsistent seen may_leave origin base k → place < length k.running.items → x ≡ get_or k.running.items place x → x.seen.total ≡ pages k.operations.store.pool
+  pub total_at : (k : Core D) (place : ℕ) (x : OpScope) → IsConsistent g origin base k → place < length k.running.items → x ≡ get_or k.running.items place x → x.seen.total ≡ pages k.operations.store.pool
   total_at k place x safe within at = ap (λ (r : OpScope). r.seen.total) at ∙ (safe.runs place x within).under.total
 
-  pub moved_of : (k n : Core D) (place : ℕ) (x : OpScope) → IsConsistent seen may_leave origin base k → IsConsistent seen may_leave origin base n → place < length k.running.items → x ≡ get_or k.running.items place x
+  pub moved_of : (k n : Core D) (place : ℕ) (x : OpScope) → IsConsistent g origin base k → IsConsistent g origin base n → place < length k.running.items → x ≡ get_or k.running.items place x
       → length n.running.items ≡ length k.running.items → ((q : OpScope) → q ≡ get_or n.running.items place q → SameOp x q) → n.live ≡ k.live → IsMoved k n place x (get_or n.running.items place x)
   moved_of k n place x safe safe_now within at count same live =
       let inside : place < length n.running.items = omega (arith, within, count) in
@@ -208,12 +209,12 @@ under_way all effects t (x ∷ xs) each = go (x.txn == t) refl (under_way all ef
 most_of : (steps effects n w : ℕ) → steps ≤ effects + 9 → effects ≤ n * w → 10 ≤ w → steps ≤ (n + 1) * w
 most_of steps effects n w few within wide = let one = suc-mul n w in let same : (n + 1) * w ≡ suc n * w = ap (λ (m : ℕ). m * w) (omega arith) in omega (arith, few, within, wide, one, same)
 
-module _ {D : Type 0} (seen : D → List ℕ) (may_leave : D → List ℕ → Type 0) (origin : Origin) (base : Base) where
-  pub few_steps : (k : Core D) (t : ℕ) → IsConsistent seen may_leave origin base k → state_in k.live.members t ≡ Some Open → undo_steps k t ≤ most_steps k t
+module _ {D : Type 0} (g : Ghosts D) (origin : Origin) (base : Base) where
+  pub few_steps : (k : Core D) (t : ℕ) → IsConsistent g origin base k → state_in k.live.members t ≡ Some Open → undo_steps k t ≤ most_steps k t
   few_steps k t safe opened =
       let all = pages k.operations.store.pool in let effects = effects_left all k.live.standing t in
       let each : All (λ (r : OpScope). r.txn ≡ t → (r.undoes ≡ 0) × (r.standing ≤ 8)) k.running.items = λ i d lt own. let r = get_or k.running.items i d in (
         ⊎_elim (λ (fore : r.undoes ≡ 0). fore) (λ (back : r.undoes ≡ 0 → ⊥). let now : Some Open ≡ Some Aborting = sym opened ∙ ap (state_in k.live.members) (sym own) ∙ (safe.fit.owned i d lt).aborts back in absurd cc) (cases_eq r.undoes 0),
-        few_stand origin.relations origin.counters (world seen origin.pages k.operations) r (safe.runs i d lt).under (safe.runs i d lt).moving,
+        few_stand origin.relations origin.counters (world g origin.pages k.operations) r (safe.runs i d lt).under (safe.runs i d lt).moving,
       ) in
       most_of (undo_steps k t) effects (length (kept (only t) k.live.standing)) (2 * all + 10) (under_way all effects t k.running.items each) (few_of (effect_steps all t) t (2 * all + 10) (effect_of all t) k.live.standing) (omega arith)

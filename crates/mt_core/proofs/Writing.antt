@@ -4,7 +4,7 @@ use Rattle.std.specs.Prelude.{All}
 use Rattle.std.proofs.lemmas.Bool.{eq-eqb}
 use Rattle.mt_base.specs.declared.edits.Edit.{Edit}
 use Rattle.mt_base.specs.declared.refusal.Refusal.{Refusal}
-use Rattle.mt_frame.specs.History.{is_of_page}
+use Rattle.mt_area_rules.specs.History.{is_of_page}
 use Rattle.mt_frame.specs.PageRecords.{change_records}
 use Rattle.mt_frame.specs.declared.records.LoggedOp.{LoggedOp}
 use Rattle.mt_frame.specs.declared.records.Record.{Record}

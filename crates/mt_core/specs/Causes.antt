@@ -1,5 +1,6 @@
 -- Why a call is refused, and what it had if it is not.
 use Rattle.std.specs.Prelude.{ℕ, ◌<◌, ◌≤◌, ◌+◌, ◌*◌, Bool, List, Result, Ok, Err, ⊤}
+use Rattle.mt_disk.specs.declared.device.Device.{Ghosts}
 use Rattle.mt_base.specs.declared.refusal.Refusal.{Refusal}
 use Rattle.mt_base.specs.declared.refusal.Refusal.TheVariants as refusal
 use Rattle.mt_log.specs.Words.{area_size}
@@ -26,45 +27,51 @@ abbrev pub bytes_asked : Op → ℕ
 bytes_asked op = 2 * undo_bytes op
 
 -- how many of the pages held are free
-abbrev pub pages_free : {D : Type 0} → (D → List ℕ) → Origin → Core D → ℕ
-pages_free seen origin k = free_pages (pages (core_pool k)) (held_in (world seen origin.pages k.operations))
+abbrev pub pages_free : {D : Type 0} → Ghosts D → Origin → Core D → ℕ
+pages_free g origin k = free_pages (pages (core_pool k)) (held_in (world g origin.pages k.operations))
 
 -- so many are free beside those that are claimed
-abbrev pub HasPages : {D : Type 0} → (D → List ℕ) → Origin → Core D → ℕ → Type 0
-HasPages seen origin k count = claimed k.operations + count ≤ pages_free seen origin k
+abbrev pub HasPages : {D : Type 0} → Ghosts D → Origin → Core D → ℕ → Type 0
+HasPages g origin k count = claimed k.operations + count ≤ pages_free g origin k
 
 -- the log has room for so many bytes beside those that are used and kept
 abbrev pub HasBytes : {D : Type 0} → Core D → ℕ → ℕ → Type 0
 HasBytes k kept bytes = kept + bytes < area_size (core_log k)
 
-abbrev pub HasReserves : {D : Type 0} → (D → List ℕ) → Origin → Core D → ℕ → Op → Bool → Type 0
-HasReserves seen origin k kept op split = HasPages seen origin k (pages_asked op split) × HasBytes k kept (bytes_asked op)
+abbrev pub HasReserves : {D : Type 0} → Ghosts D → Origin → Core D → ℕ → Op → Bool → Type 0
+HasReserves g origin k kept op split = HasPages g origin k (pages_asked op split) × HasBytes k kept (bytes_asked op)
 
 -- too few pages; or else too little of the log
-abbrev pub IsUnreserved : {D : Type 0} → (D → List ℕ) → Origin → Core D → ℕ → Op → Bool → Refusal → Type 0
-IsUnreserved seen origin k kept op split refusal.NoRoom = pages_free seen origin k < claimed k.operations + pages_asked op split
-IsUnreserved seen origin k kept op split refusal.LogFull = HasPages seen origin k (pages_asked op split) × (area_size (core_log k) ≤ kept + bytes_asked op)
-IsUnreserved seen origin k kept op split refusal.NoMemory = ⊤
-IsUnreserved seen origin k kept op split _ = ⊥
+abbrev pub IsUnreserved : {D : Type 0} → Ghosts D → Origin → Core D → ℕ → Op → Bool → Refusal → Type 0
+IsUnreserved g origin k kept op split refusal.NoRoom =
+    pages_free g origin k < claimed k.operations + pages_asked op split
+IsUnreserved g origin k kept op split refusal.LogFull =
+    HasPages g origin k (pages_asked op split) × (area_size (core_log k) ≤ kept + bytes_asked op)
+IsUnreserved g origin k kept op split refusal.NoMemory = ⊤
+IsUnreserved g origin k kept op split _ = ⊥
 
 -- escrow admits it, and it has its reserves
-abbrev pub IsAdmittedBy : {D : Type 0} → (D → List ℕ) → Origin → Core D → ℕ → ℕ → Op → Bool → Type 0
-IsAdmittedBy seen origin k kept t op split = IsAskedFor k.escrow t op × HasReserves seen origin k kept op split
+abbrev pub IsAdmittedBy : {D : Type 0} → Ghosts D → Origin → Core D → ℕ → ℕ → Op → Bool → Type 0
+IsAdmittedBy g origin k kept t op split = IsAskedFor k.escrow t op × HasReserves g origin k kept op split
 
 -- escrow does not admit it; or else it lacks reserves
-abbrev pub IsRefusedBehind : {D : Type 0} → (D → List ℕ) → Origin → Core D → ℕ → ℕ → Op → Bool → Refusal → Type 0
-IsRefusedBehind seen origin k kept t op split refusal.Escrow = ¬ IsAskedFor k.escrow t op
-IsRefusedBehind seen origin k kept t op split refusal.NoMemory = ⊤
-IsRefusedBehind seen origin k kept t op split why = IsAskedFor k.escrow t op × IsUnreserved seen origin k kept op split why
+abbrev pub IsRefusedBehind : {D : Type 0} → Ghosts D → Origin → Core D → ℕ → ℕ → Op → Bool → Refusal → Type 0
+IsRefusedBehind g origin k kept t op split refusal.Escrow = ¬ IsAskedFor k.escrow t op
+IsRefusedBehind g origin k kept t op split refusal.NoMemory = ⊤
+IsRefusedBehind g origin k kept t op split why = IsAskedFor k.escrow t op × IsUnreserved g origin k kept op split why
 
 -- an older transaction is in the way of its lock; or else nobody is, and it is refused after it
-abbrev pub IsRefusedCall : {D : Type 0} → (D → List ℕ) → Origin → Core D → ℕ → ℕ → Op → Bool → Refusal → Type 0
-IsRefusedCall seen origin k kept t op split (refusal.Die holder) = IsLeastBar (held_of k.locks) t (object_of op) (mode_of op) holder × (holder < t)
-IsRefusedCall seen origin k kept t op split refusal.NoMemory = ⊤
-IsRefusedCall seen origin k kept t op split why = IsFree (held_of k.locks) t (object_of op) (mode_of op) × IsRefusedBehind seen origin k kept t op split why
+abbrev pub IsRefusedCall : {D : Type 0} → Ghosts D → Origin → Core D → ℕ → ℕ → Op → Bool → Refusal → Type 0
+IsRefusedCall g origin k kept t op split (refusal.Die holder) =
+    IsLeastBar (held_of k.locks) t (object_of op) (mode_of op) holder × (holder < t)
+IsRefusedCall g origin k kept t op split refusal.NoMemory = ⊤
+IsRefusedCall g origin k kept t op split why =
+    IsFree (held_of k.locks) t (object_of op) (mode_of op) × IsRefusedBehind g origin k kept t op split why
 
 -- It runs only if nobody is in the way and all that it reserves is there; it waits only for a younger one.
-abbrev pub IsAnswered : {D : Type 0} → (D → List ℕ) → Origin → Core D → ℕ → ℕ → Op → Bool → Result Called Refusal → Type 0
-IsAnswered seen origin k kept t op split (Ok answer.Started) = IsFree (held_of k.locks) t (object_of op) (mode_of op) × IsAdmittedBy seen origin k kept t op split
-IsAnswered seen origin k kept t op split (Ok (answer.Wait holder)) = IsLeastBar (held_of k.locks) t (object_of op) (mode_of op) holder × (t < holder)
-IsAnswered seen origin k kept t op split (Err why) = IsRefusedCall seen origin k kept t op split why
+abbrev pub IsAnswered : {D : Type 0} → Ghosts D → Origin → Core D → ℕ → ℕ → Op → Bool → Result Called Refusal → Type 0
+IsAnswered g origin k kept t op split (Ok answer.Started) =
+    IsFree (held_of k.locks) t (object_of op) (mode_of op) × IsAdmittedBy g origin k kept t op split
+IsAnswered g origin k kept t op split (Ok (answer.Wait holder)) =
+    IsLeastBar (held_of k.locks) t (object_of op) (mode_of op) holder × (t < holder)
+IsAnswered g origin k kept t op split (Err why) = IsRefusedCall g origin k kept t op split why

@@ -11,3 +11,4 @@ pub mod Detached
 pub mod PageLocks
 pub mod Writes
 pub mod Advancing
+pub mod Answered

@@ -13,7 +13,7 @@ use Rattle.mt_core.specs.declared.steps.Going.{Going}
 use Rattle.mt_core.specs.declared.steps.Going.TheVariants as going
 use Rattle.mt_core.specs.declared.steps.Stepping.{Stepping}
 use Rattle.mt_core.specs.declared.steps.Stepping.TheVariants.{Going as GoingOn, Ended}
-use Rattle.mt_core.specs.Seen.{core_page_locks}
+use Rattle.mt_core.specs.Seen.{core_page_locks, core_rooms}
 
 -- what the operations answered of one that goes on
 abbrev pub step_of : Going → Stepped
@@ -26,7 +26,8 @@ step_of going.Flush = stepped.Flush
 -- in the way; or gives all its own back, and no other's, if it begins anew or ends. A refused step leaves all.
 abbrev pub KeepsPageLocks : {D : Type 0} → Core D → Core D → OpScope → Result Stepping Refusal → Type 0
 KeepsPageLocks k n r (Ok (Ended reply)) = core_page_locks n ≡ locks_without r.number (core_page_locks k)
-KeepsPageLocks k n r (Ok (GoingOn g)) = KeepsLocks r.number (IsNext k.operations.rooms (core_page_locks k) r) (core_page_locks k) (core_page_locks n) (Ok (step_of g))
+KeepsPageLocks k n r (Ok (GoingOn g)) = KeepsLocks r.number (IsNext (core_rooms k) (core_page_locks k) r)
+    (core_page_locks k) (core_page_locks n) (Ok (step_of g))
 KeepsPageLocks k n r (Err why) = core_page_locks n ≡ core_page_locks k
 
 -- They stay while a step of its taking back puts a page back. Once nothing else of it is left its own go, and no

@@ -1,5 +1,6 @@
 -- What the log's records say of the transactions, and that a restart over each beginning of them finds its base.
 use Rattle.std.specs.Prelude.{ℕ, ◌*◌, ◌≡◌, ◌≤◌, ◌+◌, ◌++◌, Bool, cond, List, [], ◌∷◌, Option, Some, None, filter, map, length, Result, Ok, Err}
+use Rattle.mt_disk.specs.declared.device.Device.{Ghosts}
 use Rattle.mt_base.specs.declared.limits.TheConstants.{MAX_LIVE, MIB_BYTES, MIN_AREA_MIB}
 use Rattle.mt_base.specs.declared.refusal.Refusal.{Refusal}
 use Rattle.mt_frame.specs.declared.records.Record.{Record}
@@ -53,7 +54,8 @@ numbers_of (Some m) = cond (is_at_work m.state) (numbers_did m.calls m.operation
 
 -- Of a book with commits of these transactions after it, in their order, and of the others, which are at work: what
 -- each has committed, and what each has done, under its numbers.
-pub record IsTelling (book : List Committed) (ts : List ℕ) (ms : List Member) (standing : List Entry) (x : Recorded) : Type 0 where
+pub record IsTelling (book : List Committed) (ts : List ℕ) (ms : List Member) (standing : List Entry)
+    (x : Recorded) : Type 0 where
   pub books : map calls_of x.books ≡ map effects_of (book ++ in_turn (session_in ms) ts standing)
   pub live : map entry_of x.live ≡ filter did (without_all ts standing)
   pub numbers : (t : ℕ) → map (λ (f : Finished). f.op) (its t x.live) ≡ numbers_of (member_of ms t)
@@ -81,7 +83,8 @@ TellsBook origin k = length k.book.items + durable_count k.commits.items (length
 -- transactions live, and such an area has room for the images of the pages that inverses change. The area began on
 -- what the commits from before it lead to.
 pub record IsRestartable {D : Type 0} (origin : Origin) (k : Core D) : Type 0 where
-  pub beginnings : MIN_AREA_MIB * MIB_BYTES ≤ area_size (core_log k) → EachBeginning (Recovers origin k) (appended (core_log k))
+  pub beginnings : MIN_AREA_MIB * MIB_BYTES ≤ area_size (core_log k)
+      → EachBeginning (Recovers origin k) (appended (core_log k))
   pub begun : origin.begun ≡ after origin.first origin.earlier
   pub tells : TellsOf origin k (appended (core_log k))
   pub booked : TellsBook origin k
@@ -114,7 +117,8 @@ pub record AppendsQuietly (opening : PageBytes) (old new : List Record) : Type 0
 -- the end of an operation, on pages that it acted on
 pub record AppendsEnd (origin : Origin) (total : ℕ) (old new : List Record) (s : OpScope) (reply : Reply) : Type 0 where
   pub is : new ≡ old ++ end_of s reply
-  pub leads : LeadsOn origin.relations origin.counters total origin.pages old → LeadsOn origin.relations origin.counters total origin.pages new
+  pub leads : LeadsOn origin.relations origin.counters total origin.pages old
+      → LeadsOn origin.relations origin.counters total origin.pages new
 
 -- a step of an operation appends its end if it is ready, and else nothing that says more
 abbrev pub Appends : Origin → ℕ → List Record → List Record → OpScope → Result Stepped Refusal → Type 0
@@ -127,7 +131,8 @@ Appends origin total old new s (Err why) = AppendsQuietly origin.pages old new
 
 -- so of parts whose operation at a place makes a step, and of parts of which nothing is appended but what says
 -- nothing more
-pub record StepAppends {D : Type 0} (origin : Origin) (k n : Core D) (s : OpScope) (result : Result Stepped Refusal) : Type 0 where
+pub record StepAppends {D : Type 0} (origin : Origin) (k n : Core D) (s : OpScope)
+    (result : Result Stepped Refusal) : Type 0 where
   pub area : SameArea k n
   pub appends : Appends origin (pages (core_pool k)) (appended (core_log k)) (appended (core_log n)) s result
 
@@ -157,6 +162,6 @@ pub record NotesUndone {D : Type 0} (k n : Core D) (r : OpScope) : Type 0 where
   pub count : length n.live.members ≡ length k.live.members
 
 -- parts that are consistent, and become so, stay restartable
-abbrev pub StaysRestartable : {D : Type 0} → (D → List ℕ) → (D → List ℕ → Type 0) → Core D → Core D → Type 0
-StaysRestartable seen may_leave k n = (origin : Origin) (base later : Base) → IsConsistent seen may_leave origin base k
-    → IsConsistent seen may_leave origin later n → IsRestartable origin k → IsRestartable origin n
+abbrev pub StaysRestartable : {D : Type 0} → Ghosts D → Core D → Core D → Type 0
+StaysRestartable g k n = (origin : Origin) (base later : Base) → IsConsistent g origin base k
+    → IsConsistent g origin later n → IsRestartable origin k → IsRestartable origin n

@@ -13,7 +13,7 @@ use Rattle.mt_model.specs.History.{Call}
 use Rattle.mt_model.specs.declared.operations.Op.{Op}
 use Rattle.mt_model.specs.Model.{inverse_of}
 use Rattle.mt_op.specs.Operations.{HasBudget, only_reads}
-use Rattle.mt_op.specs.World.{World, IsUnderWay, IsOther}
+use Rattle.mt_op.specs.World.{World, IsUnderWay, IsOther, undoes_of, splits}
 use Rattle.mt_op.specs.declared.scope.Stage.{Stage}
 use Rattle.mt_op.specs.declared.scope.Stage.TheVariants.{Planning, Writing, Taking}
 use Rattle.mt_plock.specs.declared.guards.PageLock.{PageLock}
@@ -22,7 +22,7 @@ use Rattle.mt_op.specs.declared.scope.OpScope.{OpScope}
 
 -- a transaction's operation that is no inverse
 abbrev pub is_for : ℕ → OpScope → Bool
-is_for t r = (r.txn == t) && (r.undoes == 0)
+is_for t r = (r.txn == t) && (undoes_of r == 0)
 
 abbrev pub running_in : List OpScope → ℕ → Option Op
 running_in [] t = None
@@ -65,20 +65,20 @@ state_in ms t = option_map (λ (m : Member). m.state) (member_of ms t)
 
 -- the last entry of its transaction that did something, which it takes back, by its operation's number
 pub record TakesBack (ms : List Member) (standing : List Entry) (r : OpScope) : Type 0 where
-  pub named : last_operation (member_of ms r.txn) ≡ Some r.undoes
+  pub named : last_operation (member_of ms r.txn) ≡ Some (undoes_of r)
   pub entry : Entry
   pub last : last_effect r.txn standing ≡ Some entry
   pub inverse : inverse_of entry.op entry.reply ≡ Some r.op
-  pub unsplit : r.split ≡ false
+  pub unsplit : splits r ≡ false
 
 -- Only what a transaction that is to be undone has called is taken back, and only of such a one are there inverses.
 pub record IsOwned (ms : List Member) (standing : List Entry) (r : OpScope) : Type 0 where
   pub at_work : is_open (member_of ms r.txn) ≡ true
-  pub room : r.undoes ≡ 0 → has_room (member_of ms r.txn) ≡ true
-  pub inverse : r.undoes ≢ 0 → TakesBack ms standing r
-  pub newest : r.undoes ≡ 0 → IsAbove r.number (member_of ms r.txn)
-  pub taken : r.stage ≡ Taking → (r.undoes ≡ 0) × (state_in ms r.txn ≡ Some Aborting)
-  pub aborts : r.undoes ≢ 0 → state_in ms r.txn ≡ Some Aborting
+  pub room : undoes_of r ≡ 0 → has_room (member_of ms r.txn) ≡ true
+  pub inverse : undoes_of r ≢ 0 → TakesBack ms standing r
+  pub newest : undoes_of r ≡ 0 → IsAbove r.number (member_of ms r.txn)
+  pub taken : r.stage ≡ Taking → (undoes_of r ≡ 0) × (state_in ms r.txn ≡ Some Aborting)
+  pub aborts : undoes_of r ≢ 0 → state_in ms r.txn ≡ Some Aborting
 
 -- ---- claims and log bytes
 
@@ -108,15 +108,12 @@ entry_bytes e = weighed undo_bytes e
 
 -- What is claimed for an operation and for its inverse; an inverse has what its entry claims.
 abbrev pub pages_of : OpScope → ℕ
-pages_of r = cond (r.undoes == 0) (own_needs r.op r.split + undo_pages r.op) 0
-
-abbrev pub left_of : OpScope → ℕ
-left_of r = r.left
+pages_of r = cond (undoes_of r == 0) (own_needs r.op (splits r) + undo_pages r.op) 0
 
 -- log bytes kept for the inverse of what runs
 abbrev pub kept_bytes : OpScope → ℕ
-kept_bytes r = cond (r.undoes == 0) (undo_bytes r.op) 0
+kept_bytes r = cond (undoes_of r == 0) (undo_bytes r.op) 0
 
 -- those that an inverse which runs has taken of what was kept for it
 abbrev pub taken_bytes : OpScope → ℕ
-taken_bytes r = cond (r.undoes == 0) 0 OPERATION_LOG_BYTES
+taken_bytes r = cond (undoes_of r == 0) 0 OPERATION_LOG_BYTES

@@ -1,5 +1,6 @@
 -- What a step of an operation does, and of an inverse.
 use Rattle.std.specs.Prelude.{ℕ, ◌≡◌, ◌≢◌, List, Some, Result, Ok, Err, ⊤, slice_index_or}
+use Rattle.mt_disk.specs.declared.device.Device.{Ghosts}
 use Rattle.mt_base.specs.declared.refusal.Refusal.{Refusal}
 use Rattle.mt_disk.specs.Disk.{LeavesOnly}
 use Rattle.mt_model.specs.Model.{Base, reply_of}
@@ -15,27 +16,30 @@ use Rattle.mt_core.specs.declared.steps.Going.{Going}
 use Rattle.mt_core.specs.declared.steps.Going.TheVariants as going
 use Rattle.mt_core.specs.declared.steps.Stepping.{Stepping}
 use Rattle.mt_core.specs.declared.steps.Stepping.TheVariants.{Going as GoingOn, Ended}
-use Rattle.mt_core.specs.Seen.{core_device, core_pool}
+use Rattle.mt_core.specs.Seen.{core_device, core_pool, core_store}
 
 -- It ends, with the model's reply on the base; or the base and all that stands are as before.
-abbrev pub Steps : {D : Type 0} → (D → List ℕ) → (D → List ℕ → Type 0) → Origin → Base → Core D → Core D → ℕ → Result Stepping Refusal → Type 0
-Steps seen may_leave origin base k n place (Ok (Ended reply)) = (r : OpScope) → r ≡ slice_index_or k.running.items place r
-    → (reply_of base r.op ≡ reply) × EndsIn seen may_leave origin base k n r
-Steps seen may_leave origin base k n place (Ok (GoingOn going)) = IsIn seen may_leave origin base (state_of k base) n
-Steps seen may_leave origin base k n place (Err why) = IsIn seen may_leave origin base (state_of k base) n
+abbrev pub Steps : {D : Type 0} → Ghosts D → Origin → Base → Core D → Core D → ℕ → Result Stepping Refusal → Type 0
+Steps g origin base k n place (Ok (Ended reply)) =
+    (r : OpScope) → r ≡ slice_index_or k.running.items place r
+    → (reply_of base r.op ≡ reply) × EndsIn g origin base k n r
+Steps g origin base k n place (Ok (GoingOn going)) = IsIn g origin base (state_of k base) n
+Steps g origin base k n place (Err why) = IsIn g origin base (state_of k base) n
 
 -- It ends, with the model's reply, and what it takes back stands no more; or the base and all that stands are as
 -- before.
-abbrev pub UndoSteps : {D : Type 0} → (D → List ℕ) → (D → List ℕ → Type 0) → Origin → Base → Core D → Core D → ℕ → Result Stepping Refusal → Type 0
-UndoSteps seen may_leave origin base k n place (Ok (Ended reply)) = (r : OpScope) → r ≡ slice_index_or k.running.items place r
-    → (reply_of base r.op ≡ reply) × UndoesIn seen may_leave origin base (state_of k base) n r.txn r.op
-UndoSteps seen may_leave origin base k n place (Ok (GoingOn going)) = IsIn seen may_leave origin base (state_of k base) n
-UndoSteps seen may_leave origin base k n place (Err why) = IsIn seen may_leave origin base (state_of k base) n
+abbrev pub UndoSteps : {D : Type 0} → Ghosts D → Origin → Base → Core D → Core D → ℕ → Result Stepping Refusal → Type 0
+UndoSteps g origin base k n place (Ok (Ended reply)) =
+    (r : OpScope) → r ≡ slice_index_or k.running.items place r
+    → (reply_of base r.op ≡ reply) × UndoesIn g origin base (state_of k base) n r.txn r.op
+UndoSteps g origin base k n place (Ok (GoingOn going)) = IsIn g origin base (state_of k base) n
+UndoSteps g origin base k n place (Err why) = IsIn g origin base (state_of k base) n
 
 -- Whenever a crash comes meanwhile, what it leaves explains the pages as before.
-abbrev pub LeavesExplained : {D : Type 0} → (D → List ℕ) → (D → List ℕ → Type 0) → (D → ℕ) → (D → ℕ → List ℕ → Type 0) → Core D → Core D → Type 0
-LeavesExplained seen may_leave moment left_since k n = (opening : PageBytes) → IsKept seen may_leave opening k.operations.store
-    → LeavesOnly moment left_since (core_device k) (core_device n) (Explains opening k.operations.store)
+abbrev pub LeavesExplained : {D : Type 0} → Ghosts D → Core D → Core D → Type 0
+LeavesExplained g k n =
+    (opening : PageBytes) → IsKept g opening (core_store k)
+    → LeavesOnly g.moment g.left_since (core_device k) (core_device n) (Explains opening (core_store k))
 
 -- Every frame holds a page that is yet to be flushed; pages, locks and log are as they were.
 abbrev pub WantsFrame : {D : Type 0} → Core D → Core D → Type 0

@@ -1,5 +1,6 @@
 -- What goes on if the log turns over to its other area.
 use Rattle.std.specs.Prelude.{ℕ, ◌≡◌, List, []}
+use Rattle.mt_disk.specs.declared.device.Device.{Ghosts}
 use Rattle.mt_escrow.specs.Seen.{Escrowed}
 use Rattle.mt_model.specs.Model.{Base, IsBase}
 use Rattle.mt_op.specs.Operations.{IsRight}
@@ -25,16 +26,19 @@ turned origin base pages k = record origin { earlier = k.book.items; begun = bas
 
 -- No transaction is active in parts that are consistent on a base. Other operations are right over pages that hold
 -- it, and an escrow has its counters.
-pub record TurnsOver {D : Type 0} (seen : D → List ℕ) (may_leave : D → List ℕ → Type 0) (origin : Origin) (base : Base) (k : Core D) (pages : PageBytes) (operations : Operations D) (escrow : Escrowed) : Type 0 where
+pub record TurnsOver {D : Type 0} (g : Ghosts D) (origin : Origin) (base : Base)
+    (k : Core D) (pages : PageBytes) (operations : Operations D) (escrow : Escrowed) : Type 0 where
   pub nobody : k.live.members ≡ []
-  pub consistent : IsConsistent seen may_leave origin base k
+  pub consistent : IsConsistent g origin base k
   pub bounds : IsBase base
   pub holds : Holds pages base
-  pub right : IsRight seen may_leave pages origin.relations origin.counters operations
+  pub right : IsRight g pages origin.relations origin.counters operations
   pub escrowed : IsEscrowed origin.counters base escrow
 
 -- Whatever parts this was the rest of, if they turn over to these operations and this escrow, the laws see nothing of
 -- it, and a restart over the new area finds the base with which that begins.
-abbrev pub Resumes : {D : Type 0} → (D → List ℕ) → (D → List ℕ → Type 0) → Rest → Operations D → Escrowed → Core D → Type 0
-Resumes {D} seen may_leave rest operations escrow n = (k : Core D) (origin : Origin) (base : Base) (pages : PageBytes) → IsRestOf k rest → TurnsOver seen may_leave origin base k pages operations escrow
-    → IsIn seen may_leave (turned origin base pages k) base (state_of k base) n × IsRestartable (turned origin base pages k) n
+abbrev pub Resumes : {D : Type 0} → Ghosts D → Rest → Operations D → Escrowed → Core D → Type 0
+Resumes {D} g rest operations escrow n = (k : Core D) (origin : Origin) (base : Base) (pages : PageBytes)
+    → IsRestOf k rest → TurnsOver g origin base k pages operations escrow
+    → IsIn g (turned origin base pages k) base (state_of k base) n
+    × IsRestartable (turned origin base pages k) n

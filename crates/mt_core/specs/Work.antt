@@ -17,6 +17,7 @@ use Rattle.mt_core.specs.declared.steps.Going.TheVariants as going
 use Rattle.mt_core.specs.declared.steps.Stepping.{Stepping}
 use Rattle.mt_core.specs.declared.steps.Stepping.TheVariants.{Going as GoingOn, Ended}
 use Rattle.mt_core.specs.Seen.{core_pool}
+use Rattle.mt_op.specs.World.{undoes_of}
 
 -- how many it makes at most, if nobody is in its way
 abbrev pub steps_in : List OpScope → ℕ → ℕ
@@ -63,7 +64,8 @@ effects_left pages es t = sum_by (effect_steps pages t) es
 -- An operation that is no inverse is put back, a page a step, and dropped out. An inverse represents one of the
 -- effects.
 abbrev pub steps_with : ℕ → OpScope → ℕ → ℕ
-steps_with pages r effects = cond (r.undoes == 0) (r.standing + 1 + effects) (work_of r + (effects - (2 * pages + 10)))
+steps_with pages r effects =
+    cond (undoes_of r == 0) (r.standing + 1 + effects) (work_of r + (effects - (2 * pages + 10)))
 
 abbrev pub abort_steps : ℕ → List OpScope → ℕ → ℕ → ℕ
 abort_steps pages [] t effects = effects
@@ -71,7 +73,8 @@ abort_steps pages (r ∷ rs) t effects = cond (r.txn == t) (steps_with pages r e
 
 -- how many steps the abort of a transaction makes at most before its end, if nobody is in its way
 abbrev pub undo_steps : {D : Type 0} → Core D → ℕ → ℕ
-undo_steps k t = abort_steps (pages (core_pool k)) k.running.items t (effects_left (pages (core_pool k)) k.live.standing t)
+undo_steps k t =
+    abort_steps (pages (core_pool k)) k.running.items t (effects_left (pages (core_pool k)) k.live.standing t)
 
 -- if none of them grows
 abbrev pub LeavesUndo : {D : Type 0} → Core D → Core D → Type 0

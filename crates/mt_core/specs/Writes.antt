@@ -1,7 +1,7 @@
 -- What a step of an operation appends to the log: the records of one page at most, or its end.
 use Rattle.std.specs.Prelude.{ℕ, ◌≡◌, ◌≤◌, ◌+◌, ◌++◌, true, All, List, length, Result, Ok, Err}
 use Rattle.mt_base.specs.declared.refusal.Refusal.{Refusal}
-use Rattle.mt_frame.specs.History.{is_of_page}
+use Rattle.mt_area_rules.specs.History.{is_of_page}
 use Rattle.mt_frame.specs.declared.records.Record.{Record}
 use Rattle.mt_op.specs.declared.answers.Stepped.{Stepped}
 use Rattle.mt_op.specs.declared.answers.Stepped.TheVariants as stepped
@@ -11,7 +11,8 @@ use Rattle.mt_core.specs.declared.steps.Stepping.TheVariants.{Going, Ended}
 
 -- nothing more, or records of one page
 abbrev pub AddsOnePage : List Record → List Record → Type 0
-AddsOnePage old new = (page : ℕ) × (more : List Record) × (new ≡ old ++ more) × All (λ (r : Record). is_of_page page r ≡ true) more
+AddsOnePage old new =
+    (page : ℕ) × (more : List Record) × (new ≡ old ++ more) × All (λ (r : Record). is_of_page page r ≡ true) more
 
 -- A step that goes on appends the records of one page at most, and one that ends a record at most. One that waits,
 -- begins anew or is refused appends none.

@@ -17,7 +17,7 @@ ghost use Rattle.mt_core.specs.Restartable.{StaysRestartable};
 ghost use Rattle.mt_core.specs.Work.{CallRuns};
 ghost use Rattle.mt_op.specs.declared.scope.OpScope.{OpScope};
 ghost use Rattle.mt_core.specs.Advancing.{AdmitsCall, AsksLeave, LocksObject, StartsCall};
-ghost use Rattle.mt_core.specs.Seen.{core_log, core_pool};
+ghost use Rattle.mt_core.specs.Seen.{core_log, core_pool, core_store};
 
 use crate::ends::let_go;
 use crate::parts::Core;
@@ -101,21 +101,21 @@ impl<D: Device> Core<D> {
         op: &Op,
         split: bool,
     ) -> Result<Called, Refusal>
-        requires safe { ∥ ((origin : Origin) × (base : Base) × IsConsistent D.seen D.may_leave origin base self.old
+        requires safe { ∥ ((origin : Origin) × (base : Base) × IsConsistent D.Device origin base self.old
             × MayBeCalled origin self.old txn op.now) ∥₁ }
         requires few { self.old.last < MAX_BEGUN }
-        ensures called { (origin : Origin) (base : Base) → IsConsistent D.seen D.may_leave origin base self.old
+        ensures called { (origin : Origin) (base : Base) → IsConsistent D.Device origin base self.old
             → MayBeCalled origin self.old txn op.now
-            → IsCalled D.seen D.may_leave origin base (state_of self.old base) self.new txn op.now result }
-        ensures answer { (origin : Origin) (base : Base) → IsConsistent D.seen D.may_leave origin base self.old
+            → IsCalled D.Device origin base (state_of self.old base) self.new txn op.now result }
+        ensures answer { (origin : Origin) (base : Base) → IsConsistent D.Device origin base self.old
             → MayBeCalled origin self.old txn op.now
-            → IsAnswered D.seen origin self.old (log_kept self.old) txn op.now split result }
+            → IsAnswered D.Device origin self.old (log_kept self.old) txn op.now split result }
         ensures states { SameStates self.old self.new }
         ensures runs { CallRuns txn (2 * pages (core_pool self.old) + 9) self.old.running.items
             self.new.running.items result }
         ensures same_commits { SameCommits self.old self.new }
-        ensures store { self.new.operations.store ≡ self.old.operations.store }
-        ensures restartable { StaysRestartable D.seen D.may_leave self.old self.new }
+        ensures store { core_store self.new ≡ core_store self.old }
+        ensures restartable { StaysRestartable D.Device self.old self.new }
     {
         let own = op.try_clone()?;
         let object = op.object()?;
@@ -139,10 +139,10 @@ impl<D: Device> Core<D> {
     // If it is refused it is given back.
     fn start(&mut self, alloc: Global, txn: TxnNo, op: Op, split: bool) -> Result<(), (Refusal, Op)>
         requires granted { ∥ ((origin : Origin) × (base : Base) × (locks : List (Object × List Holder))
-            × (escrow : Escrowed) × IsGranted D.seen D.may_leave origin base locks escrow self.old txn op) ∥₁ }
+            × (escrow : Escrowed) × IsGranted D.Device origin base locks escrow self.old txn op) ∥₁ }
         requires room { vec_len self.old.running < vec_capacity self.old.running }
         requires few { self.old.last < MAX_BEGUN }
-        ensures { StartsCall D.seen D.may_leave self.old self.new txn op split result }
+        ensures { StartsCall D.Device self.old self.new txn op split result }
     {
         let pages = pages_for(&op, split) + pages_to_undo(&op);
         let bytes = log_bytes_for(&op);
@@ -177,10 +177,10 @@ impl<D: Device> Core<D> {
     // back.
     fn admit(&mut self, alloc: Global, txn: TxnNo, op: Op, split: bool) -> Result<(), (Refusal, Op)>
         requires locked { ∥ ((origin : Origin) × (base : Base) × (locks : List (Object × List Holder))
-            × IsLocked D.seen D.may_leave origin base locks self.old txn op) ∥₁ }
+            × IsLocked D.Device origin base locks self.old txn op) ∥₁ }
         requires room { vec_len self.old.running < vec_capacity self.old.running }
         requires few { self.old.last < MAX_BEGUN }
-        ensures { AdmitsCall D.seen D.may_leave self.old self.new txn op split result }
+        ensures { AdmitsCall D.Device self.old self.new txn op split result }
     {
         match ask(&mut self.escrow, txn, &op) {
             Ok(()) => {}
@@ -204,12 +204,12 @@ impl<D: Device> Core<D> {
         split: bool,
         object: Object,
     ) -> Result<Called, Refusal>
-        requires safe { ∥ ((origin : Origin) × (base : Base) × IsConsistent D.seen D.may_leave origin base self.old
+        requires safe { ∥ ((origin : Origin) × (base : Base) × IsConsistent D.Device origin base self.old
             × MayRun origin self.old txn op) ∥₁ }
         requires same { object ≡ object_of op }
         requires room { vec_len self.old.running < vec_capacity self.old.running }
         requires few { self.old.last < MAX_BEGUN }
-        ensures { LocksObject D.seen D.may_leave self.old self.new txn op split result }
+        ensures { LocksObject D.Device self.old self.new txn op split result }
     {
         let mode = op.mode();
         match self.locks.ask(txn, object, mode)? {

@@ -1,13 +1,12 @@
 // Transactions that begin, commit and leave, and the writes that make commits durable.
-ghost use Rattle.std.specs.Prelude.{◌≡◌, ◌≢◌, ◌⊎◌, ◌<◌, ◌≤◌, ◌+◌, ℕ, List, ◌∷◌, ◌++◌, [], length, drop, true, All, Some, Ok, IfOk, IfErr, OnOk, OnErr};
+ghost use Rattle.std.specs.Prelude.{◌≡◌, ◌≢◌, ◌⊎◌, ◌<◌, ◌≤◌, ◌+◌, List, ◌∷◌, ◌++◌, [], length, drop, true, All, Some, Ok, IfOk, IfErr, OnOk, OnErr};
 ghost use Rattle.mt_live.specs.Lives.{member_of};
 ghost use Rattle.mt_live.specs.Machine.{begun};
-ghost use Rattle.mt_live.specs.declared.transactions.TxnState.TheVariants.{Open, Committing, Aborting};
+ghost use Rattle.mt_live.specs.declared.transactions.TxnState.TheVariants.{Open, Aborting};
 ghost use Rattle.mt_disk.specs.Disk.{HasCause};
 ghost use Rattle.mt_log.specs.Forcing.{ReportsFault};
 ghost use Rattle.mt_log.specs.Steps.{ForceSteps};
-ghost use Rattle.mt_log.specs.Words.{appended, durable, in_flight, waiting, calls_left, area_size, seen_of};
-ghost use Rattle.mt_frame.specs.declared.records.Record.TheVariants as record_of;
+ghost use Rattle.mt_log.specs.Words.{appended, durable, area_size, seen_of};
 ghost use Rattle.mt_model.specs.Model.{Base};
 ghost use Rattle.mt_op.specs.Operations.{world};
 ghost use Rattle.mt_op.specs.Surveyed.{IsSurvey};
@@ -16,19 +15,19 @@ ghost use Rattle.mt_pool.specs.FlushSteps.{FlushSteps};
 ghost use Rattle.mt_pool.specs.Views.{pages};
 ghost use Rattle.mt_pool.specs.declared.flushes.Flushed.TheVariants as flushed;
 ghost use Rattle.mt_base.specs.declared.refusal.Refusal.{Refusal};
-ghost use Rattle.mt_core.specs.Consistent.{log_kept, SameCommits, SameRunning, SameStates, SameUncommitted, SetsState, IsSound, StaysIn, OnlyOperations, Origin, state_of, state_in, IsConsistent, IsIn};
+ghost use Rattle.mt_core.specs.Answered.{BeginsCommit, KeepsAtCommit, KeepsCommits};
+ghost use Rattle.mt_core.specs.Consistent.{log_kept, SameCommits, SameRunning, SameUncommitted, SetsState, IsSound, StaysIn, OnlyOperations, Origin, state_of, state_in, IsConsistent, IsIn};
 ghost use Rattle.mt_core.specs.Restartable.{StaysRestartable};
 ghost use Rattle.mt_core.specs.Steps.{LeavesExplained};
 ghost use Rattle.mt_core.specs.Booked.{booked_each, durable_count, durable_txns};
 ghost use Rattle.mt_core.specs.Runs.{is_open};
 ghost use Rattle.mt_core.specs.Work.{LeavesUndo, most_steps, undo_steps};
 ghost use Rattle.std.specs.Vec.{vec_len, vec_capacity};
-ghost use Rattle.mt_core.specs.declared.commits.TheConstants.{END_LOG_BYTES};
 ghost use Rattle.mt_base.specs.declared.limits.TheConstants.{MAX_BEGUN, MAX_LIVE, TRANSACTION_LOG_BYTES};
 ghost use Rattle.mt_core.specs.declared.parts.Commit.{Commit};
 ghost use Rattle.mt_op.specs.declared.scope.OpScope.{OpScope};
 ghost use Rattle.mt_core.specs.Advancing.{LeavesFirst};
-ghost use Rattle.mt_core.specs.Seen.{core_device, core_log, core_pool, core_ruling};
+ghost use Rattle.mt_core.specs.Seen.{core_device, core_log, core_pool, core_ruling, core_store};
 
 use crate::parts::{Commit, Core};
 use crate::reservations::{all_bytes_kept, all_pages_kept};
@@ -64,10 +63,10 @@ impl<D: Device> Core<D> {
     /// Refused with 11 if the log has no room for its end beside what is kept, else with 1 for want of memory.
     /// Nothing has changed then.
     pub fn begin(&mut self, session: u32) -> Result<TxnNo, Refusal>
-        requires safe { IsSound D.seen D.may_leave self.old }
+        requires safe { IsSound D.Device self.old }
         requires few { self.old.live.begun < MAX_BEGUN }
-        ensures begun { (origin : Origin) (base : Base) → IsConsistent D.seen D.may_leave origin base self.old
-            → OnOk result (IsIn D.seen D.may_leave origin base (begun (state_of self.old base) session) self.new) }
+        ensures begun { (origin : Origin) (base : Base) → IsConsistent D.Device origin base self.old
+            → OnOk result (IsIn D.Device origin base (begun (state_of self.old base) session) self.new) }
         ensures number { IfOk result (λ txn. txn ≡ self.old.live.begun + 1) }
         ensures may { OnOk result
             (log_kept self.old + TRANSACTION_LOG_BYTES < area_size (core_log self.old)) }
@@ -78,7 +77,7 @@ impl<D: Device> Core<D> {
         ensures same_commits { SameCommits self.old self.new }
         ensures device { core_device self.new ≡ core_device self.old }
         ensures restartable { length self.old.live.members < MAX_LIVE
-            → StaysRestartable D.seen D.may_leave self.old self.new }
+            → StaysRestartable D.Device self.old self.new }
         ensures err { OnErr result (self.new ≡ self.old) }
     {
         if !self.log_takes(TRANSACTION_LOG_BYTES) {
@@ -92,14 +91,14 @@ impl<D: Device> Core<D> {
     /// Begins to undo an open transaction. It takes no memory.
     pub fn abort_begin(&mut self, txn: TxnNo)
         requires { state_in self.old.live.members txn ≡ Some Open }
-        ensures state { StaysIn D.seen D.may_leave self.old self.new }
+        ensures state { StaysIn D.Device self.old self.new }
         ensures aborts { SetsState self.old self.new txn (Some Aborting) }
         ensures running { self.new.running ≡ self.old.running }
         ensures same_commits { SameCommits self.old self.new }
-        ensures few { (origin : Origin) (base : Base) → IsConsistent D.seen D.may_leave origin base self.old
+        ensures few { (origin : Origin) (base : Base) → IsConsistent D.Device origin base self.old
             → undo_steps self.new txn ≤ most_steps self.old txn }
         ensures device { core_device self.new ≡ core_device self.old }
-        ensures restartable { StaysRestartable D.seen D.may_leave self.old self.new }
+        ensures restartable { StaysRestartable D.Device self.old self.new }
     {
         self.live.set_state(txn, TxnState::Aborting);
     }
@@ -109,27 +108,15 @@ impl<D: Device> Core<D> {
     ///
     /// Refused with 1 for want of memory; the transaction is at work as before.
     pub fn commit_begin(&mut self, txn: TxnNo) -> Result<usize, Refusal>
-        requires safe { IsSound D.seen D.may_leave self.old }
+        requires safe { IsSound D.Device self.old }
         requires at_work { is_open (member_of self.old.live.members txn) ≡ true }
         requires idle { All (λ (r : OpScope). r.txn ≢ txn) self.old.running.items }
-        ensures state { StaysIn D.seen D.may_leave self.old self.new }
-        ensures place { IfOk result (λ place.
-            place ≡ length self.old.book.items + length self.old.commits.items + 1) }
-        ensures queue { OnOk result ((c : Commit) × (c.txn ≡ txn)
-            × (c.place ≡ length (appended (core_log self.new)))
-            × (self.new.commits.items ≡ self.old.commits.items ++ c ∷ [])) }
-        ensures waits { OnOk result (waiting (core_log self.new)
-            ≡ waiting (core_log self.old) ++ record_of.Commit txn ∷ []) }
-        ensures durable { durable (core_log self.new) ≡ durable (core_log self.old) }
-        ensures in_flight { in_flight (core_log self.new) ≡ in_flight (core_log self.old) }
-        ensures calls { calls_left (core_log self.new) ≡ calls_left (core_log self.old) }
-        ensures err_appended { OnErr result (appended (core_log self.new) ≡ appended (core_log self.old)) }
-        ensures commits { OnOk result (SetsState self.old self.new txn (Some Committing)) }
-        ensures err { OnErr result (SameStates self.old self.new × SameCommits self.old self.new) }
-        ensures same_running { SameRunning self.old self.new }
+        ensures state { StaysIn D.Device self.old self.new }
+        ensures begins { IfOk result (BeginsCommit self.old self.new txn) }
+        ensures keeps { KeepsAtCommit self.old self.new }
+        ensures err { OnErr result (KeepsCommits self.old self.new) }
         ensures only_memory { IfErr result (λ why. why ≡ Refusal.NoMemory) }
-        ensures device { core_device self.new ≡ core_device self.old }
-        ensures restartable { StaysRestartable D.seen D.may_leave self.old self.new }
+        ensures restartable { StaysRestartable D.Device self.old self.new }
     {
         self.commits.reserve(1)?;
         self.book.reserve(self.commits.len() + 1)?;
@@ -144,9 +131,9 @@ impl<D: Device> Core<D> {
     /// adds move the counters, its locks go, and what was kept for its inverses is free. Answers its transaction. It
     /// takes no memory.
     fn leave_first(&mut self) -> TxnNo
-        requires safe { IsSound D.seen D.may_leave self.old }
+        requires safe { IsSound D.Device self.old }
         requires some { (c : Commit) × (cs : List Commit) × (self.old.commits.items ≡ c ∷ cs) }
-        ensures { LeavesFirst D.seen D.may_leave self.old self.new result }
+        ensures { LeavesFirst D.Device self.old self.new result }
     {
         let reserved = self.reserved;
         let Commit { txn, place: _ } = self.commits.remove(0);
@@ -163,12 +150,12 @@ impl<D: Device> Core<D> {
     /// Books each of the commits under way whose record is in the log up to this place. It does so in their order, as
     /// [`Core::leave_first`] does, and puts their transactions after the names. It takes no memory.
     pub fn leave_durable(&mut self, place: LogPos, names: &mut Vec<TxnNo>)
-        requires safe { IsSound D.seen D.may_leave self.old }
+        requires safe { IsSound D.Device self.old }
         requires room { vec_len names.old + length self.old.commits.items ≤ vec_capacity names.old }
-        ensures left { (origin : Origin) (base : Base) → IsConsistent D.seen D.may_leave origin base self.old
-            → IsIn D.seen D.may_leave origin base (booked_each (state_of self.old base)
+        ensures left { (origin : Origin) (base : Base) → IsConsistent D.Device origin base self.old
+            → IsIn D.Device origin base (booked_each (state_of self.old base)
             (durable_txns self.old.commits.items place)) self.new }
-        ensures store { self.new.operations.store ≡ self.old.operations.store }
+        ensures store { core_store self.new ≡ core_store self.old }
         ensures names { names.new.items ≡ names.old.items ++ durable_txns self.old.commits.items place }
         ensures rest { self.new.commits.items
             ≡ drop (durable_count self.old.commits.items place) self.old.commits.items }
@@ -177,7 +164,7 @@ impl<D: Device> Core<D> {
         ensures undo { LeavesUndo self.old self.new }
         // If the records up to this place are durable: none is booked that a crash may take away.
         ensures restartable { place ≤ length (durable (core_log self.old))
-            → StaysRestartable D.seen D.may_leave self.old self.new }
+            → StaysRestartable D.Device self.old self.new }
     {
         let count = durable_count(self.commits.as_slice(), place);
         for _booked in 0..count {
@@ -191,25 +178,25 @@ impl<D: Device> Core<D> {
     ///
     /// Refused with 2 if the device has failed or fails in this call, so no fault is passed over.
     pub fn force_step(&mut self) -> Result<Forced, Refusal>
-        requires safe { IsSound D.seen D.may_leave self.old }
-        ensures state { StaysIn D.seen D.may_leave self.old self.new }
+        requires safe { IsSound D.Device self.old }
+        ensures state { StaysIn D.Device self.old self.new }
         ensures rest { OnlyOperations self.old self.new }
         ensures pool { core_pool self.new ≡ core_pool self.old }
         ensures ruling { core_ruling self.new ≡ core_ruling self.old }
         ensures steps { ForceSteps (seen_of (core_log self.old)) (seen_of (core_log self.new)) result }
         ensures cause { ReportsFault D.Device (seen_of (core_log self.old)) (core_device self.old)
             (core_device self.new) result }
-        ensures moments { LeavesExplained D.seen D.may_leave D.moment D.left_since self.old self.new }
+        ensures moments { LeavesExplained D.Device self.old self.new }
         ensures once { D.moment (core_device self.new) ≤ D.moment (core_device self.old) + 1 }
-        ensures restartable { StaysRestartable D.seen D.may_leave self.old self.new }
+        ensures restartable { StaysRestartable D.Device self.old self.new }
     {
         self.operations.force_step()
     }
 
     /// Writes a page into its slot, if one waits for no record that is not durable. The error is the device's.
     pub fn flush_step(&mut self) -> Result<Flushed, DeviceFault>
-        requires safe { IsSound D.seen D.may_leave self.old }
-        ensures state { StaysIn D.seen D.may_leave self.old self.new }
+        requires safe { IsSound D.Device self.old }
+        ensures state { StaysIn D.Device self.old self.new }
         ensures rest { OnlyOperations self.old self.new }
         ensures log { core_log self.new ≡ core_log self.old }
         ensures steps { FlushSteps (length (durable (core_log self.old))) (core_pool self.old)
@@ -217,9 +204,9 @@ impl<D: Device> Core<D> {
         ensures forced { result ≡ Ok flushed.Force
             → length (durable (core_log self.old)) < length (appended (core_log self.old)) }
         ensures cause { HasCause (D.faults (core_device self.old)) (D.faults (core_device self.new)) result }
-        ensures moments { LeavesExplained D.seen D.may_leave D.moment D.left_since self.old self.new }
+        ensures moments { LeavesExplained D.Device self.old self.new }
         ensures once { D.moment (core_device self.new) ≤ D.moment (core_device self.old) + 1 }
-        ensures restartable { StaysRestartable D.seen D.may_leave self.old self.new }
+        ensures restartable { StaysRestartable D.Device self.old self.new }
     {
         self.operations.flush_step()
     }
@@ -227,12 +214,12 @@ impl<D: Device> Core<D> {
     /// Answers what the pages come to, by their bytes, if no transaction is active. Nothing has changed then. Refused
     /// for want of memory, and with 2 if and only if the device failed in this call.
     pub fn survey(&mut self, alloc: Global) -> Result<Survey, Refusal>
-        requires safe { IsSound D.seen D.may_leave self.old }
+        requires safe { IsSound D.Device self.old }
         requires nobody { self.old.live.members ≡ [] }
-        ensures surveyed { (origin : Origin) (base : Base) → IsConsistent D.seen D.may_leave origin base self.old
+        ensures surveyed { (origin : Origin) (base : Base) → IsConsistent D.Device origin base self.old
             → IfOk result (IsSurvey origin.relations origin.counters (pages (core_pool self.old))
-            (held_in (world D.seen origin.pages self.old.operations)) base) }
-        ensures state { StaysIn D.seen D.may_leave self.old self.new }
+            (held_in (world D.Device origin.pages self.old.operations)) base) }
+        ensures state { StaysIn D.Device self.old self.new }
         ensures rest { OnlyOperations self.old self.new }
         ensures log { core_log self.new ≡ core_log self.old }
         ensures pool { core_pool self.new ≡ core_pool self.old }
@@ -241,8 +228,8 @@ impl<D: Device> Core<D> {
             × (D.faults (core_device self.old) < D.faults (core_device self.new))) }
         ensures quiet { (result ≡ Err Refusal.DeviceFailed → ⊥)
             → D.faults (core_device self.new) ≡ D.faults (core_device self.old) }
-        ensures moments { LeavesExplained D.seen D.may_leave D.moment D.left_since self.old self.new }
-        ensures restartable { StaysRestartable D.seen D.may_leave self.old self.new }
+        ensures moments { LeavesExplained D.Device self.old self.new }
+        ensures restartable { StaysRestartable D.Device self.old self.new }
     {
         self.operations.survey(alloc)
     }

@@ -1,19 +1,13 @@
 // An operation that an abort finds unfinished is put back page by page, and then dropped out.
 // Its page locks, its claims and its pending add go with it. Its semantic lock stays until the transaction ends.
-ghost use Rattle.std.specs.Prelude.{◌≡◌, ◌≤◌, ◌+◌, ◌<◌, Ok, Some, IfErr, length};
-ghost use Rattle.mt_log.specs.Words.{durable};
+ghost use Rattle.std.specs.Prelude.{◌≡◌, ◌<◌, Some, length};
 ghost use Rattle.mt_model.specs.Model.{Base};
-ghost use Rattle.mt_op.specs.Faults.{TellsFaults};
-ghost use Rattle.mt_op.specs.Operations.{IsCause};
 ghost use Rattle.mt_live.specs.declared.transactions.TxnState.TheVariants.{Aborting};
+ghost use Rattle.mt_core.specs.Answered.{IsPutBack};
 ghost use Rattle.mt_core.specs.Advancing.{DropsOut, IsTakenBack};
 ghost use Rattle.mt_core.specs.Consistent.{BacksIn, state_in, IsSound, IsClearedAt, AtPlace, Origin, IsConsistent};
 ghost use Rattle.mt_core.specs.Restartable.{StaysRestartable};
-ghost use Rattle.mt_core.specs.Steps.{LeavesExplained, WantsFrame};
-ghost use Rattle.mt_core.specs.Work.{KeepsOthers, LowersBack, undo_steps};
-ghost use Rattle.mt_op.specs.declared.scope.OpScope.{OpScope};
-ghost use Rattle.mt_core.specs.PageLocks.{GivesLocksBack};
-ghost use Rattle.mt_core.specs.Seen.{core_device, core_log};
+ghost use Rattle.mt_op.specs.World.{undoes_of};
 
 use crate::ends::let_go;
 use crate::parts::Core;
@@ -27,11 +21,11 @@ impl<D: Device> Core<D> {
     // be undone. A page that it wrote is put back. At `Clear` nothing of it is left but its page locks and its
     // claims. The base that the pages hold stays.
     fn take_back(&mut self, place: usize) -> Result<TakenBack, Refusal>
-        requires safe { IsSound D.seen D.may_leave self.old }
+        requires safe { IsSound D.Device self.old }
         requires within { place < length self.old.running.items }
-        requires aborting { AtPlace self.old.running.items place (λ r. (r.undoes ≡ 0)
+        requires aborting { AtPlace self.old.running.items place (λ r. (undoes_of r ≡ 0)
             × (state_in self.old.live.members r.txn ≡ Some Aborting)) }
-        ensures { IsTakenBack D.seen D.may_leave D.faults D.moment D.left_since self.old self.new place result }
+        ensures { IsTakenBack D.Device self.old self.new place result }
     {
         self.operations.take_back(&mut self.running[place])
     }
@@ -40,10 +34,10 @@ impl<D: Device> Core<D> {
     // it and for its inverse. Its add, if it is one, is pending no more. It takes no memory.
     fn drop_out(&mut self, place: usize)
         requires cleared { ∥ ((origin : Origin) × (base : Base)
-            × IsClearedAt D.seen D.may_leave origin base self.old place) ∥₁ }
+            × IsClearedAt D.Device origin base self.old place) ∥₁ }
         requires within { place < length self.old.running.items }
-        requires forward { AtPlace self.old.running.items place (λ r. r.undoes ≡ 0) }
-        ensures { DropsOut D.seen D.may_leave self.old self.new place }
+        requires forward { AtPlace self.old.running.items place (λ r. undoes_of r ≡ 0) }
+        ensures { DropsOut D.Device self.old self.new place }
     {
         let scope = self.running.remove(place);
         let txn = scope.txn();
@@ -59,29 +53,17 @@ impl<D: Device> Core<D> {
     /// was kept for it and for its inverse. Its add, if it is one, is pending no more. The base that the pages
     /// hold stays.
     ///
-    /// Refused with 1 for want of memory, and with 2 if the device has failed. The state is as before then, though frames
-    /// may hold other pages.
+    /// Refused with 1 for want of memory, and with 2 if the device has failed. The state is as before then, though
+    /// frames may hold other pages.
     pub fn take_back_step(&mut self, place: usize) -> Result<TakenBack, Refusal>
-        requires safe { IsSound D.seen D.may_leave self.old }
+        requires safe { IsSound D.Device self.old }
         requires within { place < length self.old.running.items }
-        requires aborting { AtPlace self.old.running.items place (λ r. (r.undoes ≡ 0)
+        requires aborting { AtPlace self.old.running.items place (λ r. (undoes_of r ≡ 0)
             × (state_in self.old.live.members r.txn ≡ Some Aborting)) }
-        ensures back { (origin : Origin) (base : Base) → IsConsistent D.seen D.may_leave origin base self.old
-            → BacksIn D.seen D.may_leave origin base self.old self.new place result }
-        ensures lowers { AtPlace self.old.running.items place (λ r. LowersBack result
-            (undo_steps self.old r.txn) (undo_steps self.new r.txn)) }
-        ensures locks { AtPlace self.old.running.items place (λ r. GivesLocksBack self.old self.new r result) }
-        ensures live { self.new.live ≡ self.old.live }
-        ensures commits { self.new.commits ≡ self.old.commits }
-        ensures full { result ≡ Ok TakenBack.Flush → WantsFrame self.old self.new }
-        ensures why { IfErr result IsCause }
-        ensures faults { TellsFaults (D.faults (core_device self.old)) (D.faults (core_device self.new)) result }
-        ensures others { AtPlace self.old.running.items place (λ r. KeepsOthers r.txn self.old.running.items
-            self.new.running.items) }
-        ensures durable { durable (core_log self.new) ≡ durable (core_log self.old) }
-        ensures moments { LeavesExplained D.seen D.may_leave D.moment D.left_since self.old self.new }
-        ensures once { D.moment (core_device self.new) ≤ D.moment (core_device self.old) + 1 }
-        ensures restartable { StaysRestartable D.seen D.may_leave self.old self.new }
+        ensures back { (origin : Origin) (base : Base) → IsConsistent D.Device origin base self.old
+            → BacksIn D.Device origin base self.old self.new place result }
+        ensures put { IsPutBack D.Device self.old self.new place result }
+        ensures restartable { StaysRestartable D.Device self.old self.new }
     {
         match self.take_back(place)? {
             TakenBack::Clear => {

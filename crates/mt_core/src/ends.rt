@@ -10,6 +10,7 @@ ghost use Rattle.mt_model.specs.declared.operations.Reply.{Reply};
 ghost use Rattle.mt_core.specs.Consistent.{IsReadyAt, AtPlace, Origin};
 ghost use Rattle.mt_op.specs.declared.scope.OpScope.{OpScope};
 ghost use Rattle.mt_core.specs.Advancing.{EndsInverse, EndsReady};
+ghost use Rattle.mt_op.specs.World.{undoes_of};
 
 use crate::parts::Core;
 use crate::reservations::{bytes_kept, pages_kept};
@@ -49,10 +50,10 @@ impl<D: Device> Core<D> {
     // nothing, what was kept for its inverse is free.
     pub(crate) fn note_end(&mut self, place: usize, reply: Reply)
         requires ready { ∥ ((origin : Origin) × (base : Base)
-            × IsReadyAt D.seen D.may_leave origin base self.old place reply) ∥₁ }
+            × IsReadyAt D.Device origin base self.old place reply) ∥₁ }
         requires within { place < length self.old.running.items }
-        requires forward { AtPlace self.old.running.items place (λ r. r.undoes ≡ 0) }
-        ensures { EndsReady D.seen D.may_leave self.old self.new place reply }
+        requires forward { AtPlace self.old.running.items place (λ r. undoes_of r ≡ 0) }
+        ensures { EndsReady D.Device self.old self.new place reply }
     {
         let scope = self.running.remove(place);
         let txn = scope.txn();
@@ -67,10 +68,10 @@ impl<D: Device> Core<D> {
     // Ends an inverse that is ready: what it takes back stands no more, nor what its transaction did after it.
     pub(crate) fn note_undone(&mut self, place: usize)
         requires ready { ∥ ((origin : Origin) × (base : Base) × (reply : Reply)
-            × IsReadyAt D.seen D.may_leave origin base self.old place reply) ∥₁ }
+            × IsReadyAt D.Device origin base self.old place reply) ∥₁ }
         requires within { place < length self.old.running.items }
-        requires back { AtPlace self.old.running.items place (λ r. r.undoes ≢ 0) }
-        ensures { EndsInverse D.seen D.may_leave self.old self.new place }
+        requires back { AtPlace self.old.running.items place (λ r. undoes_of r ≢ 0) }
+        ensures { EndsInverse D.Device self.old self.new place }
     {
         let scope = self.running.remove(place);
         let txn = scope.txn();

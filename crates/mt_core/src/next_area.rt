@@ -67,7 +67,7 @@ impl<D: Device> Core<D> {
     /// book and the numbers go on: the laws see nothing of it. It takes no memory.
     pub fn join(rest: Rest, operations: Operations<D>, escrow: Escrow) -> Core<D>
         requires fresh { IsFresh operations escrow }
-        ensures resumed { Resumes D.seen D.may_leave rest operations escrow result }
+        ensures resumed { Resumes D.Device rest operations escrow result }
         ensures operations { result.operations ≡ operations }
         ensures book { result.book ≡ rest.book }
     {

@@ -20,9 +20,10 @@ use std::alloc::Global;
 /// A commit under way: its record is appended, and is not yet known to be durable.
 #[derive(Clone, Copy, PartialEq, Eq, Debug)]
 pub struct Commit {
-    pub(crate) txn: TxnNo,
-    // of its record
-    pub(crate) place: LogPos,
+    /// Its transaction.
+    pub txn: TxnNo,
+    /// The position of its record.
+    pub place: LogPos,
 }
 
 /// The core of a kernel over pages. Its parts are the operations over their pages, the transactions that live, their
@@ -49,12 +50,12 @@ impl<D: Device> Core<D> {
     pub fn new(alloc: Global, operations: Operations<D>, escrow: Escrow) -> Core<D>
         requires fresh { IsFresh operations escrow }
         ensures state { (origin : Origin) → IsSchema origin → IsBase origin.first → Holds origin.pages origin.first
-            → IsRight D.seen D.may_leave origin.pages origin.relations origin.counters operations
+            → IsRight D.Device origin.pages origin.relations origin.counters operations
             → IsEscrowed origin.counters origin.first escrow
-            → IsIn D.seen D.may_leave origin origin.first (start origin.first) result }
+            → IsIn D.Device origin origin.first (start origin.first) result }
         ensures restartable { (origin : Origin) → IsSchema origin → IsFirstArea origin → IsBase origin.first
             → Holds origin.pages origin.first
-            → IsRight D.seen D.may_leave origin.pages origin.relations origin.counters operations
+            → IsRight D.Device origin.pages origin.relations origin.counters operations
             → IsEscrowed origin.counters origin.first escrow → IsRestartable origin result }
         ensures operations { result.operations ≡ operations }
     {

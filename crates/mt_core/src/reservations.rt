@@ -1,7 +1,8 @@
 // What is kept for the inverses of operations: free pages, and bytes of the log.
 ghost use Rattle.std.specs.Prelude.{◌≡◌, ◌<◌, ◌+◌, ◌^◌};
 ghost use Rattle.std.specs.List.{sum_by};
-ghost use Rattle.mt_core.specs.Runs.{call_pages, call_bytes, left_of};
+ghost use Rattle.mt_core.specs.Runs.{call_pages, call_bytes};
+ghost use Rattle.mt_op.specs.World.{left_of};
 
 use mt_inverse::has_effect;
 use mt_model::{Op, Reply};

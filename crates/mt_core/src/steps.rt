@@ -1,24 +1,19 @@
 // Steps of operations that go forward, and of inverses. mt_op makes the step; this notes in the core what has ended.
 // A step writes no page into its slot: if it lacks a frame it answers `Flush`, and who calls flushes and asks again.
-ghost use Rattle.std.specs.Prelude.{◌≡◌, ◌≤◌, ◌+◌, ◌≢◌, ◌⊎◌, ◌<◌, ℕ, Ok, IfErr, length, slice_index_or};
-ghost use Rattle.mt_log.specs.Words.{appended, durable};
+ghost use Rattle.std.specs.Prelude.{◌≡◌, ◌≢◌, ◌⊎◌, ◌<◌, IfErr, IfOk, length};
 ghost use Rattle.mt_model.specs.Model.{Base};
 ghost use Rattle.mt_op.specs.declared.scope.Stage.TheVariants.{Planning, Writing};
+ghost use Rattle.mt_core.specs.Answered.{StepsAtPlace};
 ghost use Rattle.mt_core.specs.Advancing.{IsAdvanced};
-ghost use Rattle.mt_core.specs.Consistent.{SameStates, IsSound, AtPlace, Origin, state_of, IsConsistent, Advances};
-ghost use Rattle.mt_op.specs.Moves.{SameOp};
-ghost use Rattle.mt_op.specs.Work.{Works};
+ghost use Rattle.mt_core.specs.Consistent.{IsSound, AtPlace, Origin, IsConsistent};
 ghost use Rattle.mt_pool.specs.Views.{pages};
-ghost use Rattle.mt_core.specs.Work.{KeepsOthers, Lowers, LowersUndo, steps_in, undo_steps};
-ghost use Rattle.mt_core.specs.Writes.{StepWrites};
-ghost use Rattle.mt_op.specs.Faults.{TellsFaults};
-ghost use Rattle.mt_op.specs.Operations.{IsCause};
-ghost use Rattle.mt_core.specs.Restartable.{StaysRestartable, StepAppends};
-ghost use Rattle.mt_core.specs.Steps.{LeavesExplained, Steps, UndoSteps, TellsOther, NamesOther, WantsFrame};
-ghost use Rattle.mt_core.specs.PageLocks.{KeepsPageLocks};
-ghost use Rattle.mt_op.specs.Holds.{IsNext, KeepsLocks};
-ghost use Rattle.mt_op.specs.declared.scope.OpScope.{OpScope};
-ghost use Rattle.mt_core.specs.Seen.{core_device, core_log, core_pool};
+ghost use Rattle.mt_core.specs.Work.{LowersUndo, undo_steps};
+ghost use Rattle.mt_core.specs.Restartable.{StaysRestartable};
+ghost use Rattle.mt_core.specs.Steps.{Steps, UndoSteps};
+ghost use Rattle.mt_core.specs.PageLocks.{step_of};
+ghost use Rattle.mt_op.specs.declared.answers.Stepped.TheVariants.{Ready};
+ghost use Rattle.mt_core.specs.Seen.{core_pool};
+ghost use Rattle.mt_op.specs.World.{undoes_of};
 
 use crate::parts::Core;
 use mt_base::{OpNo, Refusal};
@@ -49,14 +44,28 @@ pub enum Stepping {
     Ended(Reply),
 }
 
+// What a step did that goes on; or the two replies of one that is ready, one to note and one to answer.
+fn going_of(stepped: Stepped) -> Result<Going, (Reply, Reply)>
+    ensures going { IfOk result (λ going. stepped ≡ step_of going) }
+    ensures ready { IfErr result (λ replies. stepped ≡ Ready replies.0 replies.1) }
+{
+    match stepped {
+        Stepped::Ready(reply, answer) => Err((reply, answer)),
+        Stepped::Went => Ok(Going::Went),
+        Stepped::Wait(holder) => Ok(Going::Wait(holder)),
+        Stepped::Again(holder) => Ok(Going::Again(holder)),
+        Stepped::Flush => Ok(Going::Flush),
+    }
+}
+
 impl<D: Device> Core<D> {
     // Makes a step of the operation at a place.
     fn advance(&mut self, alloc: Global, place: usize) -> Result<Stepped, Refusal>
-        requires safe { IsSound D.seen D.may_leave self.old }
+        requires safe { IsSound D.Device self.old }
         requires within { place < length self.old.running.items }
         requires stage { AtPlace self.old.running.items place (λ r. (r.stage ≡ Planning) ⊎ (r.stage
             ≡ Writing)) }
-        ensures { IsAdvanced D.seen D.may_leave D.faults D.moment D.left_since self.old self.new place result }
+        ensures { IsAdvanced D.Device self.old self.new place result }
     {
         self.operations.step(alloc, &mut self.running[place])
     }
@@ -67,40 +76,23 @@ impl<D: Device> Core<D> {
     ///
     /// Refused with 1 for want of memory, and with 2 if the device has failed; the base is as before.
     pub fn step(&mut self, alloc: Global, place: usize) -> Result<Stepping, Refusal>
-        requires safe { IsSound D.seen D.may_leave self.old }
+        requires safe { IsSound D.Device self.old }
         requires within { place < length self.old.running.items }
-        requires forward { AtPlace self.old.running.items place (λ r. r.undoes ≡ 0) }
+        requires forward { AtPlace self.old.running.items place (λ r. undoes_of r ≡ 0) }
         requires stage { AtPlace self.old.running.items place (λ r. (r.stage ≡ Planning) ⊎ (r.stage
             ≡ Writing)) }
-        ensures work { AtPlace self.old.running.items place (λ r. Lowers (pages (core_pool self.old)) result
-            (steps_in self.old.running.items r.txn) (steps_in self.new.running.items r.txn)) }
-        ensures states { SameStates self.old self.new }
-        ensures commits { self.new.commits ≡ self.old.commits }
-        ensures full { result ≡ Ok (Stepping.Going Going.Flush) → WantsFrame self.old self.new }
-        ensures why { IfErr result IsCause }
-        ensures faults { TellsFaults (D.faults (core_device self.old)) (D.faults (core_device self.new)) result }
-        ensures steps { (origin : Origin) (base : Base) → IsConsistent D.seen D.may_leave origin base self.old
-            → Steps D.seen D.may_leave origin base self.old self.new place result }
-        ensures other { (origin : Origin) (base : Base) → IsConsistent D.seen D.may_leave origin base self.old
-            → AtPlace self.old.running.items place (λ r. NamesOther self.new.running.items r.txn result) }
-        ensures locks { AtPlace self.old.running.items place (λ r. KeepsPageLocks self.old self.new r result) }
-        ensures others { AtPlace self.old.running.items place (λ r. KeepsOthers r.txn self.old.running.items
-            self.new.running.items) }
-        ensures writes { StepWrites (appended (core_log self.old)) (appended (core_log self.new)) result }
-        ensures durable { durable (core_log self.new) ≡ durable (core_log self.old) }
-        ensures moments { LeavesExplained D.seen D.may_leave D.moment D.left_since self.old self.new }
-        ensures once { D.moment (core_device self.new) ≤ D.moment (core_device self.old) + 1 }
-        ensures restartable { StaysRestartable D.seen D.may_leave self.old self.new }
+        ensures steps { (origin : Origin) (base : Base) → IsConsistent D.Device origin base self.old
+            → Steps D.Device origin base self.old self.new place result }
+        ensures stepped { StepsAtPlace D.Device self.old self.new place result }
+        ensures restartable { StaysRestartable D.Device self.old self.new }
     {
-        match self.advance(alloc, place)? {
-            Stepped::Ready(reply, answer) => {
+        let stepped = self.advance(alloc, place)?;
+        match going_of(stepped) {
+            Ok(going) => Ok(Stepping::Going(going)),
+            Err((reply, answer)) => {
                 self.note_end(place, reply);
                 Ok(Stepping::Ended(answer))
             }
-            Stepped::Went => Ok(Stepping::Going(Going::Went)),
-            Stepped::Wait(holder) => Ok(Stepping::Going(Going::Wait(holder))),
-            Stepped::Again(holder) => Ok(Stepping::Going(Going::Again(holder))),
-            Stepped::Flush => Ok(Stepping::Going(Going::Flush)),
         }
     }
 
@@ -110,43 +102,26 @@ impl<D: Device> Core<D> {
     ///
     /// Refused with 1 for want of memory, and with 2 if the device has failed; the base is as before.
     pub fn undo_step(&mut self, alloc: Global, place: usize) -> Result<Stepping, Refusal>
-        requires safe { IsSound D.seen D.may_leave self.old }
+        requires safe { IsSound D.Device self.old }
         requires within { place < length self.old.running.items }
-        requires back { AtPlace self.old.running.items place (λ r. r.undoes ≢ 0) }
+        requires back { AtPlace self.old.running.items place (λ r. undoes_of r ≢ 0) }
         requires stage { AtPlace self.old.running.items place (λ r. (r.stage ≡ Planning) ⊎ (r.stage
             ≡ Writing)) }
-        ensures work { AtPlace self.old.running.items place (λ r. Lowers (pages (core_pool self.old)) result
-            (steps_in self.old.running.items r.txn) (steps_in self.new.running.items r.txn)) }
         ensures lowers { AtPlace self.old.running.items place (λ r. LowersUndo (pages (core_pool self.old))
             result (undo_steps self.old r.txn) (undo_steps self.new r.txn)) }
-        ensures states { SameStates self.old self.new }
-        ensures commits { self.new.commits ≡ self.old.commits }
-        ensures full { result ≡ Ok (Stepping.Going Going.Flush) → WantsFrame self.old self.new }
-        ensures why { IfErr result IsCause }
-        ensures faults { TellsFaults (D.faults (core_device self.old)) (D.faults (core_device self.new)) result }
-        ensures steps { (origin : Origin) (base : Base) → IsConsistent D.seen D.may_leave origin base self.old
-            → UndoSteps D.seen D.may_leave origin base self.old self.new place result }
-        ensures other { (origin : Origin) (base : Base) → IsConsistent D.seen D.may_leave origin base self.old
-            → AtPlace self.old.running.items place (λ r. NamesOther self.new.running.items r.txn result) }
-        ensures locks { AtPlace self.old.running.items place (λ r. KeepsPageLocks self.old self.new r result) }
-        ensures others { AtPlace self.old.running.items place (λ r. KeepsOthers r.txn self.old.running.items
-            self.new.running.items) }
-        ensures writes { StepWrites (appended (core_log self.old)) (appended (core_log self.new)) result }
-        ensures durable { durable (core_log self.new) ≡ durable (core_log self.old) }
-        ensures moments { LeavesExplained D.seen D.may_leave D.moment D.left_since self.old self.new }
-        ensures once { D.moment (core_device self.new) ≤ D.moment (core_device self.old) + 1 }
-        ensures restartable { StaysRestartable D.seen D.may_leave self.old self.new }
+        ensures steps { (origin : Origin) (base : Base) → IsConsistent D.Device origin base self.old
+            → UndoSteps D.Device origin base self.old self.new place result }
+        ensures stepped { StepsAtPlace D.Device self.old self.new place result }
+        ensures restartable { StaysRestartable D.Device self.old self.new }
     {
-        match self.advance(alloc, place)? {
-            Stepped::Ready(reply, answer) => {
+        let stepped = self.advance(alloc, place)?;
+        match going_of(stepped) {
+            Ok(going) => Ok(Stepping::Going(going)),
+            Err((reply, answer)) => {
                 self.note_undone(place);
                 drop(reply);
                 Ok(Stepping::Ended(answer))
             }
-            Stepped::Went => Ok(Stepping::Going(Going::Went)),
-            Stepped::Wait(other) => Ok(Stepping::Going(Going::Wait(other))),
-            Stepped::Again(other) => Ok(Stepping::Going(Going::Again(other))),
-            Stepped::Flush => Ok(Stepping::Going(Going::Flush)),
         }
     }
 }

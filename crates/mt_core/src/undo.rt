@@ -1,19 +1,17 @@
 // The inverse of a transaction's last effect begins, and an abort ends of which nothing is left to undo.
 // The steps between are made in `steps`. An operation that is unfinished is taken back before, in `drops`.
-ghost use Rattle.std.specs.Prelude.{◌≡◌, ◌≢◌, ◌<◌, ◌≤◌, ◌++◌, ◌∷◌, [], ℕ, true, false, All, None, Some, Ok, IfErr, OnOk, OnErr};
-ghost use Rattle.mt_frame.specs.declared.records.Record.TheVariants.{AbortEnd};
+ghost use Rattle.std.specs.Prelude.{◌≡◌, ◌≢◌, ◌<◌, ◌≤◌, true, false, All, None, Some, Ok, IfErr, OnOk, OnErr};
 ghost use Rattle.mt_live.specs.Lives.{member_of};
-ghost use Rattle.mt_log.specs.Words.{appended, durable};
 ghost use Rattle.mt_live.specs.Machine.{gone};
 ghost use Rattle.mt_live.specs.Undoing.{last_effect};
 ghost use Rattle.mt_model.specs.Model.{Base};
 ghost use Rattle.mt_live.specs.declared.transactions.TxnState.TheVariants.{Aborting};
-ghost use Rattle.mt_core.specs.Consistent.{IsSound, SameStates, SameStatesBut, StaysIn, state_in, Origin, state_of, IsConsistent, IsIn};
+ghost use Rattle.mt_core.specs.Answered.{EndsAbort, KeepsAtAbort, KeepsToUndo};
+ghost use Rattle.mt_core.specs.Consistent.{IsSound, SameStates, StaysIn, state_in, Origin, state_of, IsConsistent, IsIn};
 ghost use Rattle.mt_core.specs.Restartable.{StaysRestartable};
 ghost use Rattle.mt_core.specs.Runs.{is_open};
-ghost use Rattle.mt_core.specs.Work.{KeepsOthers, undo_steps};
+ghost use Rattle.mt_core.specs.Work.{undo_steps};
 ghost use Rattle.mt_op.specs.declared.scope.OpScope.{OpScope};
-ghost use Rattle.mt_core.specs.Seen.{core_device, core_log, core_page_locks};
 
 use crate::parts::Core;
 use mt_base::limits::{OPERATION_LOG_BYTES, TRANSACTION_LOG_BYTES};
@@ -30,21 +28,17 @@ impl<D: Device> Core<D> {
     ///
     /// Refused with 1 for want of memory; nothing has begun then.
     pub fn undo_begin(&mut self, alloc: Global, txn: TxnNo) -> Result<bool, Refusal>
-        requires safe { IsSound D.seen D.may_leave self.old }
+        requires safe { IsSound D.Device self.old }
         requires aborting { state_in self.old.live.members txn ≡ Some Aborting }
         requires idle { All (λ (r : OpScope). r.txn ≢ txn) self.old.running.items }
-        ensures state { StaysIn D.seen D.may_leave self.old self.new }
+        ensures state { StaysIn D.Device self.old self.new }
         ensures nothing { result ≡ Ok false → last_effect txn self.old.live.standing ≡ None }
         ensures same { result ≡ Ok false → self.new ≡ self.old }
         ensures fewer { result ≡ Ok true → undo_steps self.new txn < undo_steps self.old txn }
         ensures err_left { OnErr result (undo_steps self.new txn ≤ undo_steps self.old txn) }
-        ensures store { self.new.operations.store ≡ self.old.operations.store }
-        ensures locks { core_page_locks self.new ≡ core_page_locks self.old }
-        ensures live { self.new.live ≡ self.old.live }
-        ensures others { KeepsOthers txn self.old.running.items self.new.running.items }
-        ensures commits { self.new.commits ≡ self.old.commits }
+        ensures keeps { KeepsToUndo self.old self.new txn }
         ensures only_memory { IfErr result (λ why. why ≡ Refusal.NoMemory) }
-        ensures restartable { StaysRestartable D.seen D.may_leave self.old self.new }
+        ensures restartable { StaysRestartable D.Device self.old self.new }
     {
         let Some(last) = self.live.last_to_undo(txn) else {
             return Ok(false);
@@ -74,27 +68,20 @@ impl<D: Device> Core<D> {
     ///
     /// Refused with 1 for want of memory; the transaction lives then.
     pub fn abort_end(&mut self, txn: TxnNo) -> Result<(), Refusal>
-        requires safe { IsSound D.seen D.may_leave self.old }
+        requires safe { IsSound D.Device self.old }
         requires at_work { is_open (member_of self.old.live.members txn) ≡ true }
         requires idle { All (λ (r : OpScope). r.txn ≢ txn) self.old.running.items }
         requires nothing { last_effect txn self.old.live.standing ≡ None }
-        ensures gone { (origin : Origin) (base : Base) → IsConsistent D.seen D.may_leave origin base self.old
-            → OnOk result (IsIn D.seen D.may_leave origin base (gone (state_of self.old base) txn) self.new) }
-        ensures ended { OnOk result (appended (core_log self.new) ≡ appended (core_log self.old) ++ AbortEnd txn ∷ []) }
-        ensures durable { durable (core_log self.new) ≡ durable (core_log self.old) }
-        ensures others { SameStatesBut self.old self.new txn }
-        ensures out { OnOk result (state_in self.new.live.members txn ≡ None) }
+        ensures gone { (origin : Origin) (base : Base) → IsConsistent D.Device origin base self.old
+            → OnOk result (IsIn D.Device origin base (gone (state_of self.old base) txn) self.new) }
+        ensures ends { OnOk result (EndsAbort self.old self.new txn) }
+        ensures keeps { KeepsAtAbort self.old self.new txn }
         ensures err_states { OnErr result (SameStates self.old self.new) }
-        ensures locks { core_page_locks self.new ≡ core_page_locks self.old }
-        ensures commits { self.new.commits ≡ self.old.commits }
-        ensures running { self.new.running ≡ self.old.running }
-        ensures none_left { OnOk result (undo_steps self.old txn ≡ 0) }
         ensures err_left { OnErr result (undo_steps self.new txn ≤ undo_steps self.old txn) }
-        ensures err { (origin : Origin) (base : Base) → IsConsistent D.seen D.may_leave origin base self.old
-            → OnErr result (IsIn D.seen D.may_leave origin base (state_of self.old base) self.new) }
+        ensures err { (origin : Origin) (base : Base) → IsConsistent D.Device origin base self.old
+            → OnErr result (IsIn D.Device origin base (state_of self.old base) self.new) }
         ensures only_memory { IfErr result (λ why. why ≡ Refusal.NoMemory) }
-        ensures device { core_device self.new ≡ core_device self.old }
-        ensures restartable { StaysRestartable D.seen D.may_leave self.old self.new }
+        ensures restartable { StaysRestartable D.Device self.old self.new }
     {
         self.operations.append(Record::AbortEnd { txn })?;
         self.live.leave(txn);

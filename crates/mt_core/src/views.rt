@@ -3,6 +3,7 @@ ghost use Rattle.std.specs.Prelude.{◌≡◌, ◌==◌, ◌<◌, ◌≢◌, ℕ
 ghost use Rattle.mt_core.specs.Consistent.{AtPlace, IsOwnerOf};
 ghost use Rattle.mt_op.specs.declared.scope.OpScope.{OpScope};
 ghost use Rattle.mt_core.specs.Seen.{core_log};
+ghost use Rattle.mt_op.specs.World.{undoes_of};
 
 use crate::parts::Core;
 use mt_base::{OpNo, TxnNo};
@@ -56,7 +57,7 @@ impl<D: Device> Core<D> {
     /// Whether the operation at a place is an inverse.
     pub fn is_inverse(&self, place: usize) -> bool
         requires { place < length self.now.running.items }
-        ensures { AtPlace self.now.running.items place (λ r. result ≡ not (r.undoes == 0)) }
+        ensures { AtPlace self.now.running.items place (λ r. result ≡ not (undoes_of r == 0)) }
     {
         self.running[place].undoes() != 0
     }

@@ -37,18 +37,18 @@ use Rattle.mt_folder.specs.Folders.{Files, IsHeld, IsLent, IsUnmade, Puts, known
 
 -- ---- a kernel that was opened
 
-module _ {D : Type 0} {g : Ghosts D} (seen : D → List ℕ) (may_leave : D → List ℕ → Type 0) where
+module _ {D : Type 0} {g : Ghosts D} where
   -- the pages of which a survey of it tells hold its base
-  pub tells_of : (relations counters : ℕ) (b : Base) (k : Kernel D g) (survey : Survey) → IsOpened seen may_leave relations counters b k → TellsBase k.relations k.counters b survey → TellsPages seen k survey → TellsOfBase relations counters b survey
+  pub tells_of : (relations counters : ℕ) (b : Base) (k : Kernel D g) (survey : Survey) → IsOpened relations counters b k → TellsBase k.relations k.counters b survey → TellsPages k survey → TellsOfBase relations counters b survey
   tells_of relations counters b k survey opened base outcome = ∥∥₁_map opened.shows (λ (origin, held, is, x).
       let ops = k.core.operations in
       let safe = x.consistent in
       let total = pages ops.store.pool in
-      let page = held_in (world seen origin.pages ops) in
-      let none = nobody seen may_leave b k opened.shows in
+      let page = held_in (world g origin.pages ops) in
+      let none = nobody b k opened.shows in
       let free = nobody_locks k.core.live.members k.core.live.standing k.core.running.items ops.locks none safe.fit.owned safe.fit.locked in
-      let idle : IsIdle seen may_leave origin.relations ops = ∣ (origin.pages, origin.counters, safe.fit.right, free) ∣₁ in
-      let shows = λ (p : ℕ) (inside : p < total). idle_page seen may_leave origin.pages origin.relations origin.counters ops p safe.fit.right free inside in
+      let idle : IsIdle g origin.relations ops = ∣ (origin.pages, origin.counters, safe.fit.right, free) ∣₁ in
+      let shows = λ (p : ℕ) (inside : p < total). idle_page g origin.pages origin.relations origin.counters ops p safe.fit.right free inside in
       let same : held ≡ b = sym (ap (λ (s : State). s.base) x.state) in
       let relations_are : origin.relations ≡ relations = is.relations_are ∙ opened.relations_are in
       let counters_are : origin.counters ≡ counters = is.counters_are ∙ opened.counters_are in (
@@ -57,8 +57,8 @@ module _ {D : Type 0} {g : Ghosts D} (seen : D → List ℕ) (may_leave : D → 
         subst (λ (X : Type 0). X) (λ i. IsGood (relations_are i) (counters_are i) total page) safe.fit.right.sound.good,
         subst (Holds page) same safe.holds,
         record {
-          depth = outcome.depth ∙ ap depth_in (shows 1 (fixed_inside seen may_leave origin.relations ops 1 (omega arith) idle));
-          free = outcome.free ∙ ap (λ (bytes : List ℕ). free_in (mapped bytes total)) (shows 0 (fixed_inside seen may_leave origin.relations ops 0 (omega arith) idle));
+          depth = outcome.depth ∙ ap depth_in (shows 1 (fixed_inside g origin.relations ops 1 (omega arith) idle));
+          free = outcome.free ∙ ap (λ (bytes : List ℕ). free_in (mapped bytes total)) (shows 0 (fixed_inside g origin.relations ops 0 (omega arith) idle));
           relations_reported = base.relations_reported ∙ opened.relations_are;
           counters_reported = base.counters_reported ∙ opened.counters_are;
           base = subst (λ (n : ℕ). IsSame n (base_of survey.base) b) opened.counters_are base.same;
@@ -93,9 +93,9 @@ is_memory : (why : Refusal) → (why ≡ refusal.NoMemory) ⊎ (why ≢ refusal.
 is_memory refusal.NoMemory = inl refl
 is_memory _ = inr (λ e. cc)
 
-pub unmade_of : {D : Type 0} (failures : D → ℕ) (failed : Bool) (k n : Core D) (r : Result Survey Refusal) → k.live.members ≡ [] → IfErr r (λ why. why ≢ refusal.NoMemory → (survey_cause failed k ≡ Some why) ⊎ IsFault failures k n why) → IfErr r IsUnmade
-unmade_of failures failed k n (Ok survey) none cause = tt
-unmade_of failures failed k n (Err why) none cause =
+pub unmade_of : {D : Type 0} (g : Ghosts D) (failed : Bool) (k n : Core D) (r : Result Survey Refusal) → k.live.members ≡ [] → IfErr r (λ why. why ≢ refusal.NoMemory → (survey_cause failed k ≡ Some why) ⊎ IsFault g k n why) → IfErr r IsUnmade
+unmade_of g failed k n (Ok survey) none cause = tt
+unmade_of g failed k n (Err why) none cause =
     elim (is_memory why) [ inl is ↦ inl is | inr other ↦ inr (elim (cause other) [ inl is ↦ unsurveyed failed k why none is | inr fault ↦ fault.0 ]) ]
 
 pub barred_unmade : (c : List ℕ) (why : Refusal) → IsUnmade why → IsUnsurveyed c why
@@ -113,15 +113,15 @@ not_early why (inr is) early = early.1 is
 -- ---- what the bytes stand for
 
 -- Whenever a crash came, what it left stood for the same; so does what is there.
-pub stands_same : {D : Type 0} (seen : D → List ℕ) (may_leave : D → List ℕ → Type 0) (moment : D → ℕ) (left_since : D → ℕ → List ℕ → Type 0) (old new : D) → Only (seen old) (may_leave old)
-    → ((relations counters : ℕ) (b : Base) → CanRestart relations counters (seen old) b → LeavesOnly moment left_since old new (StandsStill may_leave relations counters b old))
-    → ((t : ℕ) → t ≤ moment new → left_since new t (seen new)) → StandAs (seen old) (seen new)
-stands_same seen may_leave moment left_since old new only leaves now = λ relations counters b can.
+pub stands_same : {D : Type 0} (g : Ghosts D) (old new : D) → Only (g.seen old) (g.may_leave old)
+    → ((relations counters : ℕ) (b : Base) → CanRestart relations counters (g.seen old) b → LeavesOnly g.moment g.left_since old new (StandsStill g relations counters b old))
+    → ((t : ℕ) → t ≤ g.moment new → g.left_since new t (g.seen new)) → StandAs (g.seen old) (g.seen new)
+stands_same g old new only leaves now = λ relations counters b can.
     let moments = leaves relations counters b can in
-    go relations counters b can (moments.each (seen new) (now (moment old) moments.later))
+    go relations counters b can (moments.each (g.seen new) (now (g.moment old) moments.later))
   where
-    go : (relations counters : ℕ) (b : Base) → CanRestart relations counters (seen old) b → StandsStill may_leave relations counters b old (seen new) → CanRestart relations counters (seen new) b
-    go relations counters b can (inl left) = subst (λ (c : List ℕ). CanRestart relations counters c b) (sym (only (seen new) left)) can
+    go : (relations counters : ℕ) (b : Base) → CanRestart relations counters (g.seen old) b → StandsStill g relations counters b old (g.seen new) → CanRestart relations counters (g.seen new) b
+    go relations counters b can (inl left) = subst (λ (c : List ℕ). CanRestart relations counters c b) (sym (only (g.seen new) left)) can
     go relations counters b can (inr still) = still
 
 -- ---- the file

@@ -25,7 +25,8 @@ figure_line f = number_line f.0.now f.1
 
 -- a line for each figure of a report
 abbrev pub report_text : Report → List ℕ
-report_text r = concat (number_line (codes "epoch ") r.epoch ∷ number_line (codes "area ") r.area ∷ number_line (codes "batches ") r.batches ∷ number_line (codes "records ") r.records
+report_text r = concat (number_line (codes "epoch ") r.epoch ∷ number_line (codes "area ") r.area
+    ∷ number_line (codes "batches ") r.batches ∷ number_line (codes "records ") r.records
     ∷ number_line (codes "commits ") r.commits ∷ [])
 
 -- the last line, if the pages were looked at
@@ -69,5 +70,7 @@ pub record HasChecked (pages : Bool) (bytes was now : Option (List ℕ)) : Type 
 
 -- why a check did not end well: nothing is written if nothing is reported, and else the output failed within the lines
 pub data IsUnchecked (pages : Bool) (bytes was now : Option (List ℕ)) : Fault → Type 0 where
-  unreported : (why : Refusal) → IsUnreported pages bytes why → Keeps was now → IsUnchecked pages bytes was now (Refused why)
-  unheard_check : (report : Report) → ReportsOn pages bytes report → AppendsFront was now (check_text pages report) → IsUnchecked pages bytes was now Output
+  unreported : (why : Refusal) → IsUnreported pages bytes why → Keeps was now
+      → IsUnchecked pages bytes was now (Refused why)
+  unheard_check : (report : Report) → ReportsOn pages bytes report → AppendsFront was now (check_text pages report)
+      → IsUnchecked pages bytes was now Output

@@ -35,16 +35,19 @@ dump_text s = (sizes_text s ++ concat (map row_line (rows_of s.base))) ++ counte
 -- the survey is of pages that break no rule, and that hold this base of so many relations and counters
 abbrev pub TellsOfBase : ℕ → ℕ → Base → Survey → Type 0
 TellsOfBase relations counters b survey =
-    ∥ ((total : ℕ) × (pages : PageBytes) × IsGood relations counters total pages × Holds pages b × IsSurvey relations counters total pages b survey) ∥₁
+    ∥ ((total : ℕ) × (pages : PageBytes) × IsGood relations counters total pages × Holds pages b
+    × IsSurvey relations counters total pages b survey) ∥₁
 
 -- it is of some base, and of the one that the bytes represent, if they represent one
 pub record Dumps (c : List ℕ) (survey : Survey) : Type 0 where
   pub some : (relations : ℕ) × (counters : ℕ) × (b : Base) × TellsOfBase relations counters b survey
-  pub stood_for : (relations counters : ℕ) (b : Base) → CanRestart relations counters c b → TellsOfBase relations counters b survey
+  pub stood_for : (relations counters : ℕ) (b : Base) → CanRestart relations counters c b
+      → TellsOfBase relations counters b survey
 
 -- what these bytes represent, those do
 abbrev pub StandAs : List ℕ → List ℕ → Type 0
-StandAs c d = (relations counters : ℕ) (b : Base) → CanRestart relations counters c b → CanRestart relations counters d b
+StandAs c d =
+    (relations counters : ℕ) (b : Base) → CanRestart relations counters c b → CanRestart relations counters d b
 
 -- why a device of these bytes is not opened, or not surveyed
 abbrev pub IsUnsurveyed : List ℕ → Refusal → Type 0
@@ -86,7 +89,8 @@ pub record HasDumped (bytes was now : Option (List ℕ)) : Type 0 where
 -- why a dump did not end well: nothing is written if nothing is reported, and else the output failed within the lines
 pub data IsUndumped (bytes was now : Option (List ℕ)) : Fault → Type 0 where
   unopened : (why : Refusal) → IsUndumpable bytes why → Keeps was now → IsUndumped bytes was now (Refused why)
-  unheard_dump : (survey : Survey) → DumpsOf bytes survey → AppendsFront was now (dump_text survey) → IsUndumped bytes was now Output
+  unheard_dump : (survey : Survey) → DumpsOf bytes survey → AppendsFront was now (dump_text survey)
+      → IsUndumped bytes was now Output
 
 -- what becomes of the files if it did not
 abbrev pub AreLeftBy : Files → Files → List ℕ → Fault → Type 0

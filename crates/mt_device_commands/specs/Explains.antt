@@ -40,5 +40,7 @@ pub record HasExplained (bytes was now : Option (List ℕ)) : Type 0 where
 
 -- why they were not: nothing is written if nothing is reported, and else the output failed within the lines
 pub data IsUnexplained (bytes was now : Option (List ℕ)) : Fault → Type 0 where
-  unreported_log : (why : Refusal) → IsUnreported false bytes why → Keeps was now → IsUnexplained bytes was now (Refused why)
-  unheard_log : (batches : List Batch) → IsLogIn bytes batches → AppendsFront was now (explained batches) → IsUnexplained bytes was now Output
+  unreported_log : (why : Refusal) → IsUnreported false bytes why → Keeps was now
+      → IsUnexplained bytes was now (Refused why)
+  unheard_log : (batches : List Batch) → IsLogIn bytes batches → AppendsFront was now (explained batches)
+      → IsUnexplained bytes was now Output

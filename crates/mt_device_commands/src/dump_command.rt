@@ -30,8 +30,8 @@ const FRAMES: usize = 32;
 
 /// Surveys a kernel that was just opened, and gives its device back.
 fn survey_opened<D: Device + Drop>(kernel: Kernel<D>) -> (Result<Survey, Refusal>, D)
-    requires opened { (b : Base) × IsOpened D.seen D.may_leave kernel.relations kernel.counters b kernel }
-    ensures outcome { (relations counters : ℕ) (b : Base) → IsOpened D.seen D.may_leave relations counters b kernel
+    requires opened { (b : Base) × IsOpened kernel.relations kernel.counters b kernel }
+    ensures outcome { (relations counters : ℕ) (b : Base) → IsOpened relations counters b kernel
         → IfOk result.0 (TellsOfBase relations counters b) }
     ensures why { IfErr result.0 IsUnmade }
     ensures content { D.seen result.1 ≡ D.seen (kernel_device kernel) }

@@ -1,6 +1,7 @@
 // `explain`: the log of the device in a file as a history, by a copy of it.
 ghost use Rattle.std.specs.Prelude.{◌≡◌, false, IfErr, IfOk, OnOk};
 ghost use Rattle.mt_base.specs.declared.refusal.Refusal.{Refusal};
+ghost use Rattle.mt_disk.specs.Disk.{LeavesTheSame};
 ghost use Rattle.mt_replay.specs.Refused.{BreaksLog, IsCause};
 ghost use Rattle.mt_device_commands.specs.Checks.{IsUnreported};
 ghost use Rattle.mt_device_commands.specs.Explains.{HasExplained, IsLogIn, IsLogOf, IsUnexplained, RecountsLog};
@@ -23,6 +24,7 @@ fn log_of<D: Device>(alloc: Global, device: &mut D) -> Result<Vec<Batch>, Refusa
     ensures log { IfOk result (λ batches. IsLogOf (D.seen device.old) batches.items) }
     ensures cause { IfErr result (IsCause BreaksLog (D.seen device.old) (Unit {0})) }
     ensures seen { D.seen device.new ≡ D.seen device.old }
+    ensures crash { LeavesTheSame (D.may_leave device.old) (D.may_leave device.new) }
 {
     let ruling = ruling_slot(device)?;
     let batches = read_area(alloc, device, &ruling)?;

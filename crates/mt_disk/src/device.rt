@@ -1,6 +1,6 @@
 // What a device is: reads, writes and syncs of bytes, and what a crash may leave of them.
 ghost use Rattle.std.specs.Prelude.{◌≡◌, ◌≤◌, ◌+◌, List, ℕ, length, OnOk};
-ghost use Rattle.mt_disk.specs.Disk.{Has, Only, Follows, Torn, Wrote, Elapses, HasCause};
+ghost use Rattle.mt_disk.specs.Disk.{Has, LeavesTheSame, Only, Follows, Torn, Wrote, Elapses, HasCause};
 
 use mt_base::Refusal;
 use std::io;
@@ -58,12 +58,13 @@ pub trait Device {
         ensures { result ≡ length (seen self.now) };
 
     /// Fills `buf` with the bytes from `at` on. After a fault `buf` may hold anything, and the
-    /// device is as it was but for its count of failures.
+    /// device is as it was but for its count of failures. A read makes nothing last: a crash may
+    /// leave just what it might have left before.
     fn read(&mut self, at: u64, buf: &mut [u8]) -> Result<(), DeviceFault>
         requires { at + length buf.old ≤ length (seen self.old) }
         ensures bytes { OnOk result (Has (seen self.old) at buf.new) }
         ensures seen { seen self.new ≡ seen self.old }
-        ensures crash { (c : List ℕ) → may_leave self.new c → may_leave self.old c }
+        ensures crash { LeavesTheSame (may_leave self.old) (may_leave self.new) }
         ensures time { Elapses (moment self.old) (moment self.new) (left_since self.old) (left_since self.new)
             (may_leave self.new) }
         ensures cause { HasCause (faults self.old) (faults self.new) result };

@@ -1,6 +1,6 @@
 // A device that fails from a call on, over another device. Tests alone use it.
 ghost use Rattle.std.specs.Prelude.{◌≡◌, ℕ, List, ◌+◌, ◌-◌, ◌<◌, ◌≤◌, length, IsTrue, ◌↔◌, OnOk, if◌then◌else◌};
-ghost use Rattle.mt_disk.specs.Disk.{Has, Only, Follows, Torn, Wrote, Elapses, HasCause};
+ghost use Rattle.mt_disk.specs.Disk.{Has, LeavesTheSame, Only, Follows, Torn, Wrote, Elapses, HasCause};
 
 use crate::{Device, DeviceFault};
 use mt_base::History;
@@ -84,7 +84,7 @@ impl<D: Device> Device for FaultDevice<D> {
         requires { at + length buf.old ≤ length (D.seen (below self.old)) }
         ensures bytes { OnOk result (Has (D.seen (below self.old)) at buf.new) }
         ensures seen { D.seen (below self.new) ≡ D.seen (below self.old) }
-        ensures crash { (c : List ℕ) → D.may_leave (below self.new) c → D.may_leave (below self.old) c }
+        ensures crash { LeavesTheSame (D.may_leave (below self.old)) (D.may_leave (below self.new)) }
         ensures time { Elapses (D.moment (below self.old)) (D.moment (below self.new)) (D.left_since (below self.old))
             (D.left_since (below self.new)) (D.may_leave (below self.new)) }
         ensures cause { HasCause (D.faults (below self.old) + own_failures self.old)

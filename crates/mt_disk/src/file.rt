@@ -67,23 +67,6 @@ impl FileDevice<File> {
         })
     }
 
-    /// A device of so many bytes, all of them 0, in a file of this path; what the file held before is gone. Refused
-    /// by `NoMemory` for want of memory, before the file is touched. Refused by `DeviceFailed` if the file is open
-    /// as a device, and is then as it was. Or it cannot be made or written, and may then be there in part.
-    pub fn make<R: Files<File = File> + AllocGlobal>(
-        rt: &R,
-        path: &str,
-        len: u64,
-    ) -> Result<FileDevice<File>, Refusal>
-        ensures content { IfOk result (λ device. content (copy_in device) ≡ replicate len 0) }
-        ensures fresh { IfOk result (λ device. IsFresh device) }
-        ensures refusals { IfErr result (λ refusal. (refusal ≡ Refusal.NoMemory) ⊎ (refusal ≡ Refusal.DeviceFailed)) }
-    {
-        let memory = zeros(rt.alloc(), len)?;
-        let file = created(rt, path)?;
-        FileDevice::filled(memory, file)
-    }
-
     /// A device of so many bytes, all of them 0, in this file, which is open to be read and written; what it held
     /// before is gone. Refused by `NoMemory` for want of memory, before the file is touched. Refused by
     /// `DeviceFailed` if the file is open as a device elsewhere, and is then as it was, or cannot be written.
@@ -187,17 +170,6 @@ fn opened<R: Files>(rt: &R, path: &str) -> Result<R::File, DeviceFault> {
             _ => Err(DeviceFault),
         },
     }
-}
-
-/// The file of this path, made if there is none. It keeps its bytes until its lock is taken.
-fn created<R: Files>(rt: &R, path: &str) -> Result<R::File, DeviceFault> {
-    Ok(
-        OpenOptions::new()
-            .read(true)
-            .write(true)
-            .create(true)
-            .open(rt, path)?,
-    )
 }
 
 /// Takes the file's lock, which the system gives back with the last handle of this opening.

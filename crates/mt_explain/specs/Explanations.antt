@@ -72,10 +72,12 @@ image_end None = 10 ∷ []
 image_end (Some image) = codes " with image\n"
 
 abbrev pub change_line : ℕ → ℕ → ℕ → Option (List ℕ) → List ℕ
-change_line page start many image = codes "page " ++ (decimal page ++ (codes " from " ++ (decimal start ++ (codes " length " ++ (decimal many ++ image_end image)))))
+change_line page start many image = codes "page " ++ (decimal page
+    ++ (codes " from " ++ (decimal start ++ (codes " length " ++ (decimal many ++ image_end image)))))
 
 abbrev pub entry_line : Record → List ℕ
-entry_line (Page txn op page image start old new) = if txn == 0 then image_line page else op_start txn op ++ change_line page start (length new) image
+entry_line (Page txn op page image start old new) =
+    if txn == 0 then image_line page else op_start txn op ++ change_line page start (length new) image
 entry_line (OpEnd txn op undoes done) = (op_start txn op ++ undoes_text undoes) ++ done_line done
 entry_line (OpDropped txn op) = op_start txn op ++ codes "dropped\n"
 entry_line (Commit txn) = txn_line txn (codes "commit")
@@ -114,7 +116,8 @@ leave_out txn op us = filter (λ (u : Unfinished). not (u.txn == txn) || not (u.
 
 -- with the next record
 abbrev pub noted : List Unfinished → Record → List Unfinished
-noted us (Page txn op page image start old new) = if (txn == 0) || list_any (is_one txn op) us then us else us ++ record { txn = txn; op = op } ∷ []
+noted us (Page txn op page image start old new) =
+    if (txn == 0) || list_any (is_one txn op) us then us else us ++ record { txn = txn; op = op } ∷ []
 noted us (OpEnd txn op undoes done) = leave_out txn op us
 noted us (OpDropped txn op) = leave_out txn op us
 noted us (Commit txn) = us
@@ -134,4 +137,5 @@ batch_lines number batch = concat (map (record_line number batch.place) batch.re
 
 -- the records of these batches, the operations that are put back, and those that are undone
 abbrev pub explained : List Batch → List ℕ
-explained batches = (numbered batch_lines 1 batches ++ concat (map put_back_line (unfinished (joined (records_of batches))))) ++ undo_lines (losers (joined (records_of batches)))
+explained batches = (numbered batch_lines 1 batches ++ concat
+    (map put_back_line (unfinished (joined (records_of batches))))) ++ undo_lines (losers (joined (records_of batches)))

@@ -19,4 +19,5 @@ pub record Recounts (batches : List Batch) (h : History) : Type 0 where
   pub operations : AllByRecursion (λ l. IsOperation l.done) h.losers.items
 
 abbrev pub history_text : History → List ℕ
-history_text h = (numbered batch_lines 1 h.batches.items ++ concat (map put_back_line h.unfinished.items)) ++ undo_lines (all_finished h.losers.items)
+history_text h = (numbered batch_lines 1 h.batches.items ++ concat (map put_back_line h.unfinished.items))
+    ++ undo_lines (all_finished h.losers.items)

@@ -4,18 +4,20 @@ ghost use Rattle.std.specs.Fmt.{decimal, signed_decimal};
 ghost use Rattle.std.specs.List.{AllByRecursion, concat, list_all};
 ghost use Rattle.std.specs.Io.KnownBytes.{Appends};
 ghost use Rattle.mt_frame.specs.Grammar.{IsOperation};
+ghost use Rattle.mt_inverse.specs.Effects.{op_with};
 ghost use Rattle.mt_replay.specs.Losers.{all_finished, finished_of};
 ghost use Rattle.mt_script.specs.Answers.{AppendsFront};
 ghost use Rattle.mt_explain.specs.Listings.{numbered};
-ghost use Rattle.mt_explain.specs.Explanations.{added_line, batch_lines, batch_start, change_line, done_line, entry_line, image_end, image_line, inverse_line, is_plain, key_text, keyed_line, keyed_start, length_end, op_start, put_back_line, record_line, restart_start, txn_line, undo_line, undo_lines, undoes_text, valued_line};
+ghost use Rattle.mt_explain.specs.Explanations.{added_line, batch_lines, batch_start, change_line, done_line, entry_line, image_end, image_line, inverse_line, is_plain, key_text, keyed_line, keyed_start, length_end, op_line, op_start, put_back_line, record_line, restart_start, txn_line, undo_line, undo_lines, undoes_text, valued_line};
 
 use crate::base_lines::write_hex;
 use crate::unfinished::Unfinished;
 use itoa::Buffer;
 use mt_base::{Bytes, CtrNo, OpNo, PageNo, RelNo, TxnNo};
 use mt_frame::{LoggedOp, Record};
+use mt_inverse::Effect;
 use mt_log::Batch;
-use mt_replay::Loser;
+use mt_replay::{Loser, effect_of};
 use mt_script::{Unheard, put, put_all};
 use std::io::Write;
 
@@ -117,26 +119,35 @@ fn write_added<W: Write>(writer: &mut W, counter: CtrNo, step: i64) -> Result<()
     )
 }
 
+/// Writes an operation that has this effect, and ends the line.
+fn write_effect<W: Write>(writer: &mut W, effect: &Effect<'_>) -> Result<(), Unheard>
+    ensures all { OnOk result (Appends (W.contents writer.old) (W.contents writer.new) (op_line (op_with effect.now))) }
+    ensures front { OnErr result (AppendsFront (W.contents writer.old) (W.contents writer.new)
+        (op_line (op_with effect.now))) }
+{
+    match *effect {
+        Effect::Inserted {
+            relation,
+            key,
+            value,
+        } => write_valued(writer, "insert ", relation, key, value),
+        Effect::Updated {
+            relation,
+            key,
+            value,
+            ..
+        } => write_valued(writer, "update ", relation, key, value),
+        Effect::Deleted { relation, key, .. } => write_keyed(writer, "delete ", relation, key),
+        Effect::Added { counter, step } => write_added(writer, counter, step),
+    }
+}
+
 /// Writes an operation as its record has it, and ends the line.
 fn write_done<W: Write>(writer: &mut W, done: &LoggedOp) -> Result<(), Unheard>
     ensures all { OnOk result (Appends (W.contents writer.old) (W.contents writer.new) (done_line done.now)) }
     ensures front { OnErr result (AppendsFront (W.contents writer.old) (W.contents writer.new) (done_line done.now)) }
 {
-    match done {
-        LoggedOp::Insert {
-            relation,
-            key,
-            value,
-        } => write_valued(writer, "insert ", *relation, key, value),
-        LoggedOp::Update {
-            relation,
-            key,
-            value,
-            ..
-        } => write_valued(writer, "update ", *relation, key, value),
-        LoggedOp::Delete { relation, key, .. } => write_keyed(writer, "delete ", *relation, key),
-        LoggedOp::Add { counter, step } => write_added(writer, *counter, *step),
-    }
+    write_effect(writer, &effect_of(done))
 }
 
 /// Writes the inverse of an operation, and ends the line.
@@ -146,19 +157,7 @@ fn write_inverse<W: Write>(writer: &mut W, done: &LoggedOp) -> Result<(), Unhear
     ensures front { OnErr result (AppendsFront (W.contents writer.old) (W.contents writer.new)
         (inverse_line done.now)) }
 {
-    match done {
-        LoggedOp::Insert { relation, key, .. } => write_keyed(writer, "delete ", *relation, key),
-        LoggedOp::Update {
-            relation,
-            key,
-            old,
-            ..
-        } => write_valued(writer, "update ", *relation, key, old),
-        LoggedOp::Delete { relation, key, old } => write_valued(
-            writer, "insert ", *relation, key, old,
-        ),
-        LoggedOp::Add { counter, step } => write_added(writer, *counter, -*step),
-    }
+    write_effect(writer, &effect_of(done).reversed())
 }
 
 /// Writes which batch a record stands in, and where that stands on the device.

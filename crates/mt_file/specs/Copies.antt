@@ -16,7 +16,8 @@ AreWhole pages = (p : ℕ) → p < length pages → length (copied pages p) ≡ 
 pub copied_at : (pages : List (List ℕ)) → Agrees (λ p. slice_get pages p) (copied pages)
 copied_at pages p bytes there = get_or_from_slice_get pages p bytes [] there
 
-pub copied_whole : (pages : List (List ℕ)) (p : ℕ) (bytes : List ℕ) → AreWhole pages → slice_get pages p ≡ Some bytes → length bytes ≡ PAGE_BYTES
+pub copied_whole : (pages : List (List ℕ)) (p : ℕ) (bytes : List ℕ) → AreWhole pages → slice_get pages p ≡ Some bytes
+    → length bytes ≡ PAGE_BYTES
 copied_whole pages p bytes whole there = ⊎_elim
     (λ (lt : p < length pages). sym (ap length (copied_at pages p bytes there)) ∙ whole p lt)
     (λ (le : length pages ≤ p). let none : None ≡ Some bytes = sym (slice_get_past pages p le) ∙ there in cc)

@@ -34,7 +34,8 @@ pub record Adds (old new : PageBytes) (p s : ℕ) (row : Row) : Type 0 where
   pub free : record_in old p s ≡ None
   pub puts : Puts old new p s (Some row)
   pub file : IsFile new
-  pub within : (relations longest : ℕ) → AreWithin relations longest old → Fits relations longest row → AreWithin relations longest new
+  pub within : (relations longest : ℕ) → AreWithin relations longest old → Fits relations longest row
+      → AreWithin relations longest new
   pub own : kind new p ≡ 3
   pub touches : Touches old new p
 
@@ -51,7 +52,8 @@ pub record Drops (old new : PageBytes) (p s : ℕ) : Type 0 where
 pub record Stays (old new : PageBytes) (p s : ℕ) (row : Row) : Type 0 where
   pub puts : Puts old new p s (Some row)
   pub file : IsFile new
-  pub within : (relations longest : ℕ) → AreWithin relations longest old → Fits relations longest row → AreWithin relations longest new
+  pub within : (relations longest : ℕ) → AreWithin relations longest old → Fits relations longest row
+      → AreWithin relations longest new
   pub kinds : (q : ℕ) → kind new q ≡ kind old q
   pub others : (q : ℕ) → q ≢ p → new q ≡ old q
 

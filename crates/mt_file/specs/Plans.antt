@@ -57,7 +57,8 @@ pub record IsApart (room : Option ℕ) (before : List PageChange) (pages : PageB
 
 -- the answer of a put after these changes
 abbrev pub IsPut : (ℕ → Option (List ℕ)) → Option ℕ → ℕ → List PageChange → PageBytes → Row → Step → Type 0
-IsPut at_hand room total before pages row (Need p mode) = (at_hand p ≡ None) × (mode ≡ Write) × IsLooked room total (after before pages) p
+IsPut at_hand room total before pages row (Need p mode) =
+    (at_hand p ≡ None) × (mode ≡ Write) × IsLooked room total (after before pages) p
 IsPut at_hand room total before pages row (Done plan) =
     Adds (after before pages) (after plan.changes.list.items pages) plan.name.page plan.name.slot row
     × IsChosen room total (after before pages) plan.name.page
@@ -81,7 +82,8 @@ IsFew n step = IfDone step (λ plan. length plan.changes.list.items ≤ n)
 
 -- its changes are of pages at hand, and of those that were to change before
 abbrev pub IsSeen : (ℕ → Option (List ℕ)) → List PageChange → Step → Type 0
-IsSeen at_hand before step = IfDone step (λ plan. (p : ℕ) → at_hand p ≡ None → IsUntouched before p → IsUntouched plan.changes.list.items p)
+IsSeen at_hand before step =
+    IfDone step (λ plan. (p : ℕ) → at_hand p ≡ None → IsUntouched before p → IsUntouched plan.changes.list.items p)
 
 -- ---- a removal
 
@@ -89,7 +91,8 @@ IsSeen at_hand before step = IfDone step (λ plan. (p : ℕ) → at_hand p ≡ N
 abbrev pub IsRemoval : (ℕ → Option (List ℕ)) → PageBytes → ℕ → ℕ → Step → Type 0
 IsRemoval at_hand pages p s (Need q mode) =
     (at_hand q ≡ None) × (mode ≡ Write) × ((q ≡ p) ⊎ ((q ≡ 0) × ((t : ℕ) → t ≢ s → record_in pages p t ≡ None)))
-IsRemoval at_hand pages p s (Done plan) = Drops pages (after plan.changes.list.items pages) p s × (plan.name.page ≡ p) × (plan.name.slot ≡ s)
+IsRemoval at_hand pages p s (Done plan) =
+    Drops pages (after plan.changes.list.items pages) p s × (plan.name.page ≡ p) × (plan.name.slot ≡ s)
 IsRemoval at_hand pages p s Full = ⊥
 
 -- ---- a replacement
@@ -102,7 +105,8 @@ IsOutgrown pages p r row = room_of (pages p) + row_length r < row_length row
 abbrev pub IsReplaced : Option ℕ → ℕ → PageBytes → PageBytes → ℕ → ℕ → Row → Row → ℕ → ℕ → Type 0
 IsReplaced room total pages next p s r row q t =
     ((q ≡ p) × (t ≡ s) × Stays pages next p s row)
-    ⊎ (IsOutgrown pages p r row × ((q ≡ p) ⊎ (IsChosen room total pages q × IsRoomy room pages (row_length row))) × Moves pages next p s q t row)
+    ⊎ (IsOutgrown pages p r row × ((q ≡ p) ⊎ (IsChosen room total pages q × IsRoomy room pages (row_length row)))
+    × Moves pages next p s q t row)
 
 -- the answer of a replacement of r
 abbrev pub IsReplacement : (ℕ → Option (List ℕ)) → Option ℕ → ℕ → PageBytes → ℕ → ℕ → Row → Row → Step → Type 0
@@ -111,7 +115,8 @@ IsReplacement at_hand room total pages p s r row (Need q mode) =
 IsReplacement at_hand room total pages p s r row (Done plan) =
     IsReplaced room total pages (after plan.changes.list.items pages) p s r row plan.name.page plan.name.slot
     × (r ≡ row → plan.changes.list.items ≡ [])
-IsReplacement at_hand room total pages p s r row Full = IsOutgrown pages p r row × IsTooFull room total pages (row_length row)
+IsReplacement at_hand room total pages p s r row Full =
+    IsOutgrown pages p r row × IsTooFull room total pages (row_length row)
 
 -- page p holds this record alone, and all else stays
 pub record IsWhole (old new : PageBytes) (p s : ℕ) (row : Row) : Type 0 where
@@ -124,5 +129,6 @@ pub record IsWhole (old new : PageBytes) (p s : ℕ) (row : Row) : Type 0 where
 
 abbrev pub IsFound : (ℕ → Option (List ℕ)) → PageBytes → ℕ → ℕ → Lookup → Type 0
 IsFound at_hand pages p s (found.Need q mode) = (at_hand q ≡ None) × (mode ≡ Read) × (q ≡ p)
-IsFound at_hand pages p s (found.Record view) = record_in pages p s ≡ Some (record { relation = view.relation; key = view.key.now; value = view.value.now })
+IsFound at_hand pages p s (found.Record view) =
+    record_in pages p s ≡ Some (record { relation = view.relation; key = view.key.now; value = view.value.now })
 IsFound at_hand pages p s found.Nothing = record_in pages p s ≡ None

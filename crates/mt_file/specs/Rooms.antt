@@ -46,7 +46,8 @@ above (suc height) leaf = above height leaf / 2
 
 -- each leaf, from this one on, that stands before a node of this height has less
 abbrev pub IsPassed : List ℕ → ℕ → ℕ → ℕ → ℕ → Type 0
-IsPassed tree from least height node = (i : ℕ) → from ≤ i → i < 2 * LEAVES → above height i < node → get_or tree i 0 < least
+IsPassed tree from least height node =
+    (i : ℕ) → from ≤ i → i < 2 * LEAVES → above height i < node → get_or tree i 0 < least
 
 -- So it is for a node of some height, which stands after what is above the leaf before this one, and no further than
 -- what is above the last leaf.

@@ -1,5 +1,6 @@
 -- What a kernel is assembled of, over a device that was formatted.
 use Rattle.std.proofs.Common.{◌≡◌, ℕ, List, [], length, refl, ap, arith}
+use Rattle.mt_disk.specs.declared.device.Device.{Ghosts}
 use Rattle.mt_escrow.specs.Seen.{Escrowed}
 use Rattle.mt_core.specs.Consistent.{IsFresh}
 use Rattle.mt_log.specs.Words.{appended}
@@ -13,7 +14,7 @@ use Rattle.mt_format.specs.Firsts.{AreFresh}
 use Rattle.mt_format.specs.Schemas.{relations_in, counters_in, schema_base}
 use Rattle.mt_format.specs.declared.schema.Schema.{Schema}
 
-module _ {D : Type 0} (seen : D → List ℕ) (may_leave : D → List ℕ → Type 0) (s : Schema) (o : Operations D) (e : Escrowed) (fresh : AreFresh seen may_leave s o e) where
+module _ {D : Type 0} (g : Ghosts D) (s : Schema) (o : Operations D) (e : Escrowed) (fresh : AreFresh g s o e) where
   pub fresh_of : IsFresh o e
   fresh_of = record {
     locks = fresh.operations.locks;
@@ -23,10 +24,10 @@ module _ {D : Type 0} (seen : D → List ℕ) (may_leave : D → List ℕ → Ty
     pending = fresh.escrow.pending;
   }
 
-  pub opens_of : (relations counters : ℕ) → relations_in s ≡ relations → length (counters_in s) ≡ counters → Opens seen may_leave o e relations counters (schema_base s)
+  pub opens_of : (relations counters : ℕ) → relations_in s ≡ relations → length (counters_in s) ≡ counters → Opens g o e relations counters (schema_base s)
   opens_of relations counters same_relations same_counters =
       ∣ (
-        record { first = schema_base s; earlier = []; begun = schema_base s; pages = slot 8192 (seen fresh.device); relations = relations_in s; counters = length (counters_in s) },
+        record { first = schema_base s; earlier = []; begun = schema_base s; pages = slot 8192 (g.seen fresh.device); relations = relations_in s; counters = length (counters_in s) },
         record { relations_are = same_relations; counters_are = same_counters; first_is = refl },
         record {
           schema = record { few_relations = s.relation_count.1; few_counters = s.counter_count };

@@ -1,5 +1,6 @@
 -- A store over a device as it is formatted.
 use Rattle.std.proofs.Common.{◌≡◌, ◌+◌, ◌++◌, ◌∙◌, ◌*◌, inl, ℕ, false, List, [], ◌∷◌, get_or, sym, ap, subst, arith}
+use Rattle.mt_disk.specs.declared.device.Device.{Ghosts}
 use Rattle.mt_disk.specs.Disk.{Only}
 use Rattle.mt_frame.specs.declared.records.Record.{Record}
 use Rattle.mt_frame.specs.declared.slots.MasterSlot.{MasterSlot}
@@ -23,9 +24,9 @@ use Rattle.mt_format.specs.Schemas.{pages_in, mib_in, pages_end, area_end}
 use Rattle.mt_format.specs.declared.schema.Schema.{Schema}
 
 -- a store over a device, with a log and a pool as it is formatted
-pub record IsFirstStore {D : Type 0} (seen : D → List ℕ) (may_leave : D → List ℕ → Type 0) (s : Schema) (store : Store D) : Type 0 where
-  pub kept : IsKept seen may_leave (slot 8192 (seen store.device)) store
-  pub shows : ShowsOpening seen (slot 8192 (seen store.device)) store
+pub record IsFirstStore {D : Type 0} (g : Ghosts D) (s : Schema) (store : Store D) : Type 0 where
+  pub kept : IsKept g (slot 8192 (g.seen store.device)) store
+  pub shows : ShowsOpening g (slot 8192 (g.seen store.device)) store
   pub empty : appended store.log ≡ []
   pub head : used store.log ≡ 5
   pub well : has_failed store.log ≡ false
@@ -49,12 +50,12 @@ first_area s seen may f only =
       present = tt;
     }
 
-first_on : {D : Type 0} (seen : D → List ℕ) (may : D → List ℕ → Type 0) (s : Schema) (log : Log) (d : D) → IsFirstLog s log → IsFormattedAs s (seen d) → Only (seen d) (may d) → IsOn seen may log d
+first_on : {D : Type 0} (g : Ghosts D) (s : Schema) (log : Log) (d : D) → IsFirstLog s log → IsFormattedAs s (g.seen d) → Only (g.seen d) (g.may_leave d) → IsOn g log d
 unfolding IsOn seen_of
-first_on seen may s log d l f only =
-    same_area (seen d) (may d) (pages_end s) log.place.start (area_end s) log.place.end (pages_end s + 5) log.next ([] ∷ []) (batches_in log) [] log.in_flight.items Idle log.stage
+first_on g s log d l f only =
+    same_area (g.seen d) (g.may_leave d) (pages_end s) log.place.start (area_end s) log.place.end (pages_end s + 5) log.next ([] ∷ []) (batches_in log) [] log.in_flight.items Idle log.stage
     (ap (λ x. x.0) l.stands) (ap (λ x. x.1) l.stands) (ap (λ x. x.2) l.stands) (ap (λ x. x.3) l.stands) (ap (λ x. x.4) l.stands) (ap (λ x. x.5) l.stands)
-    (first_area s (seen d) (may d) f only)
+    (first_area s (g.seen d) (g.may_leave d) f only)
 
 -- ---- the first slot rules, and names the pages and that area
 
@@ -70,26 +71,26 @@ first_rules s c f = inl (record {
   beside = inl f.other;
 })
 
-pub begun : {D : Type 0} (seen : D → List ℕ) (may : D → List ℕ → Type 0) (s : Schema) (frames : ℕ) (store : Store D) → IsFirstLog s store.log → IsFirstPool s frames store.pool → store.settled ≡ 0 → store.ruling ≡ first_slot s
-    → IsFormattedAs s (seen store.device) → Only (seen store.device) (may store.device) → IsFirstStore seen may s store
-begun seen may s frames store l p settled ruling f only =
+pub begun : {D : Type 0} (g : Ghosts D) (s : Schema) (frames : ℕ) (store : Store D) → IsFirstLog s store.log → IsFirstPool s frames store.pool → store.settled ≡ 0 → store.ruling ≡ first_slot s
+    → IsFormattedAs s (g.seen store.device) → Only (g.seen store.device) (g.may_leave store.device) → IsFirstStore g s store
+begun g s frames store l p settled ruling f only =
     let d = store.device in
-    let opening = slot 8192 (seen d) in
+    let opening = slot 8192 (g.seen d) in
     let few = s.page_count.1 in
     let long = f.long in
     let n = p.page_count in
     record {
-      kept = kept_begin seen may opening store (first_on seen may s store.log d l f only) (subst (λ (k : ℕ). IsSound k store.log) (sym n) l.sound)
-          (omega (arith, p.place, n, l.start)) (omega (arith, few, n)) p.sound (p.shows (seen d) (omega arith)) settled l.none l.flying l.waits p.waits
-          (λ q lt. p.views (seen d) q) (λ q lt c left. ap (λ (k : ℕ). slot k c q) p.place ∙ ap (λ (k : List ℕ). slot 8192 k q) (only c left))
+      kept = kept_begin g opening store (first_on g s store.log d l f only) (subst (λ (k : ℕ). IsSound k store.log) (sym n) l.sound)
+          (omega (arith, p.place, n, l.start)) (omega (arith, few, n)) p.sound (p.shows (g.seen d) (omega arith)) settled l.none l.flying l.waits p.waits
+          (λ q lt. p.views (g.seen d) q) (λ q lt c left. ap (λ (k : ℕ). slot k c q) p.place ∙ ap (λ (k : List ℕ). slot 8192 k q) (only c left))
           (record {
             count = ap (λ (m : MasterSlot). m.pages) ruling ∙ sym n;
             place = p.place;
             start = ap start_of ruling ∙ first_start s ∙ sym l.start;
             end = ap end_of ruling ∙ first_end s ∙ sym l.end;
           })
-          (λ c left. subst (λ (X : Type 0). X) (λ i. IsRuling (sym (only c left) i) (sym ruling i)) (first_rules s (seen d) f));
-      shows = λ q lt. p.views (seen d) q;
+          (λ c left. subst (λ (X : Type 0). X) (λ i. IsRuling (sym (only c left) i) (sym ruling i)) (first_rules s (g.seen d) f));
+      shows = λ q lt. p.views (g.seen d) q;
       empty = ap (λ (rs : List Record). rs ++ (in_flight store.log ++ waiting store.log)) l.none ∙ ap (λ (rs : List Record). rs ++ waiting store.log) l.flying ∙ l.waits;
       head = l.head;
       well = l.well;

@@ -1,9 +1,9 @@
 -- A counter of a page stays where another one is put.
 use Rattle.std.proofs.Common.{◌≡◌, ◌≢◌, ◌<◌, ◌≤◌, ◌+◌, ◌⊎◌, inl, inr, ⊎_elim, ℕ, List, sym, arith}
 use Rattle.std.proofs.lemmas.Bool.{cases_lt}
-use Rattle.mt_base.specs.Ranges.{Torn}
-use Rattle.mt_steps.specs.Counters.{i64_at, place_of, count_in}
-use Rattle.mt_steps.proofs.Numbers.{number_stays}
+use Rattle.mt_base.specs.Ranges.{Torn, i64_at}
+use Rattle.mt_steps.specs.Counters.{place_of, count_in}
+use Rattle.mt_base.proofs.EightBytes.{number_stays}
 
 pub counter_stays : (old new : List ℕ) (n c : ℕ) → Torn (place_of n) 24 old new → c ≢ n → count_in new c ≡ count_in old c
 counter_stays old new n c torn other = λ i. record {

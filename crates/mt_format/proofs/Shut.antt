@@ -1,6 +1,7 @@
 -- A device whose master slots are shut, or only their gates torn.
 use Rattle.std.proofs.Common.{◌≡◌, ◌+◌, ◌≤◌, ◌⊎◌, inl, inr, ⊎_elim, ℕ, List, [], ◌∷◌, drop, get_or, refl, sym, ◌∙◌, subst, arith}
 use Rattle.std.proofs.lemmas.Bool.{cases_lt, cases_eq}
+use Rattle.mt_disk.specs.declared.device.Device.{Ghosts}
 use Rattle.mt_disk.specs.Disk.{Has, Torn, Follows, Only, Elapses, LeavesOnly}
 use Rattle.mt_disk.proofs.Frame.{get_torn, has_torn, has_append, has_one, started, goes_on}
 use Rattle.mt_frame.specs.SlotText.{slot_text}
@@ -67,21 +68,21 @@ opens_follow s seen may may2 ready only follows c left = let from = follows c le
 
 -- ---- within a run of calls
 
-module _ {D : Type 0} (moment : D → ℕ) (left_since : D → ℕ → List ℕ → Type 0) (may : D → List ℕ → Type 0) (only_now : (d : D) (c : List ℕ) → left_since d (moment d) c → may d c) where
+module _ {D : Type 0} (g : Ghosts D) (only_now : (d : D) (c : List ℕ) → g.left_since d (g.moment d) c → g.may_leave d c) where
   -- both gates are closed, one call behind the other
-  pub closes_one : (old new : D) → Elapses (moment old) (moment new) (left_since old) (left_since new) (may new) → Follows (Torn 0 1) (may old) (may new) → LeavesOnly moment left_since old new (ButForGates (may old))
+  pub closes_one : (old new : D) → Elapses (g.moment old) (g.moment new) (g.left_since old) (g.left_since new) (g.may_leave new) → Follows (Torn 0 1) (g.may_leave old) (g.may_leave new) → LeavesOnly g.moment g.left_since old new (ButForGates (g.may_leave old))
   closes_one old new time follows =
-      goes_on moment left_since old old new (ButForGates (may old)) (may new) (started moment left_since old (ButForGates (may old)) (λ c left. (c, only_now old c left, gates_same c))) time (gates_first (may old) (may new) follows)
+      goes_on g.moment g.left_since old old new (ButForGates (g.may_leave old)) (g.may_leave new) (started g.moment g.left_since old (ButForGates (g.may_leave old)) (λ c left. (c, only_now old c left, gates_same c))) time (gates_first (g.may_leave old) (g.may_leave new) follows)
 
-  pub closes_two : (old mid new : D) → Elapses (moment old) (moment mid) (left_since old) (left_since mid) (may mid) → Follows (Torn 0 1) (may old) (may mid) → Elapses (moment mid) (moment new) (left_since mid) (left_since new) (may new) → Follows (Torn 4096 1) (may mid) (may new)
-      → LeavesOnly moment left_since old new (ButForGates (may old))
+  pub closes_two : (old mid new : D) → Elapses (g.moment old) (g.moment mid) (g.left_since old) (g.left_since mid) (g.may_leave mid) → Follows (Torn 0 1) (g.may_leave old) (g.may_leave mid) → Elapses (g.moment mid) (g.moment new) (g.left_since mid) (g.left_since new) (g.may_leave new) → Follows (Torn 4096 1) (g.may_leave mid) (g.may_leave new)
+      → LeavesOnly g.moment g.left_since old new (ButForGates (g.may_leave old))
   closes_two old mid new time follows time2 follows2 =
-      goes_on moment left_since old mid new (ButForGates (may old)) (may new) (closes_one old mid time follows) time2 (gates_second (may old) (may mid) (may new) (gates_first (may old) (may mid) follows) follows2)
+      goes_on g.moment g.left_since old mid new (ButForGates (g.may_leave old)) (g.may_leave new) (closes_one old mid time follows) time2 (gates_second (g.may_leave old) (g.may_leave mid) (g.may_leave new) (gates_first (g.may_leave old) (g.may_leave mid) follows) follows2)
 
   -- no slot is open, and a write goes elsewhere
-  pub shut_starts : (d : D) → ((c : List ℕ) → may d c → IsShut c) → LeavesOnly moment left_since d d IsShut
-  shut_starts d shut = started moment left_since d IsShut (λ c left. shut c (only_now d c left))
+  pub shut_starts : (d : D) → ((c : List ℕ) → g.may_leave d c → IsShut c) → LeavesOnly g.moment g.left_since d d IsShut
+  shut_starts d shut = started g.moment g.left_since d IsShut (λ c left. shut c (only_now d c left))
 
-  pub shut_on : (at n : ℕ) (old mid new : D) → LeavesOnly moment left_since old mid IsShut → ((c : List ℕ) → may mid c → IsShut c) → Elapses (moment mid) (moment new) (left_since mid) (left_since new) (may new) → 1 ≤ at → (at + n ≤ 4096) ⊎ (4097 ≤ at) → Follows (Torn at n) (may mid) (may new)
-      → LeavesOnly moment left_since old new IsShut
-  shut_on at n old mid new run shut time some apart follows = goes_on moment left_since old mid new IsShut (may new) run time (shut_follows at n (may mid) (may new) some apart follows shut)
+  pub shut_on : (at n : ℕ) (old mid new : D) → LeavesOnly g.moment g.left_since old mid IsShut → ((c : List ℕ) → g.may_leave mid c → IsShut c) → Elapses (g.moment mid) (g.moment new) (g.left_since mid) (g.left_since new) (g.may_leave new) → 1 ≤ at → (at + n ≤ 4096) ⊎ (4097 ≤ at) → Follows (Torn at n) (g.may_leave mid) (g.may_leave new)
+      → LeavesOnly g.moment g.left_since old new IsShut
+  shut_on at n old mid new run shut time some apart follows = goes_on g.moment g.left_since old mid new IsShut (g.may_leave new) run time (shut_follows at n (g.may_leave mid) (g.may_leave new) some apart follows shut)

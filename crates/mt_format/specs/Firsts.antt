@@ -1,5 +1,6 @@
 -- What is begun over a device that is formatted.
 use Rattle.std.specs.Prelude.{◌≡◌, ◌≤◌, ◌+◌, ◌*◌, ℕ, false, List, [], ◌∷◌, length}
+use Rattle.mt_disk.specs.declared.device.Device.{Ghosts}
 use Rattle.mt_base.specs.declared.limits.TheConstants.{MASTER_BYTES, MIB_BYTES}
 use Rattle.mt_escrow.specs.Seen.{Escrowed}
 use Rattle.mt_log.specs.Sound.{IsSound}
@@ -8,7 +9,7 @@ use Rattle.mt_log.specs.declared.log.Log.{Log}
 use Rattle.mt_log.specs.declared.stage.Stage.TheVariants.{Idle as idle_stage}
 use Rattle.mt_model.specs.Model.{IsBase}
 use Rattle.mt_op.specs.Begun.{FitsPages, idle_claims}
-use Rattle.mt_op.specs.Operations.{IsRight, claimed}
+use Rattle.mt_op.specs.Operations.{IsRight, claimed, operation_log}
 use Rattle.mt_op.specs.declared.next_area.Idle.{Idle}
 use Rattle.mt_op.specs.declared.operations.Operations.{Operations}
 use Rattle.mt_pool.specs.Images.{slot}
@@ -46,7 +47,8 @@ pub record IsFirstPool (s : Schema) (frame_count : ℕ) (pool : Pool) : Type 0 w
 
 -- what operations keep beside a store over pages as they are formatted, none of which is claimed
 pub record IsFirstIdle (s : Schema) (idle : Idle) : Type 0 where
-  pub fits : (pages : PageBytes) → IsFormatted (relations_in s) (length (counters_in s)) (pages_in s) pages → FitsPages (pages_in s) pages idle
+  pub fits : (pages : PageBytes) → IsFormatted (relations_in s) (length (counters_in s)) (pages_in s) pages
+      → FitsPages (pages_in s) pages idle
   pub unclaimed : idle_claims idle ≡ 0
 
 -- each counter of the schema at its start, and no add pending
@@ -63,20 +65,20 @@ pub record AreFirstLayers (s : Schema) (frame_count : ℕ) (layers : FirstLayers
   pub bounds : IsBase (schema_base s)
 
 -- operations over it, of which none is under way
-pub record AreFirst {D : Type 0} (seen : D → List ℕ) (may_leave : D → List ℕ → Type 0) (s : Schema) (device : D) (o : Operations D) : Type 0 where
-  pub right : IsRight seen may_leave (slot MASTER_BYTES (seen device)) (relations_in s) (length (counters_in s)) o
+pub record AreFirst {D : Type 0} (g : Ghosts D) (s : Schema) (device : D) (o : Operations D) : Type 0 where
+  pub right : IsRight g (slot MASTER_BYTES (g.seen device)) (relations_in s) (length (counters_in s)) o
   pub locks : o.locks ≡ []
   pub unclaimed : claimed o ≡ 0
-  pub empty : appended o.store.log ≡ []
-  pub head : used o.store.log ≡ 5
-  pub well : has_failed o.store.log ≡ false
-  pub size : area_size o.store.log ≡ mib_in s * MIB_BYTES
+  pub empty : appended (operation_log o) ≡ []
+  pub head : used (operation_log o) ≡ 5
+  pub well : has_failed (operation_log o) ≡ false
+  pub size : area_size (operation_log o) ≡ mib_in s * MIB_BYTES
 
 -- Operations over a device that was formatted, and an escrow of the schema's counters: they begin on pages that hold
 -- its first base.
-pub record AreFresh {D : Type 0} (seen : D → List ℕ) (may_leave : D → List ℕ → Type 0) (s : Schema) (o : Operations D) (e : Escrowed) : Type 0 where
+pub record AreFresh {D : Type 0} (g : Ghosts D) (s : Schema) (o : Operations D) (e : Escrowed) : Type 0 where
   pub device : D
-  pub formatted : IsFormattedAs s (seen device)
-  pub operations : AreFirst seen may_leave s device o
+  pub formatted : IsFormattedAs s (g.seen device)
+  pub operations : AreFirst g s device o
   pub bounds : IsBase (schema_base s)
   pub escrow : IsFirstEscrow s e

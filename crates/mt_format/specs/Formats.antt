@@ -1,6 +1,7 @@
 -- A device as it is formatted.
 use Rattle.std.specs.Prelude.{◌≡◌, ◌≢◌, ◌⊎◌, ◌+◌, ◌*◌, ◌<◌, ◌≤◌, ℕ, List, [], ◌∷◌, Result, OnOk, length, drop}
 use Rattle.std.proofs.Math.ListN.{get_or}
+use Rattle.mt_disk.specs.declared.device.Device.{Ghosts}
 use Rattle.mt_frame.specs.declared.TheConstants.{OPEN_GATE}
 use Rattle.mt_base.specs.declared.limits.TheConstants.{MASTER_BYTES, PAGE_BYTES}
 use Rattle.mt_bucket.specs.Page.{depth_of, next_of, entries, IsBucket}
@@ -88,9 +89,9 @@ pub record IsFormattedAs (s : Schema) (c : List ℕ) : Type 0 where
 -- ---- how it comes to be
 
 -- the n bytes from `at` on may have become any bytes, and so in whatever a crash leaves
-pub record Tears {D : Type 0} (seen : D → List ℕ) (may_leave : D → List ℕ → Type 0) (at n : ℕ) (old new : D) : Type 0 where
-  pub now : Torn at n (seen old) (seen new)
-  pub later : Follows (Torn at n) (may_leave old) (may_leave new)
+pub record Tears {D : Type 0} (g : Ghosts D) (at n : ℕ) (old new : D) : Type 0 where
+  pub now : Torn at n (g.seen old) (g.seen new)
+  pub later : Follows (Torn at n) (g.may_leave old) (g.may_leave new)
 
 -- only the gates of the master slots may be others
 pub record GatesTorn (old new : List ℕ) : Type 0 where
@@ -125,18 +126,20 @@ FormatBegins s contents c = ButForGates contents c ⊎ IsFormattedOrShut s c
 
 -- The schema's first pages and an empty log area are there, and a crash leaves them; or the device failed. No master
 -- slot opens meanwhile.
-pub record WritesContent {D : Type 0} (seen : D → List ℕ) (may_leave : D → List ℕ → Type 0) (moment : D → ℕ) (left_since : D → ℕ → List ℕ → Type 0) (failures : D → ℕ) {T F : Type 0} (s : Schema) (d e : D) (r : Result T F) : Type 0 where
-  pub pages : OnOk r (HasFirstPages s (seen e))
-  pub area : OnOk r (Has (seen e) (pages_end s) empty_area)
-  pub durable : OnOk r (Only (seen e) (may_leave e))
-  pub moments : LeavesOnly moment left_since d e IsShut
-  pub tears : Tears seen may_leave MASTER_BYTES (PAGE_BYTES * pages_in s + 6) d e
-  pub cause : HasCause (failures d) (failures e) r
+pub record WritesContent {D : Type 0} (g : Ghosts D) {T F : Type 0} (s : Schema) (d e : D)
+    (r : Result T F) : Type 0 where
+  pub pages : OnOk r (HasFirstPages s (g.seen e))
+  pub area : OnOk r (Has (g.seen e) (pages_end s) empty_area)
+  pub durable : OnOk r (Only (g.seen e) (g.may_leave e))
+  pub moments : LeavesOnly g.moment g.left_since d e IsShut
+  pub tears : Tears g MASTER_BYTES (PAGE_BYTES * pages_in s + 6) d e
+  pub cause : HasCause (g.faults d) (g.faults e) r
 
 -- The device is formatted with this schema, and a crash leaves it so; or the device failed.
-pub record FormatsDurably {D : Type 0} (seen : D → List ℕ) (may_leave : D → List ℕ → Type 0) (moment : D → ℕ) (left_since : D → ℕ → List ℕ → Type 0) (failures : D → ℕ) {T F : Type 0} (s : Schema) (d e : D) (r : Result T F) : Type 0 where
-  pub formatted : OnOk r (IsFormattedAs s (seen e))
-  pub durable : OnOk r (Only (seen e) (may_leave e))
-  pub moments : LeavesOnly moment left_since d e (FormatBegins s (may_leave d))
-  pub tears : Tears seen may_leave 0 (device_bytes s) d e
-  pub cause : HasCause (failures d) (failures e) r
+pub record FormatsDurably {D : Type 0} (g : Ghosts D) {T F : Type 0} (s : Schema) (d e : D)
+    (r : Result T F) : Type 0 where
+  pub formatted : OnOk r (IsFormattedAs s (g.seen e))
+  pub durable : OnOk r (Only (g.seen e) (g.may_leave e))
+  pub moments : LeavesOnly g.moment g.left_since d e (FormatBegins s (g.may_leave d))
+  pub tears : Tears g 0 (device_bytes s) d e
+  pub cause : HasCause (g.faults d) (g.faults e) r

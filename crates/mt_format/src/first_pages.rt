@@ -5,14 +5,13 @@ ghost use Rattle.mt_base.specs.Ranges.{Torn};
 ghost use Rattle.mt_index.specs.Checks.{bytes_of};
 ghost use Rattle.mt_index.specs.Pages.{AreZero};
 ghost use Rattle.mt_model.specs.Tables.{IsLimited};
-ghost use Rattle.mt_steps.specs.Counters.{i64_at, place_of, count_in};
+ghost use Rattle.mt_steps.specs.Counters.{place_of, count_in};
 ghost use Rattle.mt_format.specs.Formats.{AreFirstPages, IsFirstMap, IsFirstDirectory, IsFirstCounters, IsFirstBucket, IsFirstPage};
 ghost use Rattle.mt_format.specs.Schemas.{pages_in};
 
 use crate::Schema;
-use byteorder::{BigEndian, ByteOrder};
 use mt_base::limits::PAGE_BYTES;
-use mt_base::ranges::{put, put_u16};
+use mt_base::ranges::{put, put_i64, put_u16};
 use mt_index::DIRECTORY_HEAD_BYTES;
 use mt_model::Count;
 use mt_space::pages::{BUCKET, COUNTERS, DIRECTORY, FIXED, MAP};
@@ -40,17 +39,6 @@ fn directory_page() -> [u8; PAGE_BYTES]
     page
 }
 
-// Puts a number into the eight bytes at a place.
-fn put_number(page: &mut [u8], at: usize, number: i64)
-    requires { at + 8 ≤ length page.old }
-    ensures number { i64_at page.new at ≡ number }
-    ensures rest { Torn at 8 page.old page.new }
-{
-    let mut text = [0; 8];
-    BigEndian::write_u64(&mut text, number.cast_unsigned());
-    put(page, at, &text);
-}
-
 // Puts a counter into its place.
 fn put_counter(page: &mut [u8], counter: u16, count: &Count)
     requires whole { length page.old ≡ PAGE_BYTES }
@@ -59,9 +47,9 @@ fn put_counter(page: &mut [u8], counter: u16, count: &Count)
     ensures rest { Torn (place_of counter) 24 page.old page.new }
 {
     let at = COUNTERS_HEAD_BYTES + COUNTER_BYTES * usize::from(counter);
-    put_number(page, at, count.low);
-    put_number(page, at + 8, count.high);
-    put_number(page, at + 16, count.number);
+    put_i64(page, at, count.low);
+    put_i64(page, at + 8, count.high);
+    put_i64(page, at + 16, count.number);
 }
 
 // The counters of the schema, each at its start.

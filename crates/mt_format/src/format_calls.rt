@@ -28,7 +28,7 @@ fn close_slots<D: Device>(device: &mut D) -> Result<(), DeviceFault>
     requires { MASTER_BYTES ≤ length (D.seen device.old) }
     ensures shut { OnOk result ((c : List ℕ) → D.may_leave device.new c → IsShut c) }
     ensures moments { LeavesOnly D.moment D.left_since device.old device.new (ButForGates (D.may_leave device.old)) }
-    ensures tears { Tears D.seen D.may_leave 0 MASTER_BYTES device.old device.new }
+    ensures tears { Tears D.Device 0 MASTER_BYTES device.old device.new }
     ensures cause { HasCause (D.faults device.old) (D.faults device.new) result }
 {
     device.write_at(FIRST_SLOT, &[CLOSED_GATE])?;
@@ -42,7 +42,7 @@ fn write_pages<D: Device>(device: &mut D, schema: &Schema) -> Result<(), DeviceF
     requires shut { (c : List ℕ) → D.may_leave device.old c → IsShut c }
     ensures pages { OnOk result (HasFirstPages schema.now (D.seen device.new)) }
     ensures moments { LeavesOnly D.moment D.left_since device.old device.new IsShut }
-    ensures tears { Tears D.seen D.may_leave MASTER_BYTES (PAGE_BYTES * pages_in schema.now) device.old device.new }
+    ensures tears { Tears D.Device MASTER_BYTES (PAGE_BYTES * pages_in schema.now) device.old device.new }
     ensures cause { HasCause (D.faults device.old) (D.faults device.new) result }
 {
     for number in 0..schema.pages {
@@ -56,7 +56,7 @@ fn write_pages<D: Device>(device: &mut D, schema: &Schema) -> Result<(), DeviceF
 fn write_content<D: Device>(device: &mut D, schema: &Schema) -> Result<(), DeviceFault>
     requires long { device_bytes schema.now ≤ length (D.seen device.old) }
     requires shut { (c : List ℕ) → D.may_leave device.old c → IsShut c }
-    ensures { WritesContent D.seen D.may_leave D.moment D.left_since D.faults schema.now device.old device.new result }
+    ensures { WritesContent D.Device schema.now device.old device.new result }
 {
     write_pages(device, schema)?;
     let area = AreaPlace::of(schema.pages, schema.area_mib, false);
@@ -79,7 +79,7 @@ pub(crate) fn first_slot_of(schema: &Schema) -> MasterSlot
 // Makes what stands after the first master slot's gate durable: a write and a sync.
 fn write_slot<D: Device>(device: &mut D, schema: &Schema) -> Result<(), DeviceFault>
     requires { MASTER_BYTES ≤ length (D.seen device.old) }
-    ensures { WritesDurably D.seen D.may_leave D.moment D.left_since D.faults
+    ensures { WritesDurably D.Device
         1 (drop 1 (slot_text (first_slot schema.now))) device.old device.new result }
 {
     let slot = encode_slot(&first_slot_of(schema));
@@ -90,7 +90,7 @@ fn write_slot<D: Device>(device: &mut D, schema: &Schema) -> Result<(), DeviceFa
 // Opens the first master slot's gate: a write and a sync.
 fn open_gate<D: Device>(device: &mut D) -> Result<(), DeviceFault>
     requires { MASTER_BYTES ≤ length (D.seen device.old) }
-    ensures { WritesDurably D.seen D.may_leave D.moment D.left_since D.faults
+    ensures { WritesDurably D.Device
         0 (OPEN_GATE ∷ []) device.old device.new result }
 {
     device.write_at(FIRST_SLOT, &[OPEN_GATE])?;
@@ -100,7 +100,7 @@ fn open_gate<D: Device>(device: &mut D) -> Result<(), DeviceFault>
 // Formats a device that is long enough.
 fn write_all<D: Device>(device: &mut D, schema: &Schema) -> Result<(), DeviceFault>
     requires { device_bytes schema.now ≤ length (D.seen device.old) }
-    ensures { FormatsDurably D.seen D.may_leave D.moment D.left_since D.faults schema.now device.old device.new result }
+    ensures { FormatsDurably D.Device schema.now device.old device.new result }
 {
     close_slots(device)?;
     write_content(device, schema)?;

@@ -25,8 +25,8 @@ pub fn fresh<D: Device + Drop>(
     frames: usize,
 ) -> Result<Kernel<D>, (Refusal, D)>
     requires frames { 0 < frames }
-    ensures shows { IfOk result (Shows D.seen D.may_leave (schema_base schema.now) (start (schema_base schema.now))) }
-    ensures restarts { IfOk result (Restarts D.seen D.may_leave (schema_base schema.now)) }
+    ensures shows { IfOk result (Shows (schema_base schema.now) (start (schema_base schema.now))) }
+    ensures restarts { IfOk result (Restarts (schema_base schema.now)) }
     ensures schema { IfOk result (λ kernel. (kernel.relations ≡ relations_in schema.now)
         × (kernel.counters ≡ length (counters_in schema.now))) }
     ensures well { IfOk result (λ kernel. is_failed kernel ≡ false) }

@@ -6,7 +6,7 @@ ghost use Rattle.mt_disk.specs.Disk.{Only};
 ghost use Rattle.mt_format.specs.Firsts.{IsFirstIdle, IsFirstLog, IsFirstPool, AreFirst, AreFirstLayers, AreFresh};
 ghost use Rattle.mt_format.specs.Formats.{IsFormattedAs};
 ghost use Rattle.mt_format.specs.Schemas.{device_bytes};
-ghost use Rattle.mt_op.specs.Operations.{operation_frames};
+ghost use Rattle.mt_op.specs.Operations.{operation_frames, operation_device};
 
 use crate::first_pages::first_pages;
 use crate::format_calls::first_slot_of;
@@ -80,9 +80,9 @@ fn first_operations<D: Device>(
     requires log { IsFirstLog schema.now log }
     requires pool { (frames : ℕ) × IsFirstPool schema.now frames pool }
     requires idle { IsFirstIdle schema.now idle }
-    ensures operations { AreFirst D.seen D.may_leave schema.now device result }
+    ensures operations { AreFirst D.Device schema.now device result }
     ensures frames { (frames : ℕ) → IsFirstPool schema.now frames pool → operation_frames result ≡ frames }
-    ensures device { result.store.device ≡ device }
+    ensures device { operation_device result ≡ device }
 {
     let store = Store {
         device,
@@ -105,12 +105,12 @@ pub(crate) fn fresh_parts<D: Device + Drop>(
     ensures short { length (D.seen device) < device_bytes schema.now
         → MatchResult result (λ parts. ⊥) (λ gone. gone.1 ≡ device) }
     ensures memory { IfErr result (λ gone. gone.0 ≡ Refusal.NoMemory → gone.1 ≡ device) }
-    ensures fresh { IfOk result (λ parts. AreFresh D.seen D.may_leave schema.now parts.0 parts.1) }
+    ensures fresh { IfOk result (λ parts. AreFresh D.Device schema.now parts.0 parts.1) }
     ensures frames { IfOk result (λ parts. operation_frames parts.0 ≡ frames) }
     ensures cause { IfErr result (λ gone. (gone.0 ≡ Refusal.NoMemory)
         ⊎ ((gone.0 ≡ Refusal.BadLength) × (length (D.seen device) < device_bytes schema.now)
         ⊎ (gone.0 ≡ Refusal.DeviceFailed) × (D.faults device < D.faults gone.1))) }
-    ensures quiet { MatchResult result (λ parts. D.faults parts.0.store.device ≡ D.faults device)
+    ensures quiet { MatchResult result (λ parts. D.faults (operation_device parts.0) ≡ D.faults device)
         (λ gone. (gone.0 ≡ Refusal.DeviceFailed → ⊥) → D.faults gone.1 ≡ D.faults device) }
 {
     let layers = match first_layers(alloc, schema, frames) {

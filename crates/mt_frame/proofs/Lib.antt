@@ -4,6 +4,5 @@ pub mod PageLaws
 pub mod RecordLaws
 pub mod Rows
 pub mod SlotLaws
-pub mod RuleLaws
 pub mod Redone
 pub mod TextLengths

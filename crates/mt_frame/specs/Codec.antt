@@ -24,11 +24,13 @@ Gives view (Err e) read = Fails e read
 
 -- a number of this width, the highest byte first
 abbrev pub number_at : Width → Reader ℕ
-number_at w bytes = if nat_lt (length bytes) (byte_len w) then None else Some (from_be_bytes w (take (byte_len w) bytes), drop (byte_len w) bytes)
+number_at w bytes = if nat_lt (length bytes) (byte_len w) then None else Some
+    (from_be_bytes w (take (byte_len w) bytes), drop (byte_len w) bytes)
 
 -- a number from low to high
 unfoldable pub within_at : Width → ℕ → ℕ → Reader ℕ
-within_at w low high bytes = number_at w bytes >>= λ n. if nat_lt n.0 low then None else if nat_lt high n.0 then None else Some n
+within_at w low high bytes =
+    number_at w bytes >>= λ n. if nat_lt n.0 low then None else if nat_lt high n.0 then None else Some n
 
 -- so many bytes
 unfoldable pub part_at : ℕ → Reader (List ℕ)

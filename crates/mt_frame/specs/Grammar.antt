@@ -20,7 +20,8 @@ counted w bytes = to_be_bytes w (length bytes) ++ bytes
 -- a tag, and what it says to follow
 abbrev pub operation_text : LoggedOp → List ℕ
 operation_text (Insert relation key value) = 1 ∷ (relation ∷ []) ++ ((length key ∷ key) ++ counted w16 value)
-operation_text (Update relation key value old) = 2 ∷ (relation ∷ []) ++ ((length key ∷ key) ++ (counted w16 value ++ counted w16 old))
+operation_text (Update relation key value old) =
+    2 ∷ (relation ∷ []) ++ ((length key ∷ key) ++ (counted w16 value ++ counted w16 old))
 operation_text (Delete relation key old) = 3 ∷ (relation ∷ []) ++ ((length key ∷ key) ++ counted w16 old)
 operation_text (Add counter step) = 4 ∷ (counter ∷ []) ++ to_be_bytes w64 (cast_unsigned w64 step)
 
@@ -35,7 +36,8 @@ image_text (Some image) = image
 -- transaction, operation, page, image flag, start, length
 abbrev pub head_text : ℕ → ℕ → ℕ → Bool → ℕ → ℕ → List ℕ
 head_text txn op page image start size =
-    (to_be_bytes w64 txn ++ to_be_bytes w64 op) ++ (to_be_bytes w16 page ++ ((flag_number image ∷ []) ++ (to_be_bytes w16 start ++ to_be_bytes w16 size)))
+    (to_be_bytes w64 txn ++ to_be_bytes w64 op) ++ (to_be_bytes w16 page
+    ++ ((flag_number image ∷ []) ++ (to_be_bytes w16 start ++ to_be_bytes w16 size)))
 
 -- a head, and the bytes: the image, if there is one, and the range's old and new ones
 abbrev pub page_text : ℕ → ℕ → ℕ → Option (List ℕ) → ℕ → List ℕ → List ℕ → List ℕ
@@ -45,7 +47,8 @@ page_text txn op page image start old new =
 -- a kind, and what it says to follow
 abbrev pub record_text : Record → List ℕ
 record_text (Page txn op page image start old new) = 1 ∷ page_text txn op page image start old new
-record_text (OpEnd txn op undoes done) = 2 ∷ (to_be_bytes w64 txn ++ to_be_bytes w64 op) ++ (to_be_bytes w64 undoes ++ operation_text done)
+record_text (OpEnd txn op undoes done) = 2 ∷ (to_be_bytes w64 txn ++ to_be_bytes w64 op)
+    ++ (to_be_bytes w64 undoes ++ operation_text done)
 record_text (OpDropped txn op) = 3 ∷ to_be_bytes w64 txn ++ to_be_bytes w64 op
 record_text (Commit txn) = 4 ∷ to_be_bytes w64 txn
 record_text (AbortEnd txn) = 5 ∷ to_be_bytes w64 txn
@@ -115,6 +118,14 @@ IsRecord (OpEnd txn op undoes done) = IsTxn txn × IsOp op × (undoes < 2 ^ 64) 
 IsRecord (OpDropped txn op) = IsTxn txn × IsOp op
 IsRecord (Commit txn) = IsTxn txn
 IsRecord (AbortEnd txn) = IsTxn txn
+
+-- the transaction that the record is of
+abbrev pub txn_of : Record → ℕ
+txn_of (Page txn op page image start old new) = txn
+txn_of (OpEnd txn op undoes done) = txn
+txn_of (OpDropped txn op) = txn
+txn_of (Commit txn) = txn
+txn_of (AbortEnd txn) = txn
 
 -- the record is one of a page
 abbrev pub IsOfPage : Record → Type 0

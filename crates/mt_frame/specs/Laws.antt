@@ -8,7 +8,8 @@ use Rattle.mt_frame.specs.SlotText.{IsSlotText}
 
 -- no bytes begin with two batches
 abbrev pub OneBatch : Type 0
-OneBatch = (bytes : List ℕ) (xs ys : List Record) (m n : ℕ) → IsBatch bytes xs m → IsBatch bytes ys n → (xs ≡ ys) × (m ≡ n)
+OneBatch =
+    (bytes : List ℕ) (xs ys : List Record) (m n : ℕ) → IsBatch bytes xs m → IsBatch bytes ys n → (xs ≡ ys) × (m ≡ n)
 
 -- no bytes are the rows of two lists of records
 abbrev pub OneBody : Type 0
@@ -18,7 +19,8 @@ OneBody = (bytes : List ℕ) (xs ys : List Record) → IsBody bytes xs → IsBod
 abbrev pub BatchReadBack : Type 0
 BatchReadBack = (records : List Record) (rest : List ℕ) → IsBatchable records →
     IsBatch (batch_text records ++ rest) records (length (batch_text records))
-    × ((others : List Record) (size : ℕ) → IsBatch (batch_text records ++ rest) others size → (others ≡ records) × (size ≡ length (batch_text records)))
+    × ((others : List Record) (size : ℕ) → IsBatch (batch_text records ++ rest) others size
+    → (others ≡ records) × (size ≡ length (batch_text records)))
 
 -- a record's length is its text's
 abbrev pub LengthOfText : Type 0

@@ -10,12 +10,14 @@ use Rattle.mt_frame.specs.declared.records.Record.TheVariants.{Page, OpEnd, OpDr
 
 -- the record of an edit's range, of a page that is `old` before the whole change and `new` after it
 abbrev pub range_record : ℕ → ℕ → ℕ → Option (List ℕ) → List ℕ → List ℕ → Edit → Record
-range_record txn op page image old new e = Page txn op page image e.start (part old e.start (length e.bytes)) (part new e.start (length e.bytes))
+range_record txn op page image old new e =
+    Page txn op page image e.start (part old e.start (length e.bytes)) (part new e.start (length e.bytes))
 
 -- one record for each edit, the first one with the image
 abbrev pub change_records : ℕ → ℕ → ℕ → Option (List ℕ) → List ℕ → List ℕ → List Edit → List Record
 change_records txn op page image old new [] = []
-change_records txn op page image old new (e ∷ es) = range_record txn op page image old new e ∷ change_records txn op page None old new es
+change_records txn op page image old new (e ∷ es) =
+    range_record txn op page image old new e ∷ change_records txn op page None old new es
 
 -- a page's bytes with those that the records of it put there, in their order
 abbrev pub with_record : ℕ → Record → List ℕ → List ℕ

@@ -95,7 +95,9 @@ is_head h =
     else nat_lt 0 h.1.0 && (nat_lt 0 h.1.1.1.1.1 && nat_lt (h.1.1.1.1.0 + h.1.1.1.1.1) 4097)
 
 unfoldable pub head_at : Reader Head
-head_at = where_at is_head (then_at (within_at w64 0 MAX_BEGUN) (λ _. then_at (within_at w64 0 MAX_NUMBER) (λ _. then_at (within_at w16 0 3999) (λ _. then_at flag_at (λ _. then_at (within_at w16 0 4096) (λ _. within_at w16 0 4096))))))
+head_at = where_at is_head (then_at (within_at w64 0 MAX_BEGUN)
+    (λ _. then_at (within_at w64 0 MAX_NUMBER) (λ _. then_at (within_at w16 0 3999)
+    (λ _. then_at flag_at (λ _. then_at (within_at w16 0 4096) (λ _. within_at w16 0 4096))))))
 
 unfoldable pub image_at : Bool → Reader (Option (List ℕ))
 image_at false bytes = Some (None, bytes)
@@ -158,4 +160,6 @@ abbrev pub slot_of : SlotParts → MasterSlot
 slot_of p = record { epoch = p.1.1.0; area = p.1.1.1.0; pages = p.1.1.1.1.0; mib = p.1.1.1.1.1 }
 
 unfoldable pub slot_at : Reader MasterSlot
-slot_at = map_at slot_of (then_at (byte_at OPEN_GATE OPEN_GATE) (λ _. then_at (within_at w32 LETTERS LETTERS) (λ _. then_at (within_at w64 1 MAX_EPOCH) (λ _. then_at (byte_at 0 1) (λ _. then_at (within_at w16 16 4000) (λ _. byte_at 4 64))))))
+slot_at = map_at slot_of (then_at (byte_at OPEN_GATE OPEN_GATE)
+    (λ _. then_at (within_at w32 LETTERS LETTERS) (λ _. then_at (within_at w64 1 MAX_EPOCH)
+    (λ _. then_at (byte_at 0 1) (λ _. then_at (within_at w16 16 4000) (λ _. byte_at 4 64))))))

@@ -17,7 +17,8 @@ pub record IsSlot (slot : MasterSlot) : Type 0 where
 -- an open gate, the letters MTK1, the epoch, the area, the pages, the MiB of an area
 abbrev pub slot_text : MasterSlot → List ℕ
 slot_text slot =
-    (OPEN_GATE ∷ 77 ∷ 84 ∷ 75 ∷ 49 ∷ []) ++ (to_be_bytes w64 slot.epoch ++ ((slot.area ∷ []) ++ (to_be_bytes w16 slot.pages ++ (slot.mib ∷ []))))
+    (OPEN_GATE ∷ 77 ∷ 84 ∷ 75 ∷ 49 ∷ []) ++ (to_be_bytes w64 slot.epoch
+    ++ ((slot.area ∷ []) ++ (to_be_bytes w16 slot.pages ++ (slot.mib ∷ []))))
 
 pub record IsSlotText (bytes : List ℕ) (slot : MasterSlot) : Type 0 where
   pub fits : IsSlot slot

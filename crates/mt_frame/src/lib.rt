@@ -3,7 +3,6 @@
 //! written.
 #![tactic(auto)]
 
-mod area_rules;
 mod decoders;
 mod encoders;
 mod fields;
@@ -11,7 +10,6 @@ mod laws;
 mod records;
 mod slots;
 
-pub use area_rules::AreaRules;
 pub use decoders::{decode_batch, decode_body};
 pub use encoders::{encode_batch, push_page_record, push_record};
 pub use laws::{batches_are_read_back, lengths_are_of_texts, slots_are_read_back};

@@ -3,7 +3,7 @@
 ghost use Rattle.std.specs.Prelude.{◌≡◌, ◌↔◌, IsTrue, IfOk};
 ghost use Rattle.mt_frame.specs.Grammar.{IsRecord, IsOfPage, IsOperation};
 ghost use Rattle.mt_frame.specs.Kinds.{IsOfInsert, IsOfUpdate};
-ghost use Rattle.mt_frame.specs.History.{txn_of};
+ghost use Rattle.mt_frame.specs.Grammar.{txn_of};
 ghost use Rattle.mt_frame.specs.Lengths.{record_length, operation_length};
 ghost use Rattle.mt_frame.specs.PageRecords.{represented};
 

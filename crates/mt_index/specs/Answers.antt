@@ -34,10 +34,12 @@ InMaps at_hand total P = (pages : PageBytes) → Agrees at_hand pages → (m : M
 
 -- the directory is read; a page on the key's chain is locked as the plan says
 abbrev pub IsInBucket : List ℕ → Mode → PageBytes → ℕ → Mode → Type 0
-IsInBucket key in_bucket pages p mode = ((p ≡ 1) × (mode ≡ Read)) ⊎ ((kind pages p ≡ 2) × (mode ≡ in_bucket) × OnChain (state_of pages) key p)
+IsInBucket key in_bucket pages p mode =
+    ((p ≡ 1) × (mode ≡ Read)) ⊎ ((kind pages p ≡ 2) × (mode ≡ in_bucket) × OnChain (state_of pages) key p)
 
 -- a page is needed that is not at hand
-pub record Asks (at_hand : ℕ → Option (List ℕ)) (total : ℕ) (Role : PageBytes → ℕ → Mode → Type 0) (p : ℕ) (mode : Mode) : Type 0 where
+pub record Asks (at_hand : ℕ → Option (List ℕ)) (total : ℕ) (Role : PageBytes → ℕ → Mode → Type 0) (p : ℕ)
+    (mode : Mode) : Type 0 where
   pub missing : at_hand p ≡ None
   pub role : InMaps at_hand total (λ pages m. Role pages p mode)
 
@@ -86,7 +88,8 @@ IsSearched at_hand total r k (search.Found name) = InMaps at_hand total (λ page
 -- has it
 abbrev pub FindsHolder : (ℕ → Option (List ℕ)) → ℕ → ℕ → List ℕ → Mode → Held → Type 0
 FindsHolder at_hand total r k in_bucket (held.Need p mode) = Asks at_hand total (IsInBucket k in_bucket) p mode
-FindsHolder at_hand total r k in_bucket (held.In p name) = (at_hand p ≡ None → ⊥) × InMaps at_hand total (λ pages m. Holds r k pages p name)
+FindsHolder at_hand total r k in_bucket (held.In p name) =
+    (at_hand p ≡ None → ⊥) × InMaps at_hand total (λ pages m. Holds r k pages p name)
 FindsHolder at_hand total r k in_bucket held.Nowhere = InMaps at_hand total (λ pages m. m r k ≡ None)
 FindsHolder at_hand total r k in_bucket held.Endless = InMaps at_hand total (λ pages m. ⊥)
 
@@ -120,7 +123,8 @@ AmendEndless amend.Endless P = P
 AmendEndless _ P = Unit {0}
 
 -- the entry of a key is there, and is the one that changes, in one page of a bucket
-pub record Amends (total : ℕ) (pages : PageBytes) (changes : List PageChange) (m : Map) (r : ℕ) (k : List ℕ) (name : Option RecordName) : Type 0 where
+pub record Amends (total : ℕ) (pages : PageBytes) (changes : List PageChange) (m : Map) (r : ℕ) (k : List ℕ)
+    (name : Option RecordName) : Type 0 where
   pub there : (old : RecordName) × (m r k ≡ Some old)
   pub map : AreMap total (after changes pages) (alter m r k name)
   pub others : (p : ℕ) → kind pages p ≢ 2 → after changes pages p ≡ pages p
@@ -173,7 +177,8 @@ pub record Added (split : Bool) (total : ℕ) (e : Entry) (pages pages2 : PageBy
   pub way : Way split e (state_of pages) (state_of pages2)
   pub stays : Stays total pages pages2
   pub directory : split ≡ false → pages2 1 ≡ pages 1
-  pub formed : (relations : ℕ) → Fits relations total e → AreFormed relations total pages → AreFormed relations total pages2
+  pub formed : (relations : ℕ) → Fits relations total e → AreFormed relations total pages
+      → AreFormed relations total pages2
 
 -- at most five pages change, each once
 pub record Adds (split : Bool) (total : ℕ) (e : Entry) (pages : PageBytes) (changes : List PageChange) : Type 0 where
@@ -192,14 +197,16 @@ pub record HasOneFree (total : ℕ) (pages : PageBytes) (q : ℕ) : Type 0 where
 
 -- a split takes no entry away from the new one's side
 abbrev pub IsLopsided : Entry → PageBytes → ℕ → Type 0
-IsLopsided e pages b = length (cond (high (depth_of (pages b)) (hash e.key)) (kept_high (depth_of (pages b)) (entries (pages b))) (kept_low (depth_of (pages b)) (entries (pages b)))) ≡ 58
+IsLopsided e pages b = length (cond (high (depth_of (pages b)) (hash e.key))
+    (kept_high (depth_of (pages b)) (entries (pages b))) (kept_low (depth_of (pages b)) (entries (pages b)))) ≡ 58
 
 -- The key's bucket has no room, and no page is free; or one is, and the entry wants it split and a page more.
 pub record Shortage (split : Bool) (total : ℕ) (e : Entry) (pages : PageBytes) : Type 0 where
   pub last : ℕ
   pub alone : Bool
   pub full : IsEnd e.key pages last alone
-  pub free : HasNoneFree total pages ⊎ ((split ≡ true) × (MaySplit e.key (state_of pages) × (((q : ℕ) × HasOneFree total pages q) × IsLopsided e pages last)))
+  pub free : HasNoneFree total pages ⊎ ((split ≡ true) × (MaySplit e.key (state_of pages)
+      × (((q : ℕ) × HasOneFree total pages q) × IsLopsided e pages last)))
 
 -- besides the pages of the bucket: the map of the space, the directory if a split may change it, and pages to be
 -- taken are needed, to be written
@@ -216,14 +223,16 @@ HasNoRoom key pages = (last : ℕ) × (alone : Bool) × IsEnd key pages last alo
 pub record MayTake (split : Bool) (key : List ℕ) (total : ℕ) (pages : PageBytes) (q : ℕ) : Type 0 where
   pub free : kind pages q ≡ 0
   pub within : q < total
-  pub before : (n : ℕ) → n < q → kind pages n ≡ 0 → (split ≡ true) × MaySplit key (state_of pages) × IsSmallest (state_of pages) n
+  pub before : (n : ℕ) → n < q → kind pages n ≡ 0 → (split ≡ true) × MaySplit key (state_of pages)
+      × IsSmallest (state_of pages) n
 
 -- each of these only if the bucket has no room: the map of the space; the directory if it splits; a page
 -- that it then takes
 abbrev pub IsDueInAdd : Bool → List ℕ → ℕ → PageBytes → ℕ → Mode → Type 0
 IsDueInAdd split key total pages p mode =
     IsInBucket key Write pages p mode
-    ⊎ (HasNoRoom key pages × (mode ≡ Write) × ((p ≡ 0) ⊎ (((p ≡ 1) × (split ≡ true) × MaySplit key (state_of pages)) ⊎ MayTake split key total pages p)))
+    ⊎ (HasNoRoom key pages × (mode ≡ Write) × ((p ≡ 0) ⊎ (((p ≡ 1) × (split ≡ true) × MaySplit key (state_of pages))
+    ⊎ MayTake split key total pages p)))
 
 -- each page that is taken is at hand
 abbrev pub TakesSeen : (ℕ → Option (List ℕ)) → PageBytes → List PageChange → Type 0
@@ -236,7 +245,8 @@ AreSeen at_hand changes = (p : ℕ) → at_hand p ≡ None → IsUntouched chang
 abbrev pub IsPlanned : (ℕ → Option (List ℕ)) → ℕ → Bool → Entry → Add → Type 0
 IsPlanned at_hand total split e (add.Need p mode) = Asks at_hand total (IsDueInAdd split e.key total) p mode
 IsPlanned at_hand total split e (add.Changes changes) =
-    InMaps at_hand total (λ pages m. Adds split total e pages changes.list.items × TakesSeen at_hand pages changes.list.items) × AreSeen at_hand changes.list.items
+    InMaps at_hand total (λ pages m. Adds split total e pages changes.list.items
+    × TakesSeen at_hand pages changes.list.items) × AreSeen at_hand changes.list.items
 IsPlanned at_hand total split e add.Full = InMaps at_hand total (λ pages m. Shortage split total e pages)
 IsPlanned at_hand total split e add.Endless = InMaps at_hand total (λ pages m. ⊥)
 

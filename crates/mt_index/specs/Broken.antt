@@ -17,7 +17,8 @@ pub record IsAstray (total : ℕ) (pages : PageBytes) (p : ℕ) : Type 0 where
   pub walk : Walk (λ n. node_of (pages n)) (pointer_at (pages 1) pointer) front p
   pub real : p ≢ 0
   pub cause : (depth_of (pages p) ≢ depth_of (pages (pointer_at (pages 1) pointer)))
-      ⊎ (((other : ℕ) × (other < 2 ^ depth_in (pages 1)) × (pointer_at (pages 1) other ≢ pointer_at (pages 1) pointer) × IsOn pages (pointer_at (pages 1) other) p)
+      ⊎ (((other : ℕ) × (other < 2 ^ depth_in (pages 1)) × (pointer_at (pages 1) other ≢ pointer_at (pages 1) pointer)
+      × IsOn pages (pointer_at (pages 1) other) p)
       ⊎ ((Each (λ n. n ≢ p) front → ⊥) ⊎ (total ≤ length front)))
 
 -- A page stands in the chain of a bucket, and each of its entries has the bucket of its hash, and its key in

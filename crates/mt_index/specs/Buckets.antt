@@ -20,7 +20,8 @@ pub record Changed (names : ℕ → ℕ) (b : ℕ) (old new : ℕ → List Entry
   pub others : (h : ℕ) → names h ≢ b → new (names h) ≡ old (names h)
 
 -- one bucket's entries with a bit go to a new bucket
-pub record Splits (b q l : ℕ) (names depth : ℕ → ℕ) (content : ℕ → List Entry) (names2 depth2 : ℕ → ℕ) (content2 : ℕ → List Entry) : Type 0 where
+pub record Splits (b q l : ℕ) (names depth : ℕ → ℕ) (content : ℕ → List Entry) (names2 depth2 : ℕ → ℕ)
+    (content2 : ℕ → List Entry) : Type 0 where
   pub fresh : (h : ℕ) → names h ≢ q
   pub level : depth b ≡ l
   pub low : (h : ℕ) → names h ≡ b → high l h ≡ false → names2 h ≡ b

@@ -46,7 +46,9 @@ AreBuckets relations total pages = (p : ℕ) → kind pages p ≡ 2 → IsBucket
 
 -- pointer i names a bucket that is no deeper than the directory, and just the pointers of its pattern do
 abbrev pub IsPattern : List ℕ → ℕ → ℕ → ℕ → Type 0
-IsPattern directory i b l = (j : ℕ) → j < 2 ^ depth_in directory → ((pointer_at directory j ≡ b) → (j % 2 ^ l ≡ i % 2 ^ l)) × ((j % 2 ^ l ≡ i % 2 ^ l) → (pointer_at directory j ≡ b))
+IsPattern directory i b l = (j : ℕ) → j < 2 ^ depth_in directory
+    → ((pointer_at directory j ≡ b) → (j % 2 ^ l ≡ i % 2 ^ l))
+    × ((j % 2 ^ l ≡ i % 2 ^ l) → (pointer_at directory j ≡ b))
 
 pub record IsPointer (pages : PageBytes) (i : ℕ) : Type 0 where
   pub bucket : kind pages (pointer_at (pages 1) i) ≡ 2
@@ -78,11 +80,13 @@ pub record IsMarked (pages : PageBytes) (homes : List ℕ) (b : ℕ) : Type 0 wh
 -- the buckets of the first pointers are marked, and no other page is
 pub record AreMarked (pages : PageBytes) (homes : List ℕ) (done : ℕ) : Type 0 where
   pub each : (i : ℕ) → i < done → IsMarked pages homes (pointer_at (pages 1) i)
-  pub back : (n : ℕ) → get_or homes n 0 ≢ 0 → (i : ℕ) × (i < done) × (get_or homes n 0 ≡ pointer_at (pages 1) i) × IsOn pages (pointer_at (pages 1) i) n
+  pub back : (n : ℕ) → get_or homes n 0 ≢ 0 → (i : ℕ) × (i < done) × (get_or homes n 0 ≡ pointer_at (pages 1) i)
+      × IsOn pages (pointer_at (pages 1) i) n
 
 -- the marks of the bucket b are new, and all others as before
 abbrev pub Marks : PageBytes → ℕ → List ℕ → List ℕ → Type 0
-Marks pages b old new = (n : ℕ) → (get_or new n 0 ≡ get_or old n 0) ⊎ ((get_or old n 0 ≡ 0) × (get_or new n 0 ≡ b) × IsOn pages b n)
+Marks pages b old new =
+    (n : ℕ) → (get_or new n 0 ≡ get_or old n 0) ⊎ ((get_or old n 0 ≡ 0) × (get_or new n 0 ≡ b) × IsOn pages b n)
 
 -- a bucket's page of this depth that has no mark, and one of another depth or with a mark
 abbrev pub CanFollow : ℕ → PageBytes → List ℕ → ℕ → ℕ → Type 0
@@ -96,11 +100,13 @@ pub record IsStuck (total : ℕ) (pages : PageBytes) (homes : List ℕ) (b p : �
   pub front : List ℕ
   pub walk : Walk (λ n. node_of (pages n)) b front p
   pub real : p ≢ 0
-  pub cause : (depth_of (pages p) ≢ depth_of (pages b)) ⊎ ((get_or homes p 0 ≢ 0) ⊎ ((Each (λ n. n ≢ p) front → ⊥) ⊎ (total ≤ length front)))
+  pub cause : (depth_of (pages p) ≢ depth_of (pages b))
+      ⊎ ((get_or homes p 0 ≢ 0) ⊎ ((Each (λ n. n ≢ p) front → ⊥) ⊎ (total ≤ length front)))
 
 -- no page from this one on has the key
 abbrev pub LacksFrom : PageBytes → ℕ → ℕ → List ℕ → Type 0
-LacksFrom pages p r k = (ns : List ℕ) → Linked (λ n. node_of (pages n)) p ns → Each (λ n. look r k (entries (pages n)) ≡ None) ns
+LacksFrom pages p r k =
+    (ns : List ℕ) → Linked (λ n. node_of (pages n)) p ns → Each (λ n. look r k (entries (pages n)) ≡ None) ns
 
 -- the chain from this page on comes to an end
 pub record IsFinite (total : ℕ) (pages : PageBytes) (p : ℕ) : Type 0 where
@@ -161,7 +167,8 @@ pub record ArePassed (pages : PageBytes) (b at i : ℕ) (holders : ℕ → List 
   pub front : List ℕ
   pub walk : Walk (λ n. node_of (pages n)) b front at
   pub each : (n j : ℕ) → IsPast pages front at i n j → IsNoted pages b holders n j
-  pub back : (r : ℕ) (k : List ℕ) (n : ℕ) → holders r k ≡ Some n → (j : ℕ) × IsPast pages front at i n j × (is_at r k (entry_at (pages n) j) ≡ true)
+  pub back : (r : ℕ) (k : List ℕ) (n : ℕ) → holders r k ≡ Some n
+      → (j : ℕ) × IsPast pages front at i n j × (is_at r k (entry_at (pages n) j) ≡ true)
 
 -- a page of the bucket b has an entry that is not alone
 abbrev pub IsMisplaced : PageBytes → ℕ → ℕ → Type 0

@@ -36,7 +36,8 @@ pub record Puts (there : Bool) (e : Entry) (old new : List ℕ) : Type 0 where
   pub pushed : OnTrue there (entries new ≡ entries old ++ e ∷ [])
   pub full : OnFalse there (count_of old ≡ MAX_ENTRIES)
   pub unchanged : OnFalse there (new ≡ old)
-  pub kept : (relations pages : ℕ) → e.relation < relations → 1 ≤ length e.key → e.name.page < pages → IsBucket relations pages old → IsBucket relations pages new
+  pub kept : (relations pages : ℕ) → e.relation < relations → 1 ≤ length e.key → e.name.page < pages
+      → IsBucket relations pages old → IsBucket relations pages new
 
 -- the half with the hash's bit takes it, or the other
 pub record PutsInHalf (upper there : Bool) (e : Entry) (old new : Halves) : Type 0 where

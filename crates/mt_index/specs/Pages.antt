@@ -109,7 +109,8 @@ pub record Doubled (old new : List ℕ) : Type 0 where
 -- the pointers to a page whose numbers have a bit name another, and the rest of the directory stays
 pub record Redirected (from to bit : ℕ) (old new : List ℕ) : Type 0 where
   pub rest : Torn 8 (2 * 2 ^ depth_in old) old new
-  pub each : (i : ℕ) → i < 2 ^ depth_in old → pointer_at new i ≡ cond (pointer_at old i == from && high bit i) to (pointer_at old i)
+  pub each : (i : ℕ) → i < 2 ^ depth_in old → pointer_at new i
+      ≡ cond (pointer_at old i == from && high bit i) to (pointer_at old i)
 
 -- doubled before, just if it goes by so many bits as the bucket
 pub record Rewired (from to bit : ℕ) (old new : List ℕ) : Type 0 where
@@ -125,7 +126,8 @@ pub record Parted (old low up : List ℕ) : Type 0 where
   pub up_depth : depth_of up ≡ depth_of old + 1
   pub up_next : next_of up ≡ 0
   pub go : entries up ≡ kept_high (depth_of old) (entries old)
-  pub kept : (relations pages : ℕ) → IsBucket relations pages old → IsBucket relations pages low × IsBucket relations pages up
+  pub kept : (relations pages : ℕ) → IsBucket relations pages old
+      → IsBucket relations pages low × IsBucket relations pages up
 
 -- ---- what stands beside it
 

@@ -34,6 +34,8 @@ pub record MaySplit (key : List ℕ) (s : State) : Type 0 where
 pub data Way (split : Bool) (e : Entry) (s t : State) : Type 0 where
   Here : (p : ℕ) → First e p s t → Way split e s t
   Chained : (z q : ℕ) → (split ≡ true → MaySplit e.key s → ⊥) → IsSmallest s q → Last e z q s t → Way split e s t
-  SplitHere : (u : State) (q l p : ℕ) → split ≡ true → MaySplit e.key s → IsSmallest s q → (l < s.g × Halves e.key q l s u) ⊎ (l ≡ s.g × Halves e.key q l (double s) u) → First e p u t → Way split e s t
-  SplitChained : (u : State) (q l z q2 : ℕ) → split ≡ true → MaySplit e.key s → IsSmallest s q → (l < s.g × Halves e.key q l s u) ⊎ (l ≡ s.g × Halves e.key q l (double s) u)
+  SplitHere : (u : State) (q l p : ℕ) → split ≡ true → MaySplit e.key s → IsSmallest s q
+      → (l < s.g × Halves e.key q l s u) ⊎ (l ≡ s.g × Halves e.key q l (double s) u) → First e p u t → Way split e s t
+  SplitChained : (u : State) (q l z q2 : ℕ) → split ≡ true → MaySplit e.key s → IsSmallest s q
+      → (l < s.g × Halves e.key q l s u) ⊎ (l ≡ s.g × Halves e.key q l (double s) u)
       → IsSmallest u q2 → Last e z q2 u t → Way split e s t

@@ -57,7 +57,8 @@ Puts e s t = ((p : ℕ) × InRoom e p s t) ⊎ ((z : ℕ) × (q : ℕ) × Behind
 -- one split at most, doubled before if the bucket is as deep as the directory
 abbrev pub Adds : Bool → Entry → State → State → Type 0
 Adds false e s t = Puts e s t
-Adds true e s t = Puts e s t ⊎ ((u : State) × (q : ℕ) × (l : ℕ) × (Halves e.key q l s u ⊎ Halves e.key q l (double s) u) × Puts e u t)
+Adds true e s t = Puts e s t ⊎ ((u : State) × (q : ℕ) × (l : ℕ) × (Halves e.key q l s u ⊎ Halves e.key q l (double s) u)
+    × Puts e u t)
 
 pub record Drops (e : Entry) (p : ℕ) (x y : List Entry) (s t : State) : Type 0 where
   pub on : OnChain s e.key p

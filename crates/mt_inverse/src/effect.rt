@@ -70,29 +70,79 @@ impl<'a> Effect<'a> {
         }
     }
 
-    /// The operation that takes this effect back (Weikum 1991): a delete takes back an insert. Putting the old value
-    /// back takes back an update or a delete, and the opposite step an add. The only error is want of memory.
+    /// The effect of the operation that takes this one back (Weikum 1991). A delete takes back an insert. Putting the
+    /// old value back takes back an update or a delete, and the opposite step an add.
+    pub fn reversed(&self) -> Effect<'a>
+        requires { IsWithinSteps (op_with self.now) }
+        ensures inverse { inverse_of (op_with self.now) (reply_with self.now) ≡ Some (op_with result) }
+        ensures reply { reply_with result ≡ reply_back self.now }
+    {
+        match *self {
+            Effect::Inserted {
+                relation,
+                key,
+                value,
+            } => Effect::Deleted {
+                relation,
+                key,
+                old: value,
+            },
+            Effect::Updated {
+                relation,
+                key,
+                value,
+                old,
+            } => Effect::Updated {
+                relation,
+                key,
+                value: old,
+                old: value,
+            },
+            Effect::Deleted { relation, key, old } => Effect::Inserted {
+                relation,
+                key,
+                value: old,
+            },
+            Effect::Added { counter, step } => Effect::Added {
+                counter,
+                step: -step,
+            },
+        }
+    }
+
+    // The operation that has this effect. The only error is want of memory.
+    fn op(&self) -> Result<Op, AllocError>
+        ensures { IfOk result (λ op. op ≡ op_with self.now) }
+    {
+        match *self {
+            Effect::Inserted {
+                relation,
+                key,
+                value,
+            } => {
+                let key = key.try_clone()?;
+                Ok(Op::Insert(relation, key, value.try_clone()?))
+            }
+            Effect::Updated {
+                relation,
+                key,
+                value,
+                ..
+            } => {
+                let key = key.try_clone()?;
+                Ok(Op::Update(relation, key, value.try_clone()?))
+            }
+            Effect::Deleted { relation, key, .. } => Ok(Op::Delete(relation, key.try_clone()?)),
+            Effect::Added { counter, step } => Ok(Op::Add(counter, step)),
+        }
+    }
+
+    /// The operation that takes this effect back, as [`Effect::reversed`] says. The only error is want of memory.
     pub fn inverse(&self) -> Result<Op, AllocError>
         requires { IsWithinSteps (op_with self.now) }
         ensures { IfOk result (λ op. inverse_of (op_with self.now) (reply_with self.now) ≡ Some op) }
     {
-        match *self {
-            Effect::Inserted { relation, key, .. } => Ok(Op::Delete(relation, key.try_clone()?)),
-            Effect::Updated {
-                relation,
-                key,
-                old,
-                ..
-            } => {
-                let key = key.try_clone()?;
-                Ok(Op::Update(relation, key, old.try_clone()?))
-            }
-            Effect::Deleted { relation, key, old } => {
-                let key = key.try_clone()?;
-                Ok(Op::Insert(relation, key, old.try_clone()?))
-            }
-            Effect::Added { counter, step } => Ok(Op::Add(counter, -step)),
-        }
+        self.reversed().op()
     }
 
     /// Whether the inverse of this effect, if it replied this, found what the effect had left.

@@ -22,17 +22,20 @@ pub record IsAlone (s : State) (t session : ℕ) (cs : List Call) : Type 0 where
 
 -- if no transaction is active, one that begins is alone
 abbrev pub BeginsAlone : Type 0
-BeginsAlone = (b : Base) (s : State) (session : ℕ) → IsKept b s → NobodyLives s → IsAlone (begun s session) s.next session []
+BeginsAlone =
+    (b : Base) (s : State) (session : ℕ) → IsKept b s → NobodyLives s → IsAlone (begun s session) s.next session []
 
 -- the pages hold what its calls leave on the base of the book
 abbrev pub AloneHolds : Type 0
 AloneHolds =
-    (b : Base) (s : State) (t session : ℕ) (cs : List Call) → IsKept b s → IsAlone s t session cs → s.base ≡ run (committed_base b s) cs
+    (b : Base) (s : State) (t session : ℕ) (cs : List Call) → IsKept b s → IsAlone s t session cs
+    → s.base ≡ run (committed_base b s) cs
 
 -- nobody is in its way
 abbrev pub AloneIsFree : Type 0
 AloneIsFree =
-    (b : Base) (s : State) (t session : ℕ) (cs : List Call) → IsKept b s → IsAlone s t session cs → (x : Object) (m : LockMode) → IsFree s.held t x m
+    (b : Base) (s : State) (t session : ℕ) (cs : List Call) → IsKept b s → IsAlone s t session cs
+    → (x : Object) (m : LockMode) → IsFree s.held t x m
 
 -- an operation that it calls, and that ends, replies as the model does after its other calls, and is the last of them
 abbrev pub AloneActs : Type 0
@@ -44,8 +47,10 @@ AloneActs =
 abbrev pub AloneCommits : Type 0
 AloneCommits =
     (s : State) (t session : ℕ) (cs : List Call) → IsAlone s t session cs
-    → ((booked s t session).book ≡ s.book ++ record { session = session; calls = cs } ∷ []) × NobodyLives (booked s t session)
+    → ((booked s t session).book ≡ s.book ++ record { session = session; calls = cs } ∷ [])
+    × NobodyLives (booked s t session)
 
 -- and without it no transaction is active
 abbrev pub AloneLeaves : Type 0
-AloneLeaves = (s : State) (t session : ℕ) (cs : List Call) → IsAlone s t session cs → ((gone s t).book ≡ s.book) × NobodyLives (gone s t)
+AloneLeaves = (s : State) (t session : ℕ) (cs : List Call) → IsAlone s t session cs
+    → ((gone s t).book ≡ s.book) × NobodyLives (gone s t)

@@ -38,7 +38,8 @@ CommitKeeps = (b : Base) (s : State) (t session : ℕ) → IsKept b s → s.runn
 abbrev pub CommitMovesCounters : Type 0
 CommitMovesCounters =
     (b : Base) (s : State) (t session : ℕ) → IsKept b s → s.running t ≡ None
-    → (c : ℕ) → (committed_base b (booked s t session)).counts c ≡ moved_by t c s.pending ((committed_base b s).counts c)
+    → (c : ℕ) → (committed_base b (booked s t session)).counts c
+    ≡ moved_by t c s.pending ((committed_base b s).counts c)
 
 abbrev pub InverseKeeps : Type 0
 InverseKeeps =
@@ -48,7 +49,8 @@ InverseKeeps =
 
 abbrev pub AbortKeeps : Type 0
 AbortKeeps =
-    (b : Base) (s : State) (t : ℕ) → IsKept b s → s.running t ≡ None → last_effect t s.standing ≡ None → IsKept b (gone s t)
+    (b : Base) (s : State) (t : ℕ) → IsKept b s → s.running t ≡ None → last_effect t s.standing ≡ None
+    → IsKept b (gone s t)
 
 -- what stands is what stood without the transaction, on the same book, and its run alone leads to the
 -- base that the pages hold
@@ -85,12 +87,14 @@ pub record IsMoved (held : Held) (b : Base) (p : ℕ → Bool) (es : List Entry)
 
 abbrev pub SetMovesInFront : Type 0
 SetMovesInFront =
-    (held : Held) (b : Base) (es : List Entry) → AreTogether held → IsSound held b es → (p : ℕ → Bool) → IsMoved held b p es
+    (held : Held) (b : Base) (es : List Entry) → AreTogether held → IsSound held b es → (p : ℕ → Bool)
+    → IsMoved held b p es
 
 -- the calls of each transaction of a list, one transaction after the other, and the entries of nobody in it
 abbrev pub in_turn : (ℕ → ℕ) → List ℕ → List Entry → List Committed
 in_turn session [] es = []
-in_turn session (t ∷ ts) es = record { session = session t; calls = calls (kept (only t) es) } ∷ in_turn session ts (kept (others t) es)
+in_turn session (t ∷ ts) es =
+    record { session = session t; calls = calls (kept (only t) es) } ∷ in_turn session ts (kept (others t) es)
 
 abbrev pub without_all : List ℕ → List Entry → List Entry
 without_all [] es = es

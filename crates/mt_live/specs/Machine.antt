@@ -77,7 +77,8 @@ called s t op = record s {
 
 -- an add is admissible beside those that are pending
 abbrev pub IsAdmitted : Base → List Pending → ℕ → Op → Type 0
-IsAdmitted m ps t (Add c d) = IsAdmissible (m.counts c) (steps_at c (ps ++ record { txn = t; counter = c; step = d } ∷ []))
+IsAdmitted m ps t (Add c d) =
+    IsAdmissible (m.counts c) (steps_at c (ps ++ record { txn = t; counter = c; step = d } ∷ []))
 IsAdmitted m ps t _ = ⊤
 
 -- its transaction lives and runs nothing, no other holds a lock that bars it, and escrow admits it
@@ -129,7 +130,8 @@ pub data Goes (b : Base) (s z : State) : Type 0 where
   Ends : (t : ℕ) → (op : Op) → s.running t ≡ Some op → z ≡ ended s t op → Goes b s z
   Drops : (t : ℕ) → (op : Op) → (ps : List Pending) → s.running t ≡ Some op → GivesBack t op s.pending ps
       → z ≡ dropped s t ps → Goes b s z
-  Commits : (t : ℕ) → (session : ℕ) → s.sessions t ≡ Some session → s.running t ≡ None → z ≡ booked s t session → Goes b s z
+  Commits : (t : ℕ) → (session : ℕ) → s.sessions t ≡ Some session → s.running t ≡ None → z ≡ booked s t session
+      → Goes b s z
   Undoes : (t : ℕ) → (last : Entry) → (i : Op) → (ps : List Pending) → s.running t ≡ None
       → last_effect t s.standing ≡ Some last → inverse_of last.op last.reply ≡ Some i
       → GivesBack t last.op s.pending ps → z ≡ undone s t i ps → Goes b s z

@@ -25,14 +25,16 @@ pub record HasRoomFor (has_room : Bool) (calls calls_room operations operations_
 
 -- one that has just begun
 abbrev pub fresh : ℕ → ℕ → Member
-fresh number session = record { number = number; session = session; state = Open; calls = []; operations = []; has_room = false }
+fresh number session =
+    record { number = number; session = session; state = Open; calls = []; operations = []; has_room = false }
 
 abbrev pub with_room : Member → Member
 with_room m = record m { has_room = true }
 
 -- a call more, of the operation of this number
 abbrev pub with_call : Member → ℕ → Call → Member
-with_call m operation c = record m { calls = m.calls ++ c ∷ []; operations = m.operations ++ operation ∷ []; has_room = false }
+with_call m operation c =
+    record m { calls = m.calls ++ c ∷ []; operations = m.operations ++ operation ∷ []; has_room = false }
 
 abbrev pub with_state : Member → TxnState → Member
 with_state m state = record m { state = state }

@@ -39,8 +39,8 @@ none_held rs (l ∷ locks) none held =
     let one = subst (λ (q : List OpScope). AreHeldBy q (l ∷ locks)) none held 0 l (omega arith) in
     let wrong : ◌≡◌ {A = Bool} false true = one in absurd cc
 
-module _ {D : Type 0} {g : Ghosts D} (seen : D → List ℕ) (may_leave : D → List ℕ → Type 0) where
-  pub idle_of : (b : Base) (k : Kernel D g) → BeganOn seen may_leave b k → HasNobody k → IsIdle k
+module _ {D : Type 0} {g : Ghosts D} where
+  pub idle_of : (b : Base) (k : Kernel D g) → BeganOn b k → HasNobody k → IsIdle k
   idle_of b k began nobody =
       let none = nobody_in k.core.live.members nobody in
       record {

@@ -63,27 +63,27 @@ books_grow s (t ∷ ts) = let z = booked s t (session_at s t) in prefix_trans s.
 
 -- ---- of kernels
 
-module _ {D : Type 0} {g : Ghosts D} (seen : D → List ℕ) (may_leave : D → List ℕ → Type 0) where
+module _ {D : Type 0} {g : Ghosts D} where
   -- from some state to one of the same book
   abbrev pub Goes : Base → State → Kernel D g → Type 0
-  Goes b s n = ∥ ((z : State) × (z.book ≡ s.book) × Shows seen may_leave (base_of b) z n) ∥₁
+  Goes b s n = ∥ ((z : State) × (z.book ≡ s.book) × Shows (base_of b) z n) ∥₁
 
   -- shown from the base that this one is seen as
-  pub began_so : (b : Base) (k : Kernel D g) (first : model.Base) (s : State) → base_of b ≡ first → Shows seen may_leave first s k → Restarts seen may_leave first k → BeganOn seen may_leave b k
+  pub began_so : (b : Base) (k : Kernel D g) (first : model.Base) (s : State) → base_of b ≡ first → Shows first s k → Restarts first k → BeganOn b k
   began_so b k first s same shows again =
-      (∣ (s, subst (λ (f : model.Base). Shows seen may_leave f s k) (sym same) shows) ∣₁, subst (λ (f : model.Base). Restarts seen may_leave f k) (sym same) again)
+      (∣ (s, subst (λ (f : model.Base). Shows f s k) (sym same) shows) ∣₁, subst (λ (f : model.Base). Restarts f k) (sym same) again)
 
-  book_of : (b : Base) (k : Kernel D g) (s : State) → Shows seen may_leave (base_of b) s k → s.book ≡ k.core.book.items
-  book_of b k s shows = ∥∥₁_elim (legal_of seen may_leave k.relations k.counters k.core (base_of b) s shows) (hlevel (props, Books-set)) (λ (same, legal). same)
+  book_of : (b : Base) (k : Kernel D g) (s : State) → Shows (base_of b) s k → s.book ≡ k.core.book.items
+  book_of b k s shows = ∥∥₁_elim (legal_of g k.relations k.counters k.core (base_of b) s shows) (hlevel (props, Books-set)) (λ (same, legal). same)
 
-  pub legal_book : (b : Base) (k : Kernel D g) → BeganOn seen may_leave b k → IsLegal (base_of b) k.core.book.items
+  pub legal_book : (b : Base) (k : Kernel D g) → BeganOn b k → IsLegal (base_of b) k.core.book.items
   legal_book b k began = ∥∥₁_elim began.0 (IsLegal-prop (base_of b) k.core.book.items) (λ (s, shows).
-      ∥∥₁_elim (legal_of seen may_leave k.relations k.counters k.core (base_of b) s shows) (IsLegal-prop (base_of b) k.core.book.items) (λ (same, legal). legal))
+      ∥∥₁_elim (legal_of g k.relations k.counters k.core (base_of b) s shows) (IsLegal-prop (base_of b) k.core.book.items) (λ (same, legal). legal))
 
-  pub still_began : (b : Base) (k n : Kernel D g) → ((s : State) → Shows seen may_leave (base_of b) s k → Goes b s n) → StaysRestarting seen may_leave k n → BeganOn seen may_leave b k → BeganOn seen may_leave b n
+  pub still_began : (b : Base) (k n : Kernel D g) → ((s : State) → Shows (base_of b) s k → Goes b s n) → StaysRestarting k n → BeganOn b k → BeganOn b n
   still_began b k n go again began = (∥∥₁_elim began.0 (hlevel props) (λ (s, shows). ∥∥₁_map (go s shows) (λ (z, same, now). (z, now))), again (base_of b) began.1)
 
-  pub same_book : (b : Base) (k n : Kernel D g) → ((s : State) → Shows seen may_leave (base_of b) s k → Goes b s n) → BeganOn seen may_leave b k → n.core.book.items ≡ k.core.book.items
+  pub same_book : (b : Base) (k n : Kernel D g) → ((s : State) → Shows (base_of b) s k → Goes b s n) → BeganOn b k → n.core.book.items ≡ k.core.book.items
   same_book b k n go began = ∥∥₁_elim began.0 (hlevel (props, Books-set)) (λ (s, shows). ∥∥₁_elim (go s shows) (hlevel (props, Books-set)) (λ (z, same, now).
       sym (book_of b n z now) ∙ (same ∙ book_of b k s shows)))
 
@@ -91,36 +91,36 @@ module _ {D : Type 0} {g : Ghosts D} (seen : D → List ℕ) (may_leave : D → 
 
   -- it is in whatever state it was, where it can be restarted
   abbrev pub GoesOn : Kernel D g → Kernel D g → Type 0
-  GoesOn k n = (first : model.Base) (s : State) → Restarts seen may_leave first k → Shows seen may_leave first s k → Shows seen may_leave first s n
+  GoesOn k n = (first : model.Base) (s : State) → Restarts first k → Shows first s k → Shows first s n
 
-  pub turned_began : (b : Base) (k n : Kernel D g) → GoesOn k n → StaysRestarting seen may_leave k n → BeganOn seen may_leave b k → BeganOn seen may_leave b n
+  pub turned_began : (b : Base) (k n : Kernel D g) → GoesOn k n → StaysRestarting k n → BeganOn b k → BeganOn b n
   turned_began b k n go again began = (∥∥₁_map began.0 (λ (s, shows). (s, go (base_of b) s began.1 shows)), again (base_of b) began.1)
 
-  pub turned_book : (b : Base) (k n : Kernel D g) → GoesOn k n → BeganOn seen may_leave b k → n.core.book.items ≡ k.core.book.items
+  pub turned_book : (b : Base) (k n : Kernel D g) → GoesOn k n → BeganOn b k → n.core.book.items ≡ k.core.book.items
   turned_book b k n go began = same_book b k n (λ s shows. ∣ (s, refl, go (base_of b) s began.1 shows) ∣₁) began
 
   -- ---- calls that leave the book
 
-  pub stays : (b : Base) (k n : Kernel D g) → Stays seen may_leave k n → (s : State) → Shows seen may_leave (base_of b) s k → Goes b s n
+  pub stays : (b : Base) (k n : Kernel D g) → Stays k n → (s : State) → Shows (base_of b) s k → Goes b s n
   stays b k n same s shows = ∣ (s, refl, same (base_of b) s shows) ∣₁
 
-  pub begins_one : {T : Type 0} → (b : Base) (k n : Kernel D g) (session : ℕ) (r : Result T Refusal) → ((s : State) → Shows seen may_leave (base_of b) s k → OnOk r (Shows seen may_leave (base_of b) (begun s session) n))
-      → OnErr r (n.core ≡ k.core) → SameSchema k n → (s : State) → Shows seen may_leave (base_of b) s k → Goes b s n
+  pub begins_one : {T : Type 0} → (b : Base) (k n : Kernel D g) (session : ℕ) (r : Result T Refusal) → ((s : State) → Shows (base_of b) s k → OnOk r (Shows (base_of b) (begun s session) n))
+      → OnErr r (n.core ≡ k.core) → SameSchema k n → (s : State) → Shows (base_of b) s k → Goes b s n
   begins_one b k n session (Ok x) did err schema s shows = ∣ (begun s session, refl, did s shows) ∣₁
-  begins_one b k n session (Err why) did err schema s shows = ∣ (s, refl, parts_stay seen may_leave k n err schema (base_of b) s shows) ∣₁
+  begins_one b k n session (Err why) did err schema s shows = ∣ (s, refl, parts_stay k n err schema (base_of b) s shows) ∣₁
 
-  pub calls_one : (b : Base) (n : Kernel D g) (t : ℕ) (op : Op) (r : Result Called Refusal) (s : State) → HasCalled seen may_leave (base_of b) s t op r n → Goes b s n
+  pub calls_one : (b : Base) (n : Kernel D g) (t : ℕ) (op : Op) (r : Result Called Refusal) (s : State) → HasCalled (base_of b) s t op r n → Goes b s n
   calls_one b n t op (Ok call.Started) s has = ∣ (called s t op, refl, has) ∣₁
   calls_one b n t op (Ok (call.Wait holder)) s has = ∣ (s, refl, has) ∣₁
   calls_one b n t op (Err why) s has = ∣ (s, refl, has) ∣₁
 
-  pub steps_one : (b : Base) (k n : Kernel D g) (t : ℕ) (r : Result Stepped Refusal) → OnOk r (step_cause (is_failed k) k.core t ≡ None) → (s : State) → Shows seen may_leave (base_of b) s k
-      → HasStepped seen may_leave (base_of b) s t r n → Goes b s n
+  pub steps_one : (b : Base) (k n : Kernel D g) (t : ℕ) (r : Result Stepped Refusal) → OnOk r (step_cause (is_failed k) k.core t ≡ None) → (s : State) → Shows (base_of b) s k
+      → HasStepped (base_of b) s t r n → Goes b s n
   steps_one b k n t (Ok (step.Replied reply)) may s shows has = go (s.running t) refl
     where
       go : (o : Option Op) → s.running t ≡ o → Goes b s n
       go None none = absurd (let both = both_hold (is_failed k) (is_open (state_in k.core.live.members t)) (is_busy k.core t) may in
-          let idle = idle_of seen may_leave k.relations k.counters k.core (base_of b) s shows t (open_state (state_in k.core.live.members t) both.0) none in
+          let idle = idle_of g k.relations k.counters k.core (base_of b) s shows t (open_state (state_in k.core.live.members t) both.0) none in
           let wrong : ◌≡◌ {A = Bool} true false = sym both.1 ∙ idle in cc)
       go (Some op) runs = ∣ (ended s t op, refl, (has op runs).0) ∣₁
   steps_one b k n t (Ok step.Went) may s shows has = ∣ (s, refl, has) ∣₁
@@ -129,7 +129,7 @@ module _ {D : Type 0} {g : Ghosts D} (seen : D → List ℕ) (may_leave : D → 
   steps_one b k n t (Ok step.Flush) may s shows has = ∣ (s, refl, has) ∣₁
   steps_one b k n t (Err why) may s shows has = ∣ (s, refl, has) ∣₁
 
-  pub aborts_one : (b : Base) (n : Kernel D g) (t : ℕ) (r : Result AbortStepped Refusal) (s : State) → HasAborted seen may_leave (base_of b) s t r n → Goes b s n
+  pub aborts_one : (b : Base) (n : Kernel D g) (t : ℕ) (r : Result AbortStepped Refusal) (s : State) → HasAborted (base_of b) s t r n → Goes b s n
   aborts_one b n t (Ok abort.More) s has = ∥∥₁_map has (λ (z, back, now). (z, back_book t s z back, now))
   aborts_one b n t (Ok (abort.Wait other)) s has = ∣ (s, refl, has) ∣₁
   aborts_one b n t (Ok abort.Again) s has = ∣ (s, refl, has) ∣₁
@@ -140,17 +140,17 @@ module _ {D : Type 0} {g : Ghosts D} (seen : D → List ℕ) (may_leave : D → 
   -- ---- force steps
 
   abbrev Grows : Base → State → Kernel D g → Type 0
-  Grows b s n = ∥ ((z : State) × IsPrefix s.book z.book × Shows seen may_leave (base_of b) z n) ∥₁
+  Grows b s n = ∥ ((z : State) × IsPrefix s.book z.book × Shows (base_of b) z n) ∥₁
 
-  forces_one : (b : Base) (n : Kernel D g) (r : Result KernelForced Refusal) (s : State) → HasForced seen may_leave (base_of b) s r n → Grows b s n
+  forces_one : (b : Base) (n : Kernel D g) (r : Result KernelForced Refusal) (s : State) → HasForced (base_of b) s r n → Grows b s n
   forces_one b n (Ok forced.More) s has = ∣ (s, prefix_self s.book, has) ∣₁
   forces_one b n (Ok forced.Idle) s has = ∣ (s, prefix_self s.book, has) ∣₁
   forces_one b n (Ok (forced.Durable names)) s has = ∣ (booked_each s names.items, books_grow s names.items, has) ∣₁
   forces_one b n (Err why) s has = ∣ (s, prefix_self s.book, has) ∣₁
 
-  pub forced_began : (b : Base) (k n : Kernel D g) (r : Result KernelForced Refusal) → ((s : State) → Shows seen may_leave (base_of b) s k → HasForced seen may_leave (base_of b) s r n) → StaysRestarting seen may_leave k n → BeganOn seen may_leave b k → BeganOn seen may_leave b n
+  pub forced_began : (b : Base) (k n : Kernel D g) (r : Result KernelForced Refusal) → ((s : State) → Shows (base_of b) s k → HasForced (base_of b) s r n) → StaysRestarting k n → BeganOn b k → BeganOn b n
   forced_began b k n r did again began = (∥∥₁_elim began.0 (hlevel props) (λ (s, shows). ∥∥₁_map (forces_one b n r s (did s shows)) (λ (z, more, now). (z, now))), again (base_of b) began.1)
 
-  pub forced_grows : (b : Base) (k n : Kernel D g) (r : Result KernelForced Refusal) → ((s : State) → Shows seen may_leave (base_of b) s k → HasForced seen may_leave (base_of b) s r n) → BeganOn seen may_leave b k → IsPrefix k.core.book.items n.core.book.items
+  pub forced_grows : (b : Base) (k n : Kernel D g) (r : Result KernelForced Refusal) → ((s : State) → Shows (base_of b) s k → HasForced (base_of b) s r n) → BeganOn b k → IsPrefix k.core.book.items n.core.book.items
   forced_grows b k n r did began = begins k.core.book.items n.core.book.items (∥∥₁_elim began.0 (hlevel props) (λ (s, shows). ∥∥₁_map (forces_one b n r s (did s shows)) (λ (z, more, now).
       subst (λ (x : List Committed × List Committed). IsPrefix x.0 x.1) (λ i. (book_of b k s shows i, book_of b n z now i)) more)))

@@ -19,7 +19,7 @@ use Rattle.mt_txn.specs.Seen.{KernelSeen, seen_of}
 use Rattle.mt_txn.specs.Shown.{Restarts}
 use Rattle.mt_txn.specs.declared.kernel.Kernel.{Kernel}
 use Rattle.mt_locked.specs.Standings.{LeavesBook, kernel_in}
-use Rattle.mt_locked.specs.Turns.{IsRotation, IsTurn}
+use Rattle.mt_locked.specs.Turns.{IsOneTurn, IsRotation}
 use Rattle.mt_locked.proofs.Books.{whole_front}
 use Rattle.mt_locked.proofs.Keeping.{turned_began, turned_book}
 use Rattle.mt_locked.proofs.Standings.{found_with}
@@ -35,32 +35,32 @@ module _ {D : Type 0} (g : Ghosts D) where
 
   -- the device that is left leaves the whole book
   pub left_whole : (k : Kernel D g) (device : D) → ((t : ℕ) (c : List ℕ) → t ≤ g.moment device → g.may_leave device c → g.left_since device t c)
-      → ((first : model.Base) → Restarts g.seen g.may_leave first k → FindsMeanwhile g.moment g.left_since k.relations k.counters first k.core device)
-      → (base : Base) → Restarts g.seen g.may_leave (base_of base) k → LeavesBook g.may_leave base k.core.book.items device
+      → ((first : model.Base) → Restarts first k → FindsMeanwhile g k.relations k.counters first k.core device)
+      → (base : Base) → Restarts (base_of base) k → LeavesBook g base k.core.book.items device
   left_whole k device counts found base restarts c leaves =
       let f = found (base_of base) restarts in
-      found_with g.seen g.may_leave base k c (f.each c (counts (g.moment k.core.operations.store.device) c f.later leaves))
+      found_with base k c (f.each c (counts (g.moment k.core.operations.store.device) c f.later leaves))
 
   pub turned_so : (commits frames : ℕ) (k : Kernel D g) (new : Standing D g) (r : Result (Unit {0}) Refusal) (outcome : Result Bool Refusal)
       → ((device : D) (t : ℕ) (c : List ℕ) → t ≤ g.moment device → g.may_leave device c → g.left_since device t c)
-      → ((first : model.Base) → Restarts g.seen g.may_leave first k → FindsMeanwhile g.moment g.left_since k.relations k.counters first k.core (device_at new))
+      → ((first : model.Base) → Restarts first k → FindsMeanwhile g k.relations k.counters first k.core (device_at new))
       → IfErr outcome IsTurnFault → (outcome ≡ Ok true → IsOk r) → IfErr r (λ why. IsTurnFault why → IsErr outcome) → length k.core.book.items ≡ commits
-      → (IsOk r → HasFrames frames new) → Rotates g.seen g.may_leave g.moment g.left_since g.faults k new r → IsRotation g commits frames (Stands k) new outcome
+      → (IsOk r → HasFrames frames new) → Rotates k new r → IsRotation g commits frames (Stands k) new outcome
   turned_so commits frames k (Stands n) r outcome counts found why did fault just many rotates =
-      let over = stands_over g.seen g.may_leave g.moment g.left_since g.faults k n r rotates in record {
-        keeps = λ base history long keeps. let same = turned_book g.seen g.may_leave base k n over.state keeps.0 in
-            ((turned_began g.seen g.may_leave base k n over.state over.restarts keeps.0, subst (IsPrefix history) (sym same) keeps.1), same);
+      let over = stands_over k n r rotates in record {
+        keeps = λ base history long keeps. let same = turned_book base k n over.state keeps.0 in
+            ((turned_began base k n over.state over.restarts keeps.0, subst (IsPrefix history) (sym same) keeps.1), same);
         why = why;
         did = λ is base history keeps.
-            let x = rotated_of g.seen g.may_leave g.moment g.left_since g.faults k n r (did is) rotates in
-            let turn : IsTurn g frames base = record {
+            let x = rotated_of k n r (did is) rotates in
+            let turn : IsOneTurn g frames base = record {
               was = k;
               began = keeps.0;
               may = x.may;
               now = n;
-              begins = turned_began g.seen g.may_leave base k n x.over.state x.over.restarts keeps.0;
+              begins = turned_began base k n x.over.state x.over.restarts keeps.0;
               shows = λ s shows. x.over.state (base_of base) s keeps.0.1 shows;
-              book = turned_book g.seen g.may_leave base k n x.over.state keeps.0;
+              book = turned_book base k n x.over.state keeps.0;
               images = x.begun;
               many = many (did is);
             } in ∣ turn ∣₁;
@@ -70,7 +70,7 @@ module _ {D : Type 0} (g : Ghosts D) where
   turned_so commits frames k (Ended device) (Err refusal) outcome counts found why did fault just many rotates = record {
     keeps = λ base history long keeps.
         let whole : history ≡ k.core.book.items = whole_front history k.core.book.items keeps.1 (omega (arith, long, just)) in
-        (subst (λ (h : List Committed). LeavesBook g.may_leave base h device) (sym whole) (left_whole k device (counts device) found base keeps.0.1), whole);
+        (subst (λ (h : List Committed). LeavesBook g base h device) (sym whole) (left_whole k device (counts device) found base keeps.0.1), whole);
     why = why;
     did = λ is. absurd (let no = did is in cc);
     gone = λ left. fault (subst IsTurnFault (sym rotates.0) tt);

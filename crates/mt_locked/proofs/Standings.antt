@@ -40,64 +40,71 @@ pub on_err_led : {T : Type 0} {P Q : Type 0} → (r : Result T Refusal) → (P �
 on_err_led (Ok x) leads did = did
 on_err_led (Err why) leads did = leads did
 
-module _ {D : Type 0} {g : Ghosts D} (seen : D → List ℕ) (may_leave : D → List ℕ → Type 0) where
+module _ {D : Type 0} {g : Ghosts D} where
   -- ---- a kernel that stands
 
-  pub stands_on : (b : Base) (h : List Committed) (s : Standing D g) (k : Kernel D g) → s ≡ Stands k → KeepsHistory seen may_leave b h s → BeganOn seen may_leave b k × IsPrefix h k.core.book.items
-  stands_on b h s k is keeps = subst (KeepsHistory seen may_leave b h) is keeps
+  pub stands_on : (b : Base) (h : List Committed) (s : Standing D g) (k : Kernel D g) → s ≡ Stands k → KeepsHistory b h s → BeganOn b k × IsPrefix h k.core.book.items
+  stands_on b h s k is keeps = subst (KeepsHistory b h) is keeps
 
   -- the book begins with the history
-  pub front_of : (b : Base) (h : List Committed) (s : Standing D g) → KeepsHistory seen may_leave b h s → IsPrefix h (book_in s h)
+  pub front_of : (b : Base) (h : List Committed) (s : Standing D g) → KeepsHistory b h s → IsPrefix h (book_in s h)
   front_of b h (Stands k) keeps = keeps.1
   front_of b h (Ended device) keeps = prefix_self h
 
   -- and it is legal
-  pub legal_in : (b : Base) (k : Kernel D g) (s : Standing D g) (h : List Committed) → s ≡ Stands k → KeepsHistory seen may_leave b h s → IsLegal b (book_in s h)
-  legal_in b k s h is keeps = subst (λ (x : Standing D g). IsLegal b (book_in x h)) (sym is) (legal_book seen may_leave b k (stands_on b h s k is keeps).0)
+  pub legal_in : (b : Base) (k : Kernel D g) (s : Standing D g) (h : List Committed) → s ≡ Stands k → KeepsHistory b h s → IsLegal b (book_in s h)
+  legal_in b k s h is keeps = subst (λ (x : Standing D g). IsLegal b (book_in x h)) (sym is) (legal_book b k (stands_on b h s k is keeps).0)
 
   -- the history goes on by the book's next entry, which is there only if a kernel stands
-  pub entered_on : (b : Base) (list : List Entry) (e : Entry) (at : ℕ) (s : Standing D g) → at ≡ length list → slice_get (book_in s (dones list)) at ≡ Some e.done → KeepsHistory seen may_leave b (dones list) s
-      → KeepsHistory seen may_leave b (dones (list ++ e ∷ [])) s × (book_in s (dones (list ++ e ∷ [])) ≡ book_in s (dones list))
+  pub entered_on : (b : Base) (list : List Entry) (e : Entry) (at : ℕ) (s : Standing D g) → at ≡ length list → slice_get (book_in s (dones list)) at ≡ Some e.done → KeepsHistory b (dones list) s
+      → KeepsHistory b (dones (list ++ e ∷ [])) s × (book_in s (dones (list ++ e ∷ [])) ≡ book_in s (dones list))
   entered_on b list e at (Stands k) is there keeps =
       ((keeps.0, grown list k.core.book.items e keeps.1 (ap (λ n. slice_get k.core.book.items n) (dones-length list ∙ sym is) ∙ there)), refl)
   entered_on b list e at (Ended device) is there keeps = absurd (none_behind (dones list) list at e.done refl is there)
 
   -- after a call that leaves its book the history is kept, and the book is the same
-  pub goes_on : (b : Base) (list : List Entry) (s : Standing D g) (k n : Kernel D g) → s ≡ Stands k → ((z : State) → Shows seen may_leave (base_of b) z k → Goes seen may_leave b z n) → StaysRestarting seen may_leave k n
-      → KeepsHistory seen may_leave b (dones list) s → KeepsHistory seen may_leave b (dones list) (Stands n) × (n.core.book.items ≡ book_in s (dones list))
+  pub goes_on : (b : Base) (list : List Entry) (s : Standing D g) (k n : Kernel D g) → s ≡ Stands k → ((z : State) → Shows (base_of b) z k → Goes b z n) → StaysRestarting k n
+      → KeepsHistory b (dones list) s → KeepsHistory b (dones list) (Stands n) × (n.core.book.items ≡ book_in s (dones list))
   goes_on b list s k n is go again keeps =
       let (began, front) = stands_on b (dones list) s k is keeps in
-      let same = same_book seen may_leave b k n go began in (
-        (still_began seen may_leave b k n go again began, subst (IsPrefix (dones list)) (sym same) front),
+      let same = same_book b k n go began in (
+        (still_began b k n go again began, subst (IsPrefix (dones list)) (sym same) front),
         same ∙ ap (λ (x : Standing D g). book_in x (dones list)) (sym is),
       )
 
   -- after a step of a force the history is kept, and the book has grown at its end
   pub forces_on : (b : Base) (h : List Committed) (s : Standing D g) (k n : Kernel D g) (r : Result KernelForced Refusal) → s ≡ Stands k
-      → ((z : State) → Shows seen may_leave (base_of b) z k → HasForced seen may_leave (base_of b) z r n) → StaysRestarting seen may_leave k n
-      → KeepsHistory seen may_leave b h s → KeepsHistory seen may_leave b h (Stands n) × IsPrefix (book_in s h) n.core.book.items
+      → ((z : State) → Shows (base_of b) z k → HasForced (base_of b) z r n) → StaysRestarting k n
+      → KeepsHistory b h s → KeepsHistory b h (Stands n) × IsPrefix (book_in s h) n.core.book.items
   forces_on b h s k n r is did again keeps =
       let (began, front) = stands_on b h s k is keeps in
-      let more = forced_grows seen may_leave b k n r did began in (
-        (forced_began seen may_leave b k n r did again began, prefix_trans h k.core.book.items n.core.book.items front more),
+      let more = forced_grows b k n r did began in (
+        (forced_began b k n r did again began, prefix_trans h k.core.book.items n.core.book.items front more),
         subst (λ (x : Standing D g). IsPrefix (book_in x h) n.core.book.items) (sym is) more,
       )
 
   -- ---- what a call does
 
+  -- what is seen of the kernel that stands, or that none does
+  pub kernel_is : (s : Standing D g) (k : Kernel D g) (list : List Entry) (old : LockedSeen D) → s ≡ Stands k → seen_in s list ≡ old → Some (seen_of k) ≡ old.kernel
+  kernel_is s k list old is there = ap (λ (x : Standing D g). kernel_in x) (sym is) ∙ ap (λ (l : LockedSeen D). l.kernel) there
+
+  pub none_is : (s : Standing D g) (device : D) (list : List Entry) (old : LockedSeen D) → s ≡ Ended device → seen_in s list ≡ old → None ≡ old.kernel
+  none_is s device list old is there = ap (λ (x : Standing D g). kernel_in x) (sym is) ∙ ap (λ (l : LockedSeen D). l.kernel) there
+
   -- the kernel that stood was asked, and did this
   pub asked : {T : Type 0} → (s : Standing D g) (k n : Kernel D g) (list : List Entry) (old : LockedSeen D) (r : Result T Refusal) (Did : KernelSeen D → KernelSeen D → Type 0)
       → s ≡ Stands k → seen_in s list ≡ old → Did (seen_of k) (seen_of n) → IsAskedOf old.kernel r (Some (seen_of n)) Did
-  asked s k n list old r Did is seen did =
-      let was : Some (seen_of k) ≡ old.kernel = ap (λ (x : Standing D g). kernel_in x) (sym is) ∙ ap (λ (l : LockedSeen D). l.kernel) seen in
+  asked s k n list old r Did is there did =
+      let was : Some (seen_of k) ≡ old.kernel = ap (λ (x : Standing D g). kernel_in x) (sym is) ∙ ap (λ (l : LockedSeen D). l.kernel) there in
       subst (λ (o : Option (KernelSeen D)). IsAskedOf o r (Some (seen_of n)) Did) was (seen_of n, refl, did)
 
   -- none stood
   pub unasked : {T : Type 0} → (s : Standing D g) (device : D) (list : List Entry) (old : LockedSeen D) (r : Result T Refusal) (Did : KernelSeen D → KernelSeen D → Type 0)
       → s ≡ Ended device → seen_in s list ≡ old → r ≡ Err DeviceFailed → IsAskedOf old.kernel r (kernel_in s) Did
-  unasked s device list old r Did is seen refused =
+  unasked s device list old r Did is there refused =
       let none : kernel_in s ≡ None = ap (λ (x : Standing D g). kernel_in x) is in
-      let was : None ≡ old.kernel = sym none ∙ ap (λ (l : LockedSeen D). l.kernel) seen in
+      let was : None ≡ old.kernel = sym none ∙ ap (λ (l : LockedSeen D). l.kernel) there in
       subst (λ (o : Option (KernelSeen D)). IsAskedOf o r (kernel_in s) Did) was (refused, none)
 
   -- ---- what a crash leaves
@@ -120,6 +127,6 @@ module _ {D : Type 0} {g : Ghosts D} (seen : D → List ℕ) (may_leave : D → 
       })
 
   -- and so it does of the device of what stands
-  pub leaves_book : (b : Base) (h : List Committed) (s : Standing D g) (device : D) → device ≡ device_at s → IsFoundAfter seen may_leave s device → KeepsHistory seen may_leave b h s → LeavesBook may_leave b (book_in s h) device
+  pub leaves_book : (b : Base) (h : List Committed) (s : Standing D g) (device : D) → device ≡ device_at s → IsFoundAfter s device → KeepsHistory b h s → LeavesBook g b (book_in s h) device
   leaves_book b h (Stands k) device is finds keeps = λ c leaves. found_with b k c (finds (base_of b) c keeps.0.1 leaves)
-  leaves_book b h (Ended alone) device is finds keeps = subst (LeavesBook may_leave b h) (sym is) keeps
+  leaves_book b h (Ended alone) device is finds keeps = subst (LeavesBook g b h) (sym is) keeps

@@ -1,5 +1,5 @@
 -- What contracts see of a pass and of the locked kernel.
-use Rattle.std.specs.Prelude.{◌≡◌, ◌≢◌, ◌≤◌, ◌⊎◌, ℕ, ◌+◌, List, [], ◌∷◌, ◌++◌, length, take, slice_get, Option, Some, None, Result, Err}
+use Rattle.std.specs.Prelude.{◌≡◌, ◌≢◌, ◌<◌, ◌≤◌, ◌⊎◌, Bool, true, ℕ, ◌+◌, List, [], ◌∷◌, ◌++◌, length, take, slice_get, Option, Some, None, Result, Err}
 use Rattle.mt_base.specs.declared.refusal.Refusal.{Refusal}
 use Rattle.mt_base.specs.declared.refusal.Refusal.TheVariants.{DeviceFailed}
 use Rattle.mt_mark.specs.Held.{Held}
@@ -10,7 +10,8 @@ use Rattle.mt_model.specs.declared.history.Committed.{Committed}
 use Rattle.mt_model.specs.declared.operations.Op.{Op}
 use Rattle.mt_model.specs.declared.operations.Reply.{Reply}
 use Rattle.mt_model.specs.declared.tables.Base.{Base}
-use Rattle.mt_txn.specs.Seen.{KernelSeen}
+use Rattle.mt_core.specs.declared.parts.Commit.{Commit}
+use Rattle.mt_txn.specs.Seen.{KernelSeen, commits_in, has_failed_in}
 
 -- the pass's number, and its beginning of the history
 pub record PassSeen : Type 0 where
@@ -33,6 +34,21 @@ abbrev pub IsAsked : {D T : Type 0} → LockedSeen D → Result T Refusal → Lo
     → (KernelSeen D → KernelSeen D → Type 0) → Type 0
 IsAsked old result new Did = IsAskedOf old.kernel result new.kernel Did
 
+-- whether each call of it is refused with 2: the kernel has failed, or none stands
+abbrev pub is_failed_in : {D : Type 0} → Option (KernelSeen D) → Bool
+is_failed_in None = true
+is_failed_in (Some k) = has_failed_in k
+
+-- the commits of the kernel that are appended, and not in the book yet
+abbrev pub under_way_in : {D : Type 0} → Option (KernelSeen D) → List Commit
+under_way_in None = []
+under_way_in (Some k) = commits_in k
+
+-- The commit at this place is not in the book yet. It is the next to be entered, or the device has failed.
+abbrev pub IsToForce : {D : Type 0} → LockedSeen D → ℕ → Type 0
+IsToForce locked place =
+    (length locked.book < place) × ((length locked.list + 1 ≡ place) ⊎ (is_failed_in locked.kernel ≡ true))
+
 -- The pass's new list is legal, begins with all that it had seen, has this length, and ends with the entry. No other
 -- entry past the old list is this pass's.
 pub record Extends (b : Base) (old : PassSeen) (entry : Entry) (place : ℕ) (new : PassSeen) : Type 0 where
@@ -44,13 +60,15 @@ pub record Extends (b : Base) (old : PassSeen) (entry : Entry) (place : ℕ) (ne
   pub long : length new.seen ≡ place
 
 -- and it is the first entries of the book, passes aside
-pub record Entered {D : Type 0} (b : Base) (locked : LockedSeen D) (place : ℕ) (old : PassSeen) (entry : Entry) (new : PassSeen) : Type 0 where
+pub record Entered {D : Type 0} (b : Base) (locked : LockedSeen D) (place : ℕ) (old : PassSeen) (entry : Entry)
+    (new : PassSeen) : Type 0 where
   pub extends : Extends b old entry place new
   pub durable : dones new.seen ≡ take place locked.book
 
 -- the mark is not one below the place, or the book has no such entry there
 abbrev pub CannotEnter : {D : Type 0} → LockedSeen D → ℕ → Entry → Type 0
-CannotEnter locked place entry = (length locked.list + 1 ≢ place) ⊎ (slice_get locked.book (length locked.list) ≢ Some entry.done)
+CannotEnter locked place entry =
+    (length locked.list + 1 ≢ place) ⊎ (slice_get locked.book (length locked.list) ≢ Some entry.done)
 
 -- The pass's new list is legal, begins with all that it had seen, has this length, and no further entry of its own.
 pub record Looked (b : Base) (old : PassSeen) (found : ℕ) (new : PassSeen) : Type 0 where

@@ -13,6 +13,7 @@ use Rattle.mt_mark.specs.Rule.{dones}
 use Rattle.mt_mark.specs.declared.view.Entry.{Entry}
 use Rattle.mt_locked.specs.Began.{BeganOn}
 use Rattle.mt_txn.specs.Seen.{KernelSeen, seen_of}
+use Rattle.mt_txn.specs.Words.{kernel_book}
 use Rattle.mt_locked.specs.Seen.{LockedSeen}
 
 -- A restart finds in these bytes what this book leads to from this base, or the book and some further commits.
@@ -23,21 +24,19 @@ pub record HasBook (base : Base) (book : List Committed) (c : List ℕ) : Type 0
   pub found : CanRestart relations counters c (after (base_of base) (book ++ further))
 
 -- and so whatever a crash leaves of a device
-abbrev pub LeavesBook : {D : Type 0} → (D → List ℕ → Type 0) → Base → List Committed → D → Type 0
-LeavesBook may_leave base book device = (c : List ℕ) → may_leave device c → ∥ HasBook base book c ∥₁
+abbrev pub LeavesBook : {D : Type 0} → Ghosts D → Base → List Committed → D → Type 0
+LeavesBook g base book device = (c : List ℕ) → g.may_leave device c → ∥ HasBook base book c ∥₁
 
 -- the kernel's book; or the history, if none stands
 abbrev pub book_in : {D : Type 0} → {g : Ghosts D} → Standing D g → List Committed → List Committed
-book_in (Stands k) history = k.core.book.items
+book_in (Stands k) history = (kernel_book k)
 book_in (Ended device) history = history
 
 -- A kernel began on this base, and its book begins with this history. Of a device that is left alone, a crash leaves
 -- the history.
-abbrev pub KeepsHistory : {D : Type 0} → {g : Ghosts D} → (D → List ℕ) → (D → List ℕ → Type 0) → Base
-    → List Committed → Standing D g → Type 0
-KeepsHistory seen may_leave base history (Stands k) =
-    BeganOn seen may_leave base k × IsPrefix history (book_in (Stands k) history)
-KeepsHistory seen may_leave base history (Ended device) = LeavesBook may_leave base history device
+abbrev pub KeepsHistory : {D : Type 0} → {g : Ghosts D} → Base → List Committed → Standing D g → Type 0
+KeepsHistory base history (Stands k) = BeganOn base k × IsPrefix history (book_in (Stands k) history)
+KeepsHistory {g = g} base history (Ended device) = LeavesBook g base history device
 
 -- the kernel as it is seen, if one stands
 abbrev pub kernel_in : {D : Type 0} → {g : Ghosts D} → Standing D g → Option (KernelSeen D)

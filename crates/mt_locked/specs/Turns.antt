@@ -13,14 +13,15 @@ use Rattle.mt_locked.specs.Began.{BeganOn}
 use Rattle.mt_restart.specs.TurnFaults.{IsTurnFault}
 use Rattle.mt_restart.specs.declared.standing.Standing.{Standing}
 use Rattle.mt_locked.specs.Standings.{KeepsHistory, book_in, kernel_in}
-use Rattle.mt_locked.specs.declared.log_use.LogUse.{LogUse}
 use Rattle.mt_txn.specs.Shown.{Shows, kernel_frames, kernel_log}
 use Rattle.mt_txn.specs.declared.kernel.Kernel.{Kernel}
+use Rattle.mt_txn.specs.declared.log_use.LogUse.{LogUse}
+use Rattle.mt_txn.specs.Words.{kernel_book}
 
 -- a kernel that began on this base has so many bytes of its log's area in use
 pub record IsUse {D : Type 0} (g : Ghosts D) (base : Base) (u : LogUse) : Type 0 where
   pub kernel : Kernel D g
-  pub began : BeganOn g.seen g.may_leave base kernel
+  pub began : BeganOn base kernel
   pub used : u.used ≡ used (kernel_log kernel)
   pub size : u.size ≡ area_size (kernel_log kernel)
 
@@ -29,28 +30,29 @@ IsUseOn g base u = ∥ IsUse g base u ∥₁
 
 -- A kernel that began on this base had not failed, and nobody lived in it. It goes on as another one, in whatever
 -- state it was, with its book and so many frames, and with a log that has no record but its area's images.
-pub record IsTurn {D : Type 0} (g : Ghosts D) (frames : ℕ) (base : Base) : Type 0 where
+pub record IsOneTurn {D : Type 0} (g : Ghosts D) (frames : ℕ) (base : Base) : Type 0 where
   pub was : Kernel D g
-  pub began : BeganOn g.seen g.may_leave base was
+  pub began : BeganOn base was
   pub may : early_cause was ≡ None
   pub now : Kernel D g
-  pub begins : BeganOn g.seen g.may_leave base now
-  pub shows : (s : State) → Shows g.seen g.may_leave (base_of base) s was → Shows g.seen g.may_leave (base_of base) s now
-  pub book : now.core.book.items ≡ was.core.book.items
+  pub begins : BeganOn base now
+  pub shows : (s : State) → Shows (base_of base) s was → Shows (base_of base) s now
+  pub book : kernel_book now ≡ kernel_book was
   pub images : AreImages (appended (kernel_log now))
   pub many : kernel_frames now ≡ frames
 
 abbrev pub HasTurned : {D : Type 0} → Ghosts D → ℕ → Base → Type 0
-HasTurned g frames base = ∥ IsTurn g frames base ∥₁
+HasTurned g frames base = ∥ IsOneTurn g frames base ∥₁
 
 -- What a rotation to so many frames makes of what stands under a history of so many commits, and what it answers. That
 -- history and the book are kept.
-pub record IsRotation {D : Type 0} (g : Ghosts D) (commits frames : ℕ) (old new : Standing D g) (outcome : Result Bool Refusal) : Type 0 where
+pub record IsRotation {D : Type 0} (g : Ghosts D) (commits frames : ℕ) (old new : Standing D g)
+    (outcome : Result Bool Refusal) : Type 0 where
   pub keeps : (base : Base) (history : List Committed) → length history ≡ commits
-      → KeepsHistory g.seen g.may_leave base history old
-      → KeepsHistory g.seen g.may_leave base history new × (book_in new history ≡ book_in old history)
+      → KeepsHistory base history old
+      → KeepsHistory base history new × (book_in new history ≡ book_in old history)
   pub why : IfErr outcome IsTurnFault
   pub did : outcome ≡ Ok true → (base : Base) (history : List Committed)
-      → KeepsHistory g.seen g.may_leave base history old → HasTurned g frames base
+      → KeepsHistory base history old → HasTurned g frames base
   -- if no more than the device is left, it is refused
   pub gone : kernel_in new ≡ None → IsErr outcome

@@ -12,7 +12,8 @@ pub record IsWhole {D : Type 0} (l : LockedSeen D) : Type 0 where
 
 -- One list, passes aside the book, begins with what each pass has seen, and has no further entry of that pass.
 abbrev pub HasAllOf : List Committed → List PassSeen → Type 0
-HasAllOf book passes = (list : List Entry) × (dones list ≡ book) × All (λ (p : PassSeen). Holds p.number p.seen list) passes
+HasAllOf book passes =
+    (list : List Entry) × (dones list ≡ book) × All (λ (p : PassSeen). Holds p.number p.seen list) passes
 
 -- how many each pass has of its own in what it has seen, together
 abbrev pub all_own : List PassSeen → ℕ

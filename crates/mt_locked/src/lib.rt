@@ -8,7 +8,6 @@
 #![tactic(auto)]
 
 mod locked;
-mod log_use;
 mod names;
 mod pass;
 mod passes;
@@ -17,7 +16,6 @@ mod rotation;
 mod txn;
 
 pub use locked::{Due, Locked, Unclosed};
-pub use log_use::LogUse;
 pub use names::Naming;
 pub use pass::Pass;
 pub use passes::passes_of;

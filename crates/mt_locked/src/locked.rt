@@ -1,22 +1,22 @@
 // What the lock of a shared kernel guards, and what is done under it. mt_shared calls it with the lock taken;
 // nothing here waits or wakes a thread.
-ghost use Rattle.std.specs.Prelude.{◌≡◌, ◌+◌, ◌++◌, ◌∷◌, [], ◌≤◌, false, length, OnOk, IfOk, IfErr, IsErr, IfNone, IfSome, Ok, IsTrue, ◌↔◌, slice_get, Some, None, All, true};
+ghost use Rattle.std.specs.Prelude.{◌≡◌, ◌<◌, ◌+◌, ◌++◌, ◌∷◌, [], ◌≤◌, false, length, OnOk, IfOk, IfErr, IsErr, IfNone, IfSome, Ok, IsTrue, ◌↔◌, slice_get, Some, None, All, true};
 ghost use mathlib.Core.List.{IsPrefix};
 ghost use Rattle.mt_mark.specs.Legal.{IsLegal};
 ghost use Rattle.mt_mark.specs.Rule.{dones, Holds, IsConfirmed};
 ghost use Rattle.mt_locked.specs.Began.{BeganOn, IsIdle};
 ghost use Rattle.mt_locked.specs.Standings.{LeavesBook};
-ghost use Rattle.mt_locked.specs.Refusals.{IsCloseRefusal};
+ghost use Rattle.mt_locked.specs.Refusals.{IsCloseRefusal, IsRoomRefusal};
 ghost use Rattle.mt_restart.specs.TurnFaults.{IsTurnFault};
-ghost use Rattle.mt_locked.specs.Seen.{PassSeen, Entered, CannotEnter, IsAsked};
+ghost use Rattle.mt_locked.specs.Seen.{PassSeen, Entered, CannotEnter, IsAsked, IsToForce, is_failed_in, under_way_in};
 ghost use Rattle.mt_locked.specs.Turns.{HasTurned, IsUseOn};
 ghost use Rattle.mt_txn.specs.Answered.{AnswersAbort, AnswersAbortStep, AnswersBegin, AnswersCall, AnswersCommit, AnswersFlush, AnswersForce, AnswersStep};
 ghost use Rattle.mt_txn.specs.Seen.{seen_of};
 ghost use Rattle.mt_txn.specs.Shown.{is_failed};
 ghost use Rattle.mt_txn.specs.Turned.{HasNobody};
+ghost use Rattle.mt_txn.specs.Words.{kernel_book};
 ghost use Rattle.mt_locked.specs.Whole.{HasAllOf, IsOfAll, IsWhole, all_own};
 
-use crate::log_use::{LogUse, log_use_of};
 use crate::names::Naming;
 use crate::pass::Pass;
 use crate::returned_passes::{are_all, meet_all};
@@ -28,7 +28,7 @@ use mt_disk::Device;
 use mt_mark::{End, Entry};
 use mt_model::{Committed, Op};
 use mt_restart::Standing;
-use mt_txn::{AbortStepped, Called, Flushed, Kernel, KernelForced, Stepped};
+use mt_txn::{AbortStepped, Called, Flushed, Kernel, KernelForced, LogUse, Stepped};
 use std::alloc::Global;
 use std::marker::{Model, PhantomData};
 
@@ -48,8 +48,6 @@ pub enum Due {
 pub struct Locked<D: Device, J: Naming> {
     pub(crate) standing: Standing<D>,
     pub(crate) end: End,
-    // the place of the commit that was appended last
-    pub(crate) appended: u64,
     // how many hold new transactions back
     pub(crate) holding: u32,
     // what who tends is to do
@@ -76,24 +74,23 @@ impl<D: Device, J: Naming> Model for Locked<D, J> {
 
     ghost invariant = { λ l. (l.end.mark ≡ J.mark) × (l.end.view.base ≡ J.base) × (l.end.view.book ≡ J.book)
         × IsConfirmed l.end.view
-        × KeepsHistory D.seen D.may_leave J.base (dones l.end.view.list) l.standing };
+        × KeepsHistory J.base (dones l.end.view.list) l.standing };
 }
 
 impl<D: Device, J: Naming> Locked<D, J> {
     /// A kernel with the end of the mark that was made about it. The history is its book, or the first of it.
     pub fn over(kernel: Kernel<D>, end: End) -> Locked<D, J>
         requires name { (end.mark ≡ J.mark) × (end.view.base ≡ J.base) × (end.view.book ≡ J.book) }
-        requires began { BeganOn D.seen D.may_leave J.base kernel }
+        requires began { BeganOn J.base kernel }
         requires confirmed { IsConfirmed end.view }
-        requires front { IsPrefix (dones end.view.list) kernel.core.book.items }
-        ensures book { result.book ≡ kernel.core.book.items }
+        requires front { IsPrefix (dones end.view.list) (kernel_book kernel) }
+        ensures book { result.book ≡ kernel_book kernel }
         ensures list { result.list ≡ end.view.list }
         ensures kernel { result.kernel ≡ Some (seen_of kernel) }
     {
         Locked {
             standing: Standing::Stands(kernel),
             end,
-            appended: 0,
             holding: 0,
             due: Due::Nothing,
             of: PhantomData,
@@ -150,7 +147,9 @@ impl<D: Device, J: Naming> Locked<D, J> {
     }
 
     // Whether each call is refused with 2: the kernel has failed, or none stands.
-    fn has_failed(&self) -> bool {
+    fn has_failed(&self) -> bool
+        ensures { result ≡ is_failed_in self.now.kernel }
+    {
         match &self.standing {
             Standing::Stands(kernel) => kernel.has_failed(),
             Standing::Ended(_) => true,
@@ -166,19 +165,30 @@ impl<D: Device, J: Naming> Locked<D, J> {
     }
 
     /// Whether a commit was appended that is not in the book yet.
-    pub fn is_committing(&mut self) -> bool
-        ensures { self.new ≡ self.old }
+    pub fn is_committing(&self) -> bool
+        ensures { IsTrue result ↔ (0 < length (under_way_in self.now.kernel)) }
     {
-        self.len() < self.appended
+        match &self.standing {
+            Standing::Stands(kernel) => kernel.is_committing(),
+            Standing::Ended(_) => false,
+        }
     }
 
     /// Whether who commits at this place makes force steps: it is the next to be entered, and not in the book yet. If
     /// the device has failed, that is how it is reported.
     pub fn is_to_force(&mut self, place: u64) -> bool
-        ensures { self.new ≡ self.old }
+        ensures same { self.new ≡ self.old }
+        ensures is { IsTrue result ↔ IsToForce self.old place }
     {
-        let is_next = place > 0 && self.end.check() == place - 1;
-        place > self.len() && (is_next || self.has_failed())
+        place > self.len() && (self.is_next(place) || self.has_failed())
+    }
+
+    // Whether the commit at this place is the next to be entered.
+    fn is_next(&mut self, place: u64) -> bool
+        ensures same { self.new ≡ self.old }
+        ensures is { IsTrue result ↔ (length self.old.list + 1 ≡ place) }
+    {
+        place > 0 && self.end.check() == place - 1
     }
 
     /// Begins a transaction, as [`Kernel::begin`]; the book and the history stay.
@@ -196,7 +206,7 @@ impl<D: Device, J: Naming> Locked<D, J> {
     /// Begins an operation, as [`Kernel::call`]; the book and the history stay.
     pub fn call(&mut self, txn: TxnNo, op: &Op) -> Result<Called, Refusal>
         ensures kernel { IsAsked self.old result self.new
-            (λ k n. AnswersCall D.seen D.may_leave k txn op.now result n) }
+            (λ k n. AnswersCall D.Device k txn op.now result n) }
         ensures book { self.new.book ≡ self.old.book }
         ensures list { self.new.list ≡ self.old.list }
     {
@@ -209,7 +219,7 @@ impl<D: Device, J: Naming> Locked<D, J> {
     /// Makes a step of an operation, as [`Kernel::step`]; the book and the history stay.
     pub fn step(&mut self, txn: TxnNo) -> Result<Stepped, Refusal>
         ensures kernel { IsAsked self.old result self.new
-            (λ k n. AnswersStep D.seen D.may_leave D.faults k txn result n) }
+            (λ k n. AnswersStep D.Device k txn result n) }
         ensures book { self.new.book ≡ self.old.book }
         ensures list { self.new.list ≡ self.old.list }
     {
@@ -228,11 +238,7 @@ impl<D: Device, J: Naming> Locked<D, J> {
         let Standing::Stands(kernel) = &mut self.standing else {
             return Err(Refusal::DeviceFailed);
         };
-        let outcome = kernel.commit_begin(txn);
-        if let Ok(place) = &outcome {
-            self.appended = *place;
-        }
-        outcome
+        kernel.commit_begin(txn)
     }
 
     /// Begins an abort, as [`Kernel::abort_begin`]; the book and the history stay.
@@ -250,7 +256,7 @@ impl<D: Device, J: Naming> Locked<D, J> {
     /// Makes a step of an abort, as [`Kernel::abort_step`]; the book and the history stay.
     pub fn abort_step(&mut self, txn: TxnNo) -> Result<AbortStepped, Refusal>
         ensures kernel { IsAsked self.old result self.new
-            (λ k n. AnswersAbortStep D.seen D.may_leave D.faults k txn result n) }
+            (λ k n. AnswersAbortStep D.Device k txn result n) }
         ensures book { self.new.book ≡ self.old.book }
         ensures list { self.new.list ≡ self.old.list }
     {
@@ -262,7 +268,7 @@ impl<D: Device, J: Naming> Locked<D, J> {
 
     /// Flushes a page, as [`Kernel::flush_step`]; the book and the history stay.
     pub fn flush_step(&mut self) -> Result<Flushed, Refusal>
-        ensures kernel { IsAsked self.old result self.new (λ k n. AnswersFlush D.faults k result n) }
+        ensures kernel { IsAsked self.old result self.new (λ k n. AnswersFlush D.Device k result n) }
         ensures book { self.new.book ≡ self.old.book }
         ensures list { self.new.list ≡ self.old.list }
     {
@@ -274,7 +280,7 @@ impl<D: Device, J: Naming> Locked<D, J> {
 
     /// One force step. The book grows at its end.
     pub fn force_step(&mut self) -> Result<KernelForced, Refusal>
-        ensures kernel { IsAsked self.old result self.new (λ k n. AnswersForce D.faults k result n) }
+        ensures kernel { IsAsked self.old result self.new (λ k n. AnswersForce D.Device k result n) }
         ensures book { IsPrefix self.old.book self.new.book }
         ensures list { self.new.list ≡ self.old.list }
     {
@@ -284,8 +290,9 @@ impl<D: Device, J: Naming> Locked<D, J> {
         kernel.force_step()
     }
 
-    /// Flushes a page; if each waits for the log, one step of a force.
+    /// Flushes a page; if each waits for the log, one step of a force. Refused with 1 or 2.
     pub fn make_room(&mut self) -> Result<(), Refusal>
+        ensures why { IfErr result IsRoomRefusal }
         ensures book { IsPrefix self.old.book self.new.book }
         ensures list { self.new.list ≡ self.old.list }
     {
@@ -324,9 +331,9 @@ impl<D: Device, J: Naming> Locked<D, J> {
     fn into_met(self, passes: Vec<Pass<J>>) -> Result<Kernel<D>, Unclosed<D, J>>
         requires whole { IsWhole self }
         requires all { IsOfAll J.book passes.items self.list }
-        ensures own { IfOk result (λ k. HasAllOf k.core.book.items passes.items) }
-        ensures count { IfOk result (λ k. length k.core.book.items ≡ length J.book + all_own passes.items) }
-        ensures began { IfOk result (BeganOn D.seen D.may_leave J.base) }
+        ensures own { IfOk result (λ k. HasAllOf (kernel_book k) passes.items) }
+        ensures count { IfOk result (λ k. length (kernel_book k) ≡ length J.book + all_own passes.items) }
+        ensures began { IfOk result (BeganOn J.base) }
         ensures idle { IfOk result (λ k. is_failed k ≡ false → IsIdle k) }
         ensures why { IfErr result (λ u. IsCloseRefusal u.why) }
         ensures back { IfErr result (λ u. u.passes.items ≡ passes.items) }
@@ -334,7 +341,6 @@ impl<D: Device, J: Naming> Locked<D, J> {
         let Locked {
             standing,
             end,
-            appended,
             holding,
             due,
             of,
@@ -348,7 +354,6 @@ impl<D: Device, J: Naming> Locked<D, J> {
                 let locked = Locked {
                     standing,
                     end,
-                    appended,
                     holding,
                     due,
                     of,
@@ -364,9 +369,9 @@ impl<D: Device, J: Naming> Locked<D, J> {
 
     /// The kernel, once these are all passes and none has a transaction; or all as it was, and why.
     pub fn close(self, passes: Vec<Pass<J>>) -> Result<Kernel<D>, Unclosed<D, J>>
-        ensures own { IfOk result (λ k. HasAllOf k.core.book.items passes.items) }
-        ensures count { IfOk result (λ k. length k.core.book.items ≡ length J.book + all_own passes.items) }
-        ensures began { IfOk result (BeganOn D.seen D.may_leave J.base) }
+        ensures own { IfOk result (λ k. HasAllOf (kernel_book k) passes.items) }
+        ensures count { IfOk result (λ k. length (kernel_book k) ≡ length J.book + all_own passes.items) }
+        ensures began { IfOk result (BeganOn J.base) }
         ensures idle { IfOk result (λ k. is_failed k ≡ false → IsIdle k) }
         ensures why { IfErr result (λ u. IsCloseRefusal u.why) }
         ensures back { IfErr result (λ u. u.passes.items ≡ passes.items) }
@@ -389,7 +394,7 @@ impl<D: Device, J: Naming> Locked<D, J> {
         ensures { IfSome result (IsUseOn ⟦<D as Device>⟧ J.base) }
     {
         match &self.standing {
-            Standing::Stands(kernel) => Some(log_use_of(kernel)),
+            Standing::Stands(kernel) => Some(kernel.log_use()),
             Standing::Ended(_) => None,
         }
     }
@@ -479,12 +484,11 @@ impl<D: Device + Drop, J: Naming> Locked<D, J> {
     /// The device, of the kernel or as a rotation left it. What is active is gone with the kernel. Whatever a crash
     /// leaves of the device, a restart finds what the book leads to, or the book and commits that were under way.
     pub fn into_device(self) -> D
-        ensures { LeavesBook D.may_leave J.base self.book result }
+        ensures { LeavesBook D.Device J.base self.book result }
     {
         let Locked {
             standing,
             end: _,
-            appended: _,
             holding: _,
             due: _,
             of: _,

@@ -3,6 +3,7 @@ ghost use Rattle.std.specs.Prelude.{◌≡◌, ◌↔◌, Ok, true, false, lengt
 ghost use Rattle.mt_locked.specs.Turns.{IsRotation};
 ghost use Rattle.mt_restart.specs.TurnFaults.{IsTurnFault};
 ghost use Rattle.mt_restart.specs.declared.standing.Standing.TheVariants.{Stands};
+ghost use Rattle.mt_txn.specs.Words.{kernel_book};
 
 use mt_base::Refusal;
 use mt_disk::Device;
@@ -36,7 +37,7 @@ fn has_turned(outcome: Result<(), Refusal>) -> Result<bool, Refusal>
 
 // Whether a kernel's book has just so many commits.
 fn has_just<D: Device>(kernel: &Kernel<D>, commits: u64) -> bool
-    ensures { IsTrue result ↔ (length kernel.now.core.book.items ≡ commits) }
+    ensures { IsTrue result ↔ (length (kernel_book kernel.now) ≡ commits) }
 {
     kernel.book().len() as u64 == commits
 }

@@ -1,5 +1,6 @@
 -- What others do on the same device.
 use Rattle.std.proofs.Common.{◌≡◌, inl, inr, ⊎_elim, ℕ, ◌+◌, ◌-◌, ◌<◌, ◌≤◌, List, [], ◌∷◌, ◌++◌, length, get_or, sym, ◌∙◌, subst, arith}
+use Rattle.mt_disk.specs.declared.device.Device.{Ghosts}
 use Rattle.mt_disk.specs.Disk.{Torn, Follows, Apart}
 use Rattle.mt_disk.proofs.Frame.{has_torn, get_torn}
 use Rattle.mt_frame.specs.declared.records.Record.{Record}
@@ -67,14 +68,14 @@ area_elsewhere at n seen seen2 may may2 start end next bs batch stage a apart t 
 }
 
 -- the same, of a log and its device
-pub on_elsewhere : {D : Type 0} (seen : D → List ℕ) (may_leave : D → List ℕ → Type 0) (log : Log) (old new : D) (at n : ℕ) → IsOn seen may_leave log old → Apart at n (area_start log) (area_size log)
-    → Torn at n (seen old) (seen new) → Follows (Torn at n) (may_leave old) (may_leave new) → IsOn seen may_leave log new
+pub on_elsewhere : {D : Type 0} (g : Ghosts D) (log : Log) (old new : D) (at n : ℕ) → IsOn g log old → Apart at n (area_start log) (area_size log)
+    → Torn at n (g.seen old) (g.seen new) → Follows (Torn at n) (g.may_leave old) (g.may_leave new) → IsOn g log new
 unfolding IsOn seen_of
-on_elsewhere seen may_leave log old new at n on apart torn follows =
-    area_elsewhere at n (seen old) (seen new) (may_leave old) (may_leave new) log.place.start log.place.end log.next _ log.in_flight.items log.stage on apart torn follows
+on_elsewhere g log old new at n on apart torn follows =
+    area_elsewhere at n (g.seen old) (g.seen new) (g.may_leave old) (g.may_leave new) log.place.start log.place.end log.next _ log.in_flight.items log.stage on apart torn follows
 
 -- a log of which the same is known, as after an append, is on the device as well
-pub on_same : {D : Type 0} (seen : D → List ℕ) (may_leave : D → List ℕ → Type 0) (old new : Log) (device : D) → stands_at new ≡ stands_at old → IsOn seen may_leave old device → IsOn seen may_leave new device
+pub on_same : {D : Type 0} (g : Ghosts D) (old new : Log) (device : D) → stands_at new ≡ stands_at old → IsOn g old device → IsOn g new device
 unfolding IsOn seen_of
-on_same seen may_leave old new device same on =
-    subst (λ (s : ℕ × ℕ × ℕ × List (List Record) × List Record × Stage). Area (seen device) (may_leave device) s.0 s.1 s.2 s.3 s.4 s.5) (sym same) on
+on_same g old new device same on =
+    subst (λ (s : ℕ × ℕ × ℕ × List (List Record) × List Record × Stage). Area (g.seen device) (g.may_leave device) s.0 s.1 s.2 s.3 s.4 s.5) (sym same) on

@@ -4,7 +4,7 @@ use Rattle.mt_base.specs.declared.refusal.Refusal.{Refusal}
 use Rattle.mt_disk.specs.Disk.{Has}
 use Rattle.mt_frame.specs.declared.records.Record.{Record}
 use Rattle.mt_frame.specs.Grammar.{body_text, batch_text}
-use Rattle.mt_frame.specs.History.{MayFollow, BatchesMayFollow, IsHistory}
+use Rattle.mt_area_rules.specs.History.{MayFollow, BatchesMayFollow, IsHistory}
 use Rattle.mt_frame.proofs.Rows.{one_body}
 use Rattle.mt_log.specs.Batch.{Stands, joined}
 use Rattle.mt_log.specs.Holds.{AreRecords, AreBatches, MayComeNext, BreakNoRule, HoldsBatches, BreaksAt}

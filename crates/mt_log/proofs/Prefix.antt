@@ -3,7 +3,7 @@ use Rattle.std.proofs.Common.{◌≡◌, ◌⊎◌, inl, inr, ℕ, ◌<◌, List
 use Rattle.std.specs.List.{AllByRecursion}
 use Rattle.mt_frame.specs.declared.records.Record.{Record}
 use Rattle.mt_frame.specs.Grammar.{IsRecord}
-use Rattle.mt_frame.specs.History.{may_stand, MayFollow, BatchesMayFollow, IsHistory}
+use Rattle.mt_area_rules.specs.History.{may_stand, MayFollow, BatchesMayFollow, IsHistory}
 use Rattle.mt_log.specs.Batch.{joined}
 use Rattle.mt_log.specs.Area.{ScansWithOrWithout}
 use Rattle.mt_log.specs.Holds.{HasItsPage, AreRecords, AreBatches}

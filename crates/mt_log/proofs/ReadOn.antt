@@ -3,12 +3,13 @@ use Rattle.std.proofs.Common.{◌≡◌, ℕ, ◌+◌, ◌<◌, ◌≤◌, ◌^�
 use Rattle.std.specs.Prelude.{IfSome, IfNone}
 use Rattle.std.specs.Int.{w32, to_be_bytes}
 use Rattle.std.proofs.lemmas.Bool.Decides.{nat_tests}
+use Rattle.mt_disk.specs.declared.device.Device.{Ghosts}
 use Rattle.mt_base.specs.declared.refusal.Refusal.{Refusal}
 use Rattle.mt_disk.specs.Disk.{Has}
 use Rattle.mt_disk.proofs.Frame.{runs_on, same_moment}
 use Rattle.mt_frame.specs.declared.records.Record.{Record}
 use Rattle.mt_frame.specs.Grammar.{IsBody, body_text}
-use Rattle.mt_frame.specs.History.{MayFollow}
+use Rattle.mt_area_rules.specs.History.{MayFollow}
 use Rattle.mt_log.specs.Batch.{Stands, joined}
 use Rattle.mt_log.specs.declared.batch.Batch.{Batch}
 use Rattle.mt_log.specs.Found.{records_of, places_of}
@@ -19,15 +20,15 @@ use Rattle.mt_log.proofs.Prefix.{history_push}
 
 -- ---- runs of reads
 
-module _ {D : Type 0} (seen : D → List ℕ) (may : D → List ℕ → Type 0) (moment : D → ℕ) (left_since : D → ℕ → List ℕ → Type 0) (only_now : (d : D) (c : List ℕ) → left_since d (moment d) c → may d c) where
-  pub reads_none : (d : D) → OnlyReads seen may moment left_since d d
-  reads_none d = record { same = refl; less = λ c left. left; moments = same_moment moment left_since may only_now d }
+module _ {D : Type 0} (g : Ghosts D) (only_now : (d : D) (c : List ℕ) → g.left_since d (g.moment d) c → g.may_leave d c) where
+  pub reads_none : (d : D) → OnlyReads g d d
+  reads_none d = record { same = refl; crash = λ c. (λ left. left, λ left. left); moments = same_moment g.moment g.left_since g.may_leave only_now d }
 
-  pub reads_then : (old mid new : D) → OnlyReads seen may moment left_since old mid → OnlyReads seen may moment left_since mid new → OnlyReads seen may moment left_since old new
+  pub reads_then : (old mid new : D) → OnlyReads g old mid → OnlyReads g mid new → OnlyReads g old new
   reads_then old mid new first second = record {
     same = second.same ∙ first.same;
-    less = λ c left. first.less c (second.less c left);
-    moments = runs_on moment left_since may only_now old mid new first.moments second.moments first.less;
+    crash = λ c. (λ left. (first.crash c).0 ((second.crash c).0 left), λ left. (second.crash c).1 ((first.crash c).1 left));
+    moments = runs_on g.moment g.left_since g.may_leave only_now old mid new first.moments second.moments (λ c left. (first.crash c).0 left);
   }
 
 -- ---- one batch more

@@ -1,5 +1,6 @@
 -- Which slot rules while the next one is made to.
-use Rattle.std.proofs.Common.{◌≡◌, ◌⊎◌, inl, inr, ⊎_elim, ◌<◌, ◌≤◌, ◌+◌, ◌*◌, ◌^◌, ℕ, zero, suc, List, [], ◌∷◌, length, take, drop, refl, ap, sym, subst, arith}
+use Rattle.std.proofs.Common.{◌≡◌, ◌⊎◌, inl, inr, ⊎_elim, ◌<◌, ◌≤◌, ◌+◌, ◌^◌, ℕ, List, [], ◌∷◌, length, take, drop, refl, ap, sym, subst, arith}
+use Rattle.mt_disk.specs.declared.device.Device.{Ghosts}
 use Rattle.mt_base.specs.Limits.{device_bytes_of}
 use Rattle.mt_disk.specs.Disk.{Follows, Has, LeavesOnly, Only, Torn, Wrote}
 use Rattle.mt_disk.proofs.Frame.{leaves_more, one_of, runs_both, torn_refl, torn_trans, torn_within}
@@ -7,7 +8,7 @@ use Rattle.mt_frame.specs.Laws.{OneSlot}
 use Rattle.mt_frame.specs.SlotText.{IsSlot, slot_text}
 use Rattle.mt_frame.specs.declared.slots.MasterSlot.{MasterSlot}
 use Rattle.mt_log.specs.Area.{TornFrom}
-use Rattle.mt_log.specs.Masters.{AreSlots, IsBefore, IsClosedAt, IsOpenAt, IsRuling, Rules, area_end, area_size}
+use Rattle.mt_log.specs.Masters.{AreSlots, IsBefore, IsClosedAt, IsOpenAt, IsRuling, Rules}
 use Rattle.mt_log.specs.Quiet.{OnlyReads}
 use Rattle.mt_log.proofs.Ruling.{apart_of, behind_one, behind_size, close_one, gate_one, not_closed, one_open}
 use Rattle.mt_log.specs.NextSlot.{TurnsTo, next_slot}
@@ -40,18 +41,6 @@ ruling_fits c slot (inr second) = second.own.fits
 pub long_of : (c : List ℕ) (slot : MasterSlot) → IsRuling c slot → device_bytes_of slot.pages slot.mib ≤ length c
 long_of c slot r = ⊎_elim (λ (first : Rules c 0 4096 slot). first.own.long) (λ (second : Rules c 4096 0 slot). second.own.long) r
 
-at_most : (a n : ℕ) → a ≤ 1 → a * n ≤ n
-at_most zero n le = omega arith
-at_most (suc zero) n le = omega arith
-at_most (suc (suc a)) n le = absurd (omega arith)
-
--- the area that it names is within the device
-pub area_within : (c : List ℕ) (slot : MasterSlot) → IsRuling c slot → area_end slot ≤ length c
-area_within c slot r =
-    let long = long_of c slot r in
-    let low = at_most slot.area (area_size slot) (ruling_fits c slot r).area in
-    omega (arith, long, low)
-
 -- where its text stands at the first place
 pub rules_first : OneSlot → (c : List ℕ) (slot : MasterSlot) → IsRuling c slot → Has c 0 (slot_text slot) → Rules c 0 4096 slot
 rules_first one_slot c slot (inl first) text = first
@@ -72,29 +61,29 @@ rules_second c slot (inr second) none = second
 pub slots_below : (at other : ℕ) → AreSlots at other → at + 17 ≤ 8192
 slots_below at other = ⊎_elim (λ (first : (at ≡ 0) × (other ≡ 4096)). omega (arith, first.0)) (λ (second : (at ≡ 4096) × (other ≡ 0)). omega (arith, second.0))
 
-module _ {D : Type 0} (seen : D → List ℕ) (may : D → List ℕ → Type 0) (moment : D → ℕ) (left_since : D → ℕ → List ℕ → Type 0) (ruling : MasterSlot) where
+module _ {D : Type 0} (g : Ghosts D) (ruling : MasterSlot) where
   -- a read
-  pub read_turns : (old new : D) → Only (seen old) (may old) → IsRuling (seen old) ruling → OnlyReads seen may moment left_since old new → LeavesOnly moment left_since old new (TurnsTo ruling (may old))
-  read_turns old new only rules reads = leaves_more moment left_since old new (may old) (TurnsTo ruling (may old)) reads.moments (λ c left. record {
+  pub read_turns : (old new : D) → Only (g.seen old) (g.may_leave old) → IsRuling (g.seen old) ruling → OnlyReads g old new → LeavesOnly g.moment g.left_since old new (TurnsTo ruling (g.may_leave old))
+  read_turns old new only rules reads = leaves_more g.moment g.left_since old new (g.may_leave old) (TurnsTo ruling (g.may_leave old)) reads.moments (λ c left. record {
     rules = inl (subst (λ (x : List ℕ). IsRuling x ruling) (sym (only c left)) rules);
     from = (c, left, torn_refl 0 8192 c);
   })
 
   -- a write where a crash leaves one content
-  pub write_turns : (p n : ℕ) (old new : D) → p + n ≤ 8192 → Only (seen old) (may old) → ((c : List ℕ) → Torn p n (seen old) c → IsRuling c ruling ⊎ IsRuling c (next_slot ruling))
-      → LeavesOnly moment left_since old new (TornFrom (may old) p n) → LeavesOnly moment left_since old new (TurnsTo ruling (may old))
-  write_turns p n old new below only rules moments = leaves_more moment left_since old new (TornFrom (may old) p n) (TurnsTo ruling (may old)) moments (λ c from. record {
+  pub write_turns : (p n : ℕ) (old new : D) → p + n ≤ 8192 → Only (g.seen old) (g.may_leave old) → ((c : List ℕ) → Torn p n (g.seen old) c → IsRuling c ruling ⊎ IsRuling c (next_slot ruling))
+      → LeavesOnly g.moment g.left_since old new (TornFrom (g.may_leave old) p n) → LeavesOnly g.moment g.left_since old new (TurnsTo ruling (g.may_leave old))
+  write_turns p n old new below only rules moments = leaves_more g.moment g.left_since old new (TornFrom (g.may_leave old) p n) (TurnsTo ruling (g.may_leave old)) moments (λ c from. record {
     rules = rules c (subst (λ (x : List ℕ). Torn p n x c) (only from.0 from.1) from.2);
     from = (from.0, from.1, torn_within p n 0 8192 from.0 c from.2 (omega arith) (omega (arith, below)));
   })
 
   -- calls behind others
-  pub then_turns : (old mid new : D) → LeavesOnly moment left_since old mid (TurnsTo ruling (may old)) → Follows (Torn 0 8192) (may old) (may mid) → LeavesOnly moment left_since mid new (TurnsTo ruling (may mid))
-      → LeavesOnly moment left_since old new (TurnsTo ruling (may old))
-  then_turns old mid new first follows second = runs_both moment left_since old mid new (TurnsTo ruling (may old)) first
-      (leaves_more moment left_since mid new (TurnsTo ruling (may mid)) (TurnsTo ruling (may old)) second (λ c turns.
-      let last : (e : List ℕ) × may mid e × Torn 0 8192 e c = turns.from in
-      let before : (d : List ℕ) × may old d × Torn 0 8192 d last.0 = follows last.0 last.1 in
+  pub then_turns : (old mid new : D) → LeavesOnly g.moment g.left_since old mid (TurnsTo ruling (g.may_leave old)) → Follows (Torn 0 8192) (g.may_leave old) (g.may_leave mid) → LeavesOnly g.moment g.left_since mid new (TurnsTo ruling (g.may_leave mid))
+      → LeavesOnly g.moment g.left_since old new (TurnsTo ruling (g.may_leave old))
+  then_turns old mid new first follows second = runs_both g.moment g.left_since old mid new (TurnsTo ruling (g.may_leave old)) first
+      (leaves_more g.moment g.left_since mid new (TurnsTo ruling (g.may_leave mid)) (TurnsTo ruling (g.may_leave old)) second (λ c turns.
+      let last : (e : List ℕ) × g.may_leave mid e × Torn 0 8192 e c = turns.from in
+      let before : (d : List ℕ) × g.may_leave old d × Torn 0 8192 d last.0 = follows last.0 last.1 in
       record { rules = turns.rules; from = (before.0, before.1, torn_trans 0 8192 before.0 last.0 c before.2 last.2) }))
 
 -- ---- the gate beside the ruling slot is closed
@@ -142,9 +131,9 @@ module _ (at other : ℕ) (slots : AreSlots at other) (ruling : MasterSlot) (mor
       (opens_one d c before has wrote.rest)
 
   -- a crash while it is written
-  pub behind_turns : {D : Type 0} (seen : D → List ℕ) (may : D → List ℕ → Type 0) (moment : D → ℕ) (left_since : D → ℕ → List ℕ → Type 0) (old mid : D) → Only (seen old) (may old) → Rules (seen old) other at ruling → IsClosedAt (seen old) at
-      → LeavesOnly moment left_since old mid (TornFrom (may old) (at + 1) (length (take 16 (drop 1 text)))) → LeavesOnly moment left_since old mid (TurnsTo ruling (may old))
-  behind_turns seen may moment left_since old mid only r closed moments =
+  pub behind_turns : {D : Type 0} (g : Ghosts D) (old mid : D) → Only (g.seen old) (g.may_leave old) → Rules (g.seen old) other at ruling → IsClosedAt (g.seen old) at
+      → LeavesOnly g.moment g.left_since old mid (TornFrom (g.may_leave old) (at + 1) (length (take 16 (drop 1 text)))) → LeavesOnly g.moment g.left_since old mid (TurnsTo ruling (g.may_leave old))
+  behind_turns g old mid only r closed moments =
       let below = slots_below at other slots in
-      write_turns seen may moment left_since ruling (at + 1) (length (take 16 (drop 1 text))) old mid (let n = size in omega (arith, below, n)) only
-      (λ c torn. inl (rules_own c other at ruling (slots_turned at other slots) (behind_gate (seen old) c r closed torn).0)) moments
+      write_turns g ruling (at + 1) (length (take 16 (drop 1 text))) old mid (let n = size in omega (arith, below, n)) only
+      (λ c torn. inl (rules_own c other at ruling (slots_turned at other slots) (behind_gate (g.seen old) c r closed torn).0)) moments

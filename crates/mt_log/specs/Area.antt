@@ -41,7 +41,8 @@ gate_behind Failed next batch = next + 5 + length (body_text batch)
 
 -- The area of a log lies from start to end: the durable batches stand up to `next`, whatever a crash
 -- leaves, and what it leaves of the batch after them is as the stage of its force says.
-pub record Area (seen : List ℕ) (may_leave : List ℕ → Type 0) (start end next : ℕ) (batches : List (List Record)) (batch : List Record) (stage : Stage) : Type 0 where
+pub record Area (seen : List ℕ) (may_leave : List ℕ → Type 0) (start end next : ℕ) (batches : List (List Record))
+    (batch : List Record) (stage : Stage) : Type 0 where
   pub within : end ≤ length seen
   pub order : start ≤ next
   pub room : gate_behind stage next batch < end
@@ -58,10 +59,14 @@ step_behind SyncGate = SyncGate
 
 -- the same, after the device call of this step of a force went well
 abbrev pub AreaAfter : Step → List ℕ → (List ℕ → Type 0) → ℕ → ℕ → ℕ → List (List Record) → List Record → Type 0
-AreaAfter WriteBody seen may_leave start end next batches batch = Area seen may_leave start end next batches batch (Forcing SyncBody)
-AreaAfter SyncBody seen may_leave start end next batches batch = Area seen may_leave start end next batches batch (Forcing WriteGate)
-AreaAfter WriteGate seen may_leave start end next batches batch = Area seen may_leave start end next batches batch (Forcing SyncGate)
-AreaAfter SyncGate seen may_leave start end next batches batch = Area seen may_leave start end (next + 5 + length (body_text batch)) (batches ++ batch ∷ []) [] Idle
+AreaAfter WriteBody seen may_leave start end next batches batch =
+    Area seen may_leave start end next batches batch (Forcing SyncBody)
+AreaAfter SyncBody seen may_leave start end next batches batch =
+    Area seen may_leave start end next batches batch (Forcing WriteGate)
+AreaAfter WriteGate seen may_leave start end next batches batch =
+    Area seen may_leave start end next batches batch (Forcing SyncGate)
+AreaAfter SyncGate seen may_leave start end next batches batch =
+    Area seen may_leave start end (next + 5 + length (body_text batch)) (batches ++ batch ∷ []) [] Idle
 
 -- reading the area finds these batches, or these and one more after them
 abbrev pub ScansWithOrWithout : ℕ → ℕ → List (List Record) → List Record → List ℕ → Type 0

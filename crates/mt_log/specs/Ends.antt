@@ -7,7 +7,7 @@ use Rattle.mt_disk.specs.Disk.{Follows, Torn}
 use Rattle.mt_disk.specs.declared.device.Device.{Ghosts}
 use Rattle.mt_log.specs.Area.{ScansWithOrWithout, TornFrom}
 use Rattle.mt_log.specs.Seen.{landed}
-use Rattle.mt_log.specs.Words.{LiesOn, area_end, area_size, area_start, durable_batches, in_flight, seen_of}
+use Rattle.mt_log.specs.Words.{LiesOn, area_end, area_size, area_start, seen_of}
 use Rattle.mt_log.specs.declared.log.Log.{Log}
 
 module _ {D : Type 0} (g : Ghosts D) where

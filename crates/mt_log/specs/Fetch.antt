@@ -2,6 +2,7 @@
 use Rattle.std.specs.Global.{Global}
 use Rattle.std.specs.Int.{w32, to_be_bytes}
 use Rattle.std.specs.Prelude.{◌≡◌, ◌⊎◌, ◌↔◌, ◌+◌, ◌<◌, ◌≤◌, ◌^◌, ℕ, Bool, IsTrue, List, slice_index, Option, None, Some, Result, IfErr, IfOk, Err, OnOk, Vec, vec_len}
+use Rattle.mt_disk.specs.declared.device.Device.{Ghosts}
 use Rattle.mt_base.specs.declared.refusal.Refusal.{Refusal}
 use Rattle.mt_disk.specs.Disk.{Has, HasCause}
 use Rattle.mt_frame.specs.declared.TheConstants.{OPEN_GATE}
@@ -17,15 +18,16 @@ abbrev pub TellsGate : List ℕ → ℕ → Bool → Type 0
 TellsGate c at is_open = IsTrue is_open ↔ (slice_index c at ≡ OPEN_GATE)
 
 -- what is read of the device is this, and nothing on it changes
-pub record Reads {D T F : Type 0} (seen : D → List ℕ) (may_leave : D → List ℕ → Type 0) (moment : D → ℕ) (left_since : D → ℕ → List ℕ → Type 0) (failures : D → ℕ) (IsThis : T → Type 0) (d e : D) (r : Result T F) : Type 0 where
+pub record Reads {D T F : Type 0} (g : Ghosts D) (IsThis : T → Type 0) (d e : D) (r : Result T F) : Type 0 where
   pub is : IfOk r IsThis
-  pub reads : OnlyReads seen may_leave moment left_since d e
-  pub cause : HasCause (failures d) (failures e) r
+  pub reads : OnlyReads g d e
+  pub cause : HasCause (g.faults d) (g.faults e) r
 
 -- so many bytes are read from this place on
-pub record ReadsInto {D T : Type 0} (seen : D → List ℕ) (may_leave : D → List ℕ → Type 0) (moment : D → ℕ) (left_since : D → ℕ → List ℕ → Type 0) (failures : D → ℕ) (at n : ℕ) (buffer : Vec ℕ Global) (d e : D) (r : Result T Refusal) : Type 0 where
-  pub bytes : OnOk r (Has (seen d) at buffer.items)
+pub record ReadsInto {D T : Type 0} (g : Ghosts D) (at n : ℕ) (buffer : Vec ℕ Global) (d e : D)
+    (r : Result T Refusal) : Type 0 where
+  pub bytes : OnOk r (Has (g.seen d) at buffer.items)
   pub size : OnOk r (vec_len buffer ≡ n)
-  pub reads : OnlyReads seen may_leave moment left_since d e
-  pub quiet : (r ≡ Err Refusal.DeviceFailed → ⊥) → failures e ≡ failures d
-  pub cause : IfErr r (λ why. (why ≡ Refusal.NoMemory) ⊎ (why ≡ Refusal.DeviceFailed) × (failures d < failures e))
+  pub reads : OnlyReads g d e
+  pub quiet : (r ≡ Err Refusal.DeviceFailed → ⊥) → g.faults e ≡ g.faults d
+  pub cause : IfErr r (λ why. (why ≡ Refusal.NoMemory) ⊎ (why ≡ Refusal.DeviceFailed) × (g.faults d < g.faults e))

@@ -2,7 +2,7 @@
 use Rattle.std.specs.Prelude.{◌<◌, ◌≡◌, ◌+◌, ◌-◌, ℕ, List, [], ◌∷◌, length, true, false}
 use Rattle.mt_frame.specs.declared.records.Record.{Record}
 use Rattle.mt_frame.specs.Grammar.{body_text}
-use Rattle.mt_frame.specs.History.{MayFollow}
+use Rattle.mt_area_rules.specs.History.{MayFollow}
 use Rattle.mt_log.specs.Holds.{AreRecords}
 use Rattle.mt_log.specs.Seen.{first_log, landed}
 use Rattle.mt_log.specs.Sound.{IsSound}

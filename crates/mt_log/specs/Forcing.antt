@@ -68,25 +68,30 @@ pub record Seals (old new : Log) : Type 0 where
   pub behind : new.behind ≡ old.behind + 1 + vec_len old.pending
 
 -- the device call of a step: the area is as after that step, or as the device has left it
-pub record CallsDevice {D T F : Type 0} (seen : D → List ℕ) (may_leave : D → List ℕ → Type 0) (moment : D → ℕ) (left_since : D → ℕ → List ℕ → Type 0) (failures : D → ℕ) (log : Log) (step : Step) (d e : D) (r : Result T F) : Type 0 where
-  pub done : OnOk r (AreaAfter step (seen e) (may_leave e) log.place.start log.place.end log.next (map (λ batch. batch.items) log.batches.items) log.in_flight.items)
-  pub failed : OnErr r (Area (seen e) (may_leave e) log.place.start log.place.end log.next (map (λ batch. batch.items) log.batches.items) log.in_flight.items Failed)
-  pub time : Elapses (moment d) (moment e) (left_since d) (left_since e) (may_leave e)
-  pub elsewhere : Follows (Torn log.place.start (log.place.end - log.place.start)) (may_leave d) (may_leave e)
-  pub rest : Torn log.place.start (log.place.end - log.place.start) (seen d) (seen e)
-  pub alone : step ≡ SyncGate → OnOk r (Only (seen e) (may_leave e))
-  pub cause : HasCause (failures d) (failures e) r
+pub record CallsDevice {D T F : Type 0} (g : Ghosts D) (log : Log) (step : Step) (d e : D)
+    (r : Result T F) : Type 0 where
+  pub done : OnOk r (AreaAfter step (g.seen e) (g.may_leave e) log.place.start log.place.end log.next
+      (map (λ batch. batch.items) log.batches.items) log.in_flight.items)
+  pub failed : OnErr r (Area (g.seen e) (g.may_leave e) log.place.start log.place.end log.next
+      (map (λ batch. batch.items) log.batches.items) log.in_flight.items Failed)
+  pub time : Elapses (g.moment d) (g.moment e) (g.left_since d) (g.left_since e) (g.may_leave e)
+  pub elsewhere : Follows (Torn log.place.start (log.place.end - log.place.start)) (g.may_leave d) (g.may_leave e)
+  pub rest : Torn log.place.start (log.place.end - log.place.start) (g.seen d) (g.seen e)
+  pub alone : step ≡ SyncGate → OnOk r (Only (g.seen e) (g.may_leave e))
+  pub cause : HasCause (g.faults d) (g.faults e) r
 
 -- a device call of a step, with what it comes to
-pub record MakesCall {D : Type 0} (seen : D → List ℕ) (may_leave : D → List ℕ → Type 0) (moment : D → ℕ) (left_since : D → ℕ → List ℕ → Type 0) (failures : D → ℕ) (old new : Log) (step : Step) (d e : D) (r : Result Forced Refusal) : Type 0 where
-  pub on : AreaOf (seen e) (may_leave e) new
+pub record MakesCall {D : Type 0} (g : Ghosts D) (old new : Log) (step : Step) (d e : D)
+    (r : Result Forced Refusal) : Type 0 where
+  pub on : AreaOf (g.seen e) (g.may_leave e) new
   pub call : IsCall old step r new
-  pub moments : LeavesOnly moment left_since d e (ScansWithOrWithout old.place.start old.place.end (map (λ batch. batch.items) old.batches.items) old.in_flight.items)
-  pub time : Elapses (moment d) (moment e) (left_since d) (left_since e) (may_leave e)
-  pub elsewhere : Follows (Torn old.place.start (old.place.end - old.place.start)) (may_leave d) (may_leave e)
-  pub rest : Torn old.place.start (old.place.end - old.place.start) (seen d) (seen e)
-  pub alone : IfOk r (λ forced. IsLast forced → Only (seen e) (may_leave e))
-  pub cause : HasCause (failures d) (failures e) r
+  pub moments : LeavesOnly g.moment g.left_since d e (ScansWithOrWithout old.place.start old.place.end
+      (map (λ batch. batch.items) old.batches.items) old.in_flight.items)
+  pub time : Elapses (g.moment d) (g.moment e) (g.left_since d) (g.left_since e) (g.may_leave e)
+  pub elsewhere : Follows (Torn old.place.start (old.place.end - old.place.start)) (g.may_leave d) (g.may_leave e)
+  pub rest : Torn old.place.start (old.place.end - old.place.start) (g.seen d) (g.seen e)
+  pub alone : IfOk r (λ forced. IsLast forced → Only (g.seen e) (g.may_leave e))
+  pub cause : HasCause (g.faults d) (g.faults e) r
 
 -- A step of a force fails if and only if the device failed in it or before.
 pub record ReportsFault {D T F : Type 0} (g : Ghosts D) (was : LogSeen) (d e : D) (r : Result T F) : Type 0 where

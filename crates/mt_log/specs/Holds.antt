@@ -7,7 +7,7 @@ use Rattle.mt_disk.specs.Disk.{Has}
 use Rattle.mt_frame.specs.declared.records.Record.{Record}
 use Rattle.mt_frame.specs.declared.records.Record.TheVariants.{Page, OpEnd, OpDropped, Commit, AbortEnd}
 use Rattle.mt_frame.specs.Grammar.{IsRecord, body_text, batch_text}
-use Rattle.mt_frame.specs.History.{MayFollow, IsHistory}
+use Rattle.mt_area_rules.specs.History.{MayFollow, IsHistory}
 use Rattle.mt_log.specs.Batch.{Stands, Scans, joined}
 
 -- ---- batches
@@ -53,7 +53,8 @@ pub record HoldsBatches (c : List ℕ) (start end pages : ℕ) (batches : List (
   pub rules : IsHistory batches
 
 -- the batch stands at this place, with the next gate before the area's end, and breaks no rule after those before it
-pub record IsNextBatch (c : List ℕ) (place end pages : ℕ) (before : List (List Record)) (batch : List Record) : Type 0 where
+pub record IsNextBatch (c : List ℕ) (place end pages : ℕ) (before : List (List Record))
+    (batch : List Record) : Type 0 where
   pub text : Has c place (batch_text batch)
   pub fits : place + 5 + length (body_text batch) < end
   pub each : AreRecords pages batch

@@ -4,7 +4,7 @@ use Rattle.mt_base.specs.declared.refusal.Refusal.{Refusal}
 use Rattle.mt_disk.specs.Calls.{Meanwhile}
 use Rattle.mt_disk.specs.declared.device.Device.{Ghosts}
 use Rattle.mt_frame.specs.Grammar.{IsRecord, body_text}
-use Rattle.mt_frame.specs.History.{may_stand}
+use Rattle.mt_area_rules.specs.History.{may_stand}
 use Rattle.mt_frame.specs.Lengths.{record_length}
 use Rattle.mt_frame.specs.declared.records.Record.{Record}
 use Rattle.mt_log.specs.First.{HasBegun, IsBegun}
@@ -28,7 +28,8 @@ StepsSayAll =
 abbrev pub AppendsKeepRules : Type 0
 AppendsKeepRules =
     (pages : ℕ) (old new : Log) (entry : Record) → seen_of new ≡ with_record (seen_of old) entry
-    → IsRecord entry → HasItsPage pages entry → may_stand false (appended old) entry ≡ true → IsSound pages old → IsSound pages new
+    → IsRecord entry → HasItsPage pages entry → may_stand false (appended old) entry ≡ true → IsSound pages old
+    → IsSound pages new
 
 -- a record that waits takes its length, and a head of 5 bytes
 abbrev pub AppendsTakeBytes : Type 0
@@ -58,12 +59,15 @@ LeavesBeginningMeanwhile g log old new =
 
 -- it holds one row of batches
 abbrev pub OneRow : Type 0
-OneRow = (c : List ℕ) (start end pages : ℕ) (xs ys : List (List Record)) → end < start + 2 ^ 32 → HoldsBatches c start end pages xs → HoldsBatches c start end pages ys → xs ≡ ys
+OneRow = (c : List ℕ) (start end pages : ℕ) (xs ys : List (List Record)) → end < start + 2 ^ 32
+    → HoldsBatches c start end pages xs → HoldsBatches c start end pages ys → xs ≡ ys
 
 -- and then breaks the grammar nowhere
 abbrev pub NotBoth : Type 0
-NotBoth = (c : List ℕ) (start end pages place : ℕ) (xs : List (List Record)) → end < start + 2 ^ 32 → HoldsBatches c start end pages xs → BreaksAt c start end pages place → ⊥
+NotBoth = (c : List ℕ) (start end pages place : ℕ) (xs : List (List Record)) → end < start + 2 ^ 32
+    → HoldsBatches c start end pages xs → BreaksAt c start end pages place → ⊥
 
 -- or breaks the grammar at one place first
 abbrev pub OneFirstPlace : Type 0
-OneFirstPlace = (c : List ℕ) (start end pages p q : ℕ) → end < start + 2 ^ 32 → BreaksAt c start end pages p → BreaksAt c start end pages q → p ≡ q
+OneFirstPlace = (c : List ℕ) (start end pages p q : ℕ) → end < start + 2 ^ 32 → BreaksAt c start end pages p
+    → BreaksAt c start end pages q → p ≡ q

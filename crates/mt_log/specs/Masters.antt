@@ -87,7 +87,6 @@ BreaksMaster c at = ((at ≡ 0) × IsBadAt c 0) ⊎ ((at ≡ PAGE_BYTES) × (IsB
 
 -- the newer one rules, if one may
 abbrev pub IsNewer : MasterSlot → MasterSlot → Result MasterSlot Refusal → Type 0
-IsNewer first second (Ok slot) =
-    ((slot ≡ first) × IsBefore second first) ⊎ ((slot ≡ second) × IsBefore first second)
+IsNewer first second (Ok slot) = ((slot ≡ first) × IsBefore second first) ⊎ ((slot ≡ second) × IsBefore first second)
 IsNewer first second (Err why) =
     (why ≡ BadFormat PAGE_BYTES) × (IsBefore first second → ⊥) × (IsBefore second first → ⊥)

@@ -1,5 +1,6 @@
 -- The master slot that rules next, and what a crash leaves while it comes to rule.
 use Rattle.std.specs.Prelude.{◌⊎◌, ◌+◌, ◌-◌, ℕ, List, OnOk, Result}
+use Rattle.mt_disk.specs.declared.device.Device.{Ghosts}
 use Rattle.mt_base.specs.declared.limits.TheConstants.{MASTER_BYTES}
 use Rattle.mt_frame.specs.declared.slots.MasterSlot.{MasterSlot}
 use Rattle.mt_log.specs.Area.{TornFrom}
@@ -16,20 +17,23 @@ pub record TurnsTo (ruling : MasterSlot) (contents : List ℕ → Type 0) (c : L
   pub from : TornFrom contents 0 MASTER_BYTES c
 
 -- The gate at this place is closed, and the slot at the other one rules as before; or the device failed.
-pub record ClosesBeside {D : Type 0} (seen : D → List ℕ) (may_leave : D → List ℕ → Type 0) (moment : D → ℕ) (left_since : D → ℕ → List ℕ → Type 0) (failures : D → ℕ) {T F : Type 0} (at other : ℕ) (d e : D) (r : Result T F) : Type 0 where
-  pub closed : OnOk r (IsClosedAt (seen e) at)
-  pub rules : OnOk r ((ruling : MasterSlot) → Rules (seen d) other at ruling → Rules (seen e) other at ruling)
-  pub durable : OnOk r (Only (seen e) (may_leave e))
-  pub moments : (ruling : MasterSlot) → Rules (seen d) other at ruling → LeavesOnly moment left_since d e (TurnsTo ruling (may_leave d))
-  pub elsewhere : Follows (Torn 0 MASTER_BYTES) (may_leave d) (may_leave e)
-  pub rest : Torn 0 MASTER_BYTES (seen d) (seen e)
-  pub cause : HasCause (failures d) (failures e) r
+pub record ClosesBeside {D : Type 0} (g : Ghosts D) {T F : Type 0} (at other : ℕ) (d e : D)
+    (r : Result T F) : Type 0 where
+  pub closed : OnOk r (IsClosedAt (g.seen e) at)
+  pub rules : OnOk r ((ruling : MasterSlot) → Rules (g.seen d) other at ruling → Rules (g.seen e) other at ruling)
+  pub durable : OnOk r (Only (g.seen e) (g.may_leave e))
+  pub moments : (ruling : MasterSlot) → Rules (g.seen d) other at ruling
+      → LeavesOnly g.moment g.left_since d e (TurnsTo ruling (g.may_leave d))
+  pub elsewhere : Follows (Torn 0 MASTER_BYTES) (g.may_leave d) (g.may_leave e)
+  pub rest : Torn 0 MASTER_BYTES (g.seen d) (g.seen e)
+  pub cause : HasCause (g.faults d) (g.faults e) r
 
 -- The next slot rules beside this one, or the device failed.
-pub record TurnsBeside {D : Type 0} (seen : D → List ℕ) (may_leave : D → List ℕ → Type 0) (moment : D → ℕ) (left_since : D → ℕ → List ℕ → Type 0) (failures : D → ℕ) {T F : Type 0} (ruling : MasterSlot) (d e : D) (r : Result T F) : Type 0 where
-  pub rules : OnOk r (IsRuling (seen e) (next_slot ruling))
-  pub durable : OnOk r (Only (seen e) (may_leave e))
-  pub moments : LeavesOnly moment left_since d e (TurnsTo ruling (may_leave d))
-  pub elsewhere : Follows (Torn 0 MASTER_BYTES) (may_leave d) (may_leave e)
-  pub rest : Torn 0 MASTER_BYTES (seen d) (seen e)
-  pub cause : HasCause (failures d) (failures e) r
+pub record TurnsBeside {D : Type 0} (g : Ghosts D) {T F : Type 0} (ruling : MasterSlot) (d e : D)
+    (r : Result T F) : Type 0 where
+  pub rules : OnOk r (IsRuling (g.seen e) (next_slot ruling))
+  pub durable : OnOk r (Only (g.seen e) (g.may_leave e))
+  pub moments : LeavesOnly g.moment g.left_since d e (TurnsTo ruling (g.may_leave d))
+  pub elsewhere : Follows (Torn 0 MASTER_BYTES) (g.may_leave d) (g.may_leave e)
+  pub rest : Torn 0 MASTER_BYTES (g.seen d) (g.seen e)
+  pub cause : HasCause (g.faults d) (g.faults e) r

@@ -1,9 +1,17 @@
 -- Runs of device calls that change nothing.
 use Rattle.std.specs.Prelude.{◌≡◌, ℕ, List}
-use Rattle.mt_disk.specs.Disk.{LeavesOnly}
+use Rattle.mt_disk.specs.declared.device.Device.{Ghosts}
+use Rattle.mt_disk.specs.Disk.{LeavesOnly, LeavesTheSame}
 
--- nothing on the device changed, nor what a crash may leave of it
-pub record OnlyReads {D : Type 0} (seen : D → List ℕ) (may_leave : D → List ℕ → Type 0) (moment : D → ℕ) (left_since : D → ℕ → List ℕ → Type 0) (old new : D) : Type 0 where
-  pub same : seen new ≡ seen old
-  pub less : (c : List ℕ) → may_leave new c → may_leave old c
-  pub moments : LeavesOnly moment left_since old new (may_leave old)
+-- Nothing on the device changed, and a crash may leave just what it might have left before: it was read, and neither
+-- written nor synced.
+pub record OnlyReads {D : Type 0} (g : Ghosts D) (old new : D) : Type 0 where
+  pub same : g.seen new ≡ g.seen old
+  pub crash : LeavesTheSame (g.may_leave old) (g.may_leave new)
+  pub moments : LeavesOnly g.moment g.left_since old new (g.may_leave old)
+
+-- Nothing on the device changed, and a crash leaves no more than it might have left before: it was read or synced.
+pub record OnlyReadsOrSyncs {D : Type 0} (g : Ghosts D) (old new : D) : Type 0 where
+  pub same : g.seen new ≡ g.seen old
+  pub less : (c : List ℕ) → g.may_leave new c → g.may_leave old c
+  pub moments : LeavesOnly g.moment g.left_since old new (g.may_leave old)

@@ -1,7 +1,8 @@
 -- What a scan knows of what it has read.
 use Rattle.std.specs.Prelude.{◌≡◌, ◌≢◌, ◌⊎◌, ◌<◌, ℕ, Bool, true, false, List, Result, Ok, IfErr, Err, OnOk, slice_index}
+use Rattle.mt_disk.specs.declared.device.Device.{Ghosts}
 use Rattle.mt_base.specs.declared.refusal.Refusal.{Refusal}
-use Rattle.mt_frame.specs.Known.{Knows}
+use Rattle.mt_area_rules.specs.Known.{Knows}
 use Rattle.mt_frame.specs.declared.TheConstants.{OPEN_GATE}
 use Rattle.mt_log.specs.Batch.{Stands, joined}
 use Rattle.mt_log.specs.Found.{records_of, places_of}
@@ -18,13 +19,15 @@ pub record HasRead (c : List ℕ) (reading : Reading) : Type 0 where
   pub known : Knows reading.rules (joined (records_of reading.found.items))
 
 -- the next batch is read, if its gate is open
-pub record ReadsBatch {D : Type 0} (seen : D → List ℕ) (may_leave : D → List ℕ → Type 0) (moment : D → ℕ) (left_since : D → ℕ → List ℕ → Type 0) (failures : D → ℕ) (old new : Reading) (d e : D) (r : Result Bool Refusal) : Type 0 where
-  pub read : OnOk r (HasRead (seen d) new)
+pub record ReadsBatch {D : Type 0} (g : Ghosts D) (old new : Reading) (d e : D) (r : Result Bool Refusal) : Type 0 where
+  pub read : OnOk r (HasRead (g.seen d) new)
   pub place : new.place ≡ old.place
   pub pages : new.pages ≡ old.pages
   pub more : r ≡ Ok true → old.next < new.next
-  pub ended : r ≡ Ok false → slice_index (seen d) new.next ≢ OPEN_GATE
-  pub bad : IfErr r (λ why. (at : ℕ) → why ≡ Refusal.BadFormat at → BreaksAt (seen d) old.place.start old.place.end old.pages at)
-  pub cause : IfErr r (λ why. (why ≡ Refusal.NoMemory) ⊎ (((why ≡ Refusal.DeviceFailed) × (failures d < failures e)) ⊎ ((at : ℕ) × (why ≡ Refusal.BadFormat at))))
-  pub reads : OnlyReads seen may_leave moment left_since d e
-  pub quiet : (r ≡ Err Refusal.DeviceFailed → ⊥) → failures e ≡ failures d
+  pub ended : r ≡ Ok false → slice_index (g.seen d) new.next ≢ OPEN_GATE
+  pub bad : IfErr r (λ why. (at : ℕ) → why ≡ Refusal.BadFormat at
+      → BreaksAt (g.seen d) old.place.start old.place.end old.pages at)
+  pub cause : IfErr r (λ why. (why ≡ Refusal.NoMemory) ⊎ (((why ≡ Refusal.DeviceFailed) × (g.faults d < g.faults e))
+      ⊎ ((at : ℕ) × (why ≡ Refusal.BadFormat at))))
+  pub reads : OnlyReads g d e
+  pub quiet : (r ≡ Err Refusal.DeviceFailed → ⊥) → g.faults e ≡ g.faults d

@@ -1,7 +1,7 @@
 -- The records of a log as those of an area, and what of them an area holds after a crash.
 use Rattle.std.specs.Prelude.{◌<◌, ◌≡◌, ℕ, List, [], ◌∷◌, ◌++◌, length}
 use Rattle.mt_frame.specs.declared.records.Record.{Record}
-use Rattle.mt_frame.specs.History.{IsHistory}
+use Rattle.mt_area_rules.specs.History.{IsHistory}
 use Rattle.mt_log.specs.Batch.{joined}
 use Rattle.mt_log.specs.Holds.{AreRecords, HoldsBatches}
 use Rattle.mt_log.specs.Words.{durable_batches, durable, in_flight, waiting, appended, area_start, area_end}

@@ -16,7 +16,8 @@ pub record Stepped (old new : Log) (r : Result Forced Refusal) : Type 0 where
   pub same_records : appended new ≡ appended old
   pub bytes : used new ≤ used old
   pub used_less : 0 < calls_left old → used new ≡ used old
-  pub used_shared : calls_left old ≡ 0 → has_failed old ≡ false → 0 < length (waiting old) → used new + 5 * length (waiting old) ≡ used old + 5
+  pub used_shared : calls_left old ≡ 0 → has_failed old ≡ false → 0 < length (waiting old)
+      → used new + 5 * length (waiting old) ≡ used old + 5
   pub start : area_start new ≡ area_start old
   pub end : area_end new ≡ area_end old
   pub area : area_size new ≡ area_size old

@@ -74,10 +74,15 @@ stands_at log = let it = seen_of log in (it.start, it.end, it.gate, it.batches, 
 
 -- what a step that gave this answer did
 abbrev pub IsStep : Log → Forced → Log → Type 0
-IsStep old Nothing new = (calls_left old ≡ 0) × (waiting old ≡ []) × (durable new ≡ durable old) × (in_flight new ≡ []) × (waiting new ≡ []) × (used new ≡ used old) × (calls_left new ≡ 0)
-IsStep old More new = (durable new ≡ durable old) × (calls_left old ≡ 0 → (in_flight new ≡ waiting old) × (waiting new ≡ []) × (calls_left new ≡ 3))
-    × (0 < calls_left old → (in_flight new ≡ in_flight old) × (waiting new ≡ waiting old) × (calls_left new + 1 ≡ calls_left old) × (0 < calls_left new) × (used new ≡ used old))
-IsStep old (Durable pos) new = (calls_left old ≡ 1) × (calls_left new ≡ 0) × (durable new ≡ durable old ++ in_flight old) × (in_flight new ≡ []) × (waiting new ≡ waiting old) × (used new ≡ used old) × (pos ≡ length (durable new))
+IsStep old Nothing new = (calls_left old ≡ 0) × (waiting old ≡ []) × (durable new ≡ durable old) × (in_flight new ≡ [])
+    × (waiting new ≡ []) × (used new ≡ used old) × (calls_left new ≡ 0)
+IsStep old More new = (durable new ≡ durable old) × (calls_left old ≡ 0
+    → (in_flight new ≡ waiting old) × (waiting new ≡ []) × (calls_left new ≡ 3))
+    × (0 < calls_left old → (in_flight new ≡ in_flight old) × (waiting new ≡ waiting old)
+    × (calls_left new + 1 ≡ calls_left old) × (0 < calls_left new) × (used new ≡ used old))
+IsStep old (Durable pos) new = (calls_left old ≡ 1) × (calls_left new ≡ 0)
+    × (durable new ≡ durable old ++ in_flight old) × (in_flight new ≡ []) × (waiting new ≡ waiting old)
+    × (used new ≡ used old) × (pos ≡ length (durable new))
 
 -- this answer is of the last call of a force
 abbrev pub IsLast : Forced → Type 0
@@ -88,9 +93,12 @@ IsLast (Durable pos) = Unit {0}
 -- What a step does to the records, whatever it answered: nothing moves; or those that wait become the batch that is
 -- being forced; or that batch joins the durable ones.
 abbrev pub Moves : Log → Log → Type 0
-Moves old new = ((durable new ≡ durable old) × (in_flight new ≡ in_flight old) × (waiting new ≡ waiting old) × (calls_left new ≡ 0 → has_failed new ≡ false → calls_left old ≡ 0))
-    ⊎ (((calls_left old ≡ 0) × (durable new ≡ durable old) × (in_flight new ≡ waiting old) × (waiting new ≡ []) × (calls_left new ≡ 0 → has_failed new ≡ true))
-    ⊎ ((calls_left new ≡ 0) × (durable new ≡ durable old ++ in_flight old) × (in_flight new ≡ []) × (waiting new ≡ waiting old)))
+Moves old new = ((durable new ≡ durable old) × (in_flight new ≡ in_flight old) × (waiting new ≡ waiting old)
+    × (calls_left new ≡ 0 → has_failed new ≡ false → calls_left old ≡ 0))
+    ⊎ (((calls_left old ≡ 0) × (durable new ≡ durable old) × (in_flight new ≡ waiting old) × (waiting new ≡ [])
+    × (calls_left new ≡ 0 → has_failed new ≡ true))
+    ⊎ ((calls_left new ≡ 0) × (durable new ≡ durable old ++ in_flight old) × (in_flight new ≡ [])
+    × (waiting new ≡ waiting old)))
 
 -- the durable batches after a step that gave this answer
 abbrev pub batches_after : Log → Forced → List (List Record)
@@ -100,12 +108,13 @@ batches_after old (Durable pos) = durable_batches old ++ in_flight old ∷ []
 
 -- what the log knows of its area, of the fields
 abbrev pub AreaOf : List ℕ → (List ℕ → Type 0) → Log → Type 0
-AreaOf seen may_leave log = Area seen may_leave log.place.start log.place.end log.next (map (λ batch. batch.items) log.batches.items) log.in_flight.items log.stage
+AreaOf seen may_leave log = Area seen may_leave log.place.start log.place.end log.next
+    (map (λ batch. batch.items) log.batches.items) log.in_flight.items log.stage
 
 -- The log is on this device: its durable batches stand in its area, whatever a crash leaves.
-unfoldable pub IsOn : {D : Type 0} → (D → List ℕ) → (D → List ℕ → Type 0) → Log → D → Type 0
-IsOn seen may_leave log device = AreaIn (seen device) (may_leave device) (seen_of log)
+unfoldable pub IsOn : {D : Type 0} → Ghosts D → Log → D → Type 0
+IsOn g log device = AreaIn (g.seen device) (g.may_leave device) (seen_of log)
 
 -- the same, of all the ghosts of the device as one
 abbrev pub LiesOn : {D : Type 0} → Ghosts D → Log → D → Type 0
-LiesOn g log device = IsOn g.seen g.may_leave log device
+LiesOn g log device = IsOn g log device

@@ -11,7 +11,7 @@ use mt_frame::{CLOSED_GATE, OPEN_GATE};
 // Whether an open gate stands at the place.
 pub(crate) fn gate_is_open<D: Device>(device: &mut D, at: u64) -> Result<bool, DeviceFault>
     requires { at < length (D.seen device.old) }
-    ensures { Reads D.seen D.may_leave D.moment D.left_since D.faults (TellsGate (D.seen device.old) at)
+    ensures { Reads D.Device (TellsGate (D.seen device.old) at)
         device.old device.new result }
 {
     let mut gate = [CLOSED_GATE];
@@ -35,7 +35,7 @@ pub(crate) fn body_length<D: Device>(
 ) -> Result<Option<usize>, DeviceFault>
     requires inside { at < end }
     requires within { end ≤ length (D.seen device.old) }
-    ensures { Reads D.seen D.may_leave D.moment D.left_since D.faults (IsLength (D.seen device.old) at end)
+    ensures { Reads D.Device (IsLength (D.seen device.old) at end)
         device.old device.new result }
 {
     if end - at <= BATCH_HEAD_BYTES {
@@ -58,7 +58,7 @@ pub(crate) fn read_into<D: Device>(
     buffer: &mut Vec<u8>,
 ) -> Result<(), Refusal>
     requires { at + size ≤ length (D.seen device.old) }
-    ensures { ReadsInto D.seen D.may_leave D.moment D.left_since D.faults at size buffer.new
+    ensures { ReadsInto D.Device at size buffer.new
         device.old device.new result }
 {
     buffer.clear();

@@ -57,7 +57,7 @@ impl Log {
     fn call<D: Device>(&self, device: &mut D, step: Step) -> Result<(), DeviceFault>
         requires on { AreaOf (D.seen device.old) (D.may_leave device.old) self.now }
         requires stage { self.now.stage ≡ Forcing step }
-        ensures { CallsDevice D.seen D.may_leave D.moment D.left_since D.faults
+        ensures { CallsDevice D.Device
             self.now step device.old device.new result }
     {
         match step {
@@ -98,7 +98,7 @@ impl Log {
     fn make_call<D: Device>(&mut self, device: &mut D, step: Step) -> Result<Forced, Refusal>
         requires on { AreaOf (D.seen device.old) (D.may_leave device.old) self.old }
         requires stage { self.old.stage ≡ Forcing step }
-        ensures { MakesCall D.seen D.may_leave D.moment D.left_since D.faults
+        ensures { MakesCall D.Device
             self.old self.new step device.old device.new result }
     {
         let done = self.call(device, step);

@@ -1,7 +1,7 @@
 // A device's two master slots: which of them is in force. They are only read here; `slot_change` writes one.
 ghost use Rattle.std.specs.Prelude.{◌≡◌, ◌⊎◌, ◌+◌, ◌<◌, ◌≤◌, ℕ, List, length, IfOk, IfErr, Err};
 ghost use Rattle.mt_base.specs.declared.refusal.Refusal.{Refusal};
-ghost use Rattle.mt_disk.specs.Disk.{LeavesOnly};
+ghost use Rattle.mt_disk.specs.Disk.{LeavesOnly, LeavesTheSame};
 ghost use Rattle.mt_frame.specs.declared.slots.MasterSlot.{MasterSlot};
 ghost use Rattle.mt_log.specs.Quiet.{OnlyReads};
 ghost use Rattle.mt_log.specs.Masters.{BreaksMaster, IsBadAt, IsFoundAt, IsNewer, IsRuling, IsUnformatted};
@@ -21,7 +21,7 @@ pub const SECOND_SLOT: u64 = 4096;
 fn read_slot<D: Device>(device: &mut D, at: u64) -> Result<Option<MasterSlot>, Refusal>
     requires { at + 17 ≤ length (D.seen device.old) }
     ensures found { IfOk result (IsFoundAt at (D.seen device.old)) }
-    ensures reads { OnlyReads D.seen D.may_leave D.moment D.left_since device.old device.new }
+    ensures reads { OnlyReads D.Device device.old device.new }
     ensures quiet { (result ≡ Err Refusal.DeviceFailed → ⊥) → D.faults device.new ≡ D.faults device.old }
     ensures cause { IfErr result (λ why. (why ≡ Refusal.DeviceFailed) × (D.faults device.old < D.faults device.new)
         ⊎ (why ≡ Refusal.BadFormat at) × IsBadAt (D.seen device.old) at) }
@@ -76,7 +76,7 @@ pub fn ruling_slot<D: Device>(device: &mut D) -> Result<MasterSlot, Refusal>
     ensures no_other_refusal { (slot : MasterSlot) → IsRuling (D.seen device.old) slot
         → IfErr result (λ why. why ≡ Refusal.DeviceFailed) }
     ensures seen { D.seen device.new ≡ D.seen device.old }
-    ensures crash { (c : List ℕ) → D.may_leave device.new c → D.may_leave device.old c }
+    ensures crash { LeavesTheSame (D.may_leave device.old) (D.may_leave device.new) }
     ensures moments { LeavesOnly D.moment D.left_since device.old device.new (D.may_leave device.old) }
     ensures quiet { (result ≡ Err Refusal.DeviceFailed → ⊥) → D.faults device.new ≡ D.faults device.old }
 {

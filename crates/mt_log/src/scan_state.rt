@@ -8,10 +8,11 @@ ghost use Rattle.mt_log.specs.Holds.{HasItsPage};
 use crate::area::AreaPlace;
 use crate::batch::Batch;
 use crate::fetch::{body_length, gate_is_open, read_into};
+use mt_area_rules::AreaRules;
 use mt_base::Refusal;
 use mt_base::limits::BATCH_HEAD_BYTES;
 use mt_disk::Device;
-use mt_frame::{AreaRules, Record, decode_body};
+use mt_frame::{Record, decode_body};
 use std::alloc::Global;
 
 // What was read of an area so far.
@@ -103,7 +104,7 @@ impl Reading {
     ) -> Result<bool, Refusal>
         requires read { HasRead (D.seen device.old) self.old }
         requires within { self.old.place.end ≤ length (D.seen device.old) }
-        ensures { ReadsBatch D.seen D.may_leave D.moment D.left_since D.faults
+        ensures { ReadsBatch D.Device
             self.old self.new device.old device.new result }
     {
         if !gate_is_open(device, self.next)? {

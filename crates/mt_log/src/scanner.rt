@@ -1,7 +1,7 @@
 // Reading an area back: a row of batches, of which each is found by the length of those before it.
 ghost use Rattle.std.specs.Prelude.{◌≡◌, ◌⊎◌, ◌<◌, ◌≤◌, ℕ, List, length, IfOk, IfErr, Err};
 ghost use Rattle.mt_base.specs.declared.refusal.Refusal.{Refusal};
-ghost use Rattle.mt_disk.specs.Disk.{LeavesOnly};
+ghost use Rattle.mt_disk.specs.Disk.{LeavesOnly, LeavesTheSame};
 ghost use Rattle.mt_frame.specs.declared.records.Record.{Record};
 ghost use Rattle.mt_log.specs.Found.{records_of, places_of};
 ghost use Rattle.mt_log.specs.declared.log.Log.{Log};
@@ -49,7 +49,7 @@ pub fn scan<D: Device>(
         → HoldsBeginning pages log (D.seen device.old)
         → IfOk result (λ found. IsBeginning log (records_of found.items)) }
     ensures seen { D.seen device.new ≡ D.seen device.old }
-    ensures crash { (c : List ℕ) → D.may_leave device.new c → D.may_leave device.old c }
+    ensures crash { LeavesTheSame (D.may_leave device.old) (D.may_leave device.new) }
     ensures moments { LeavesOnly D.moment D.left_since device.old device.new (D.may_leave device.old) }
     ensures quiet { (result ≡ Err Refusal.DeviceFailed → ⊥) → D.faults device.new ≡ D.faults device.old }
     ensures cause { IfErr result (λ why. (why ≡ Refusal.NoMemory)

@@ -32,7 +32,7 @@ pub fn slot_after(ruling: &MasterSlot) -> MasterSlot
 fn holds_slot<D: Device>(device: &mut D, at: u64, slot: &MasterSlot) -> Result<bool, DeviceFault>
     requires within { at + 17 ≤ length (D.seen device.old) }
     requires fits { IsSlot slot.now }
-    ensures { Reads D.seen D.may_leave D.moment D.left_since D.faults
+    ensures { Reads D.Device
         (λ holds. IsTrue holds ↔ Has (D.seen device.old) at (slot_text slot.now)) device.old device.new result }
 {
     let mut bytes = [0; MASTER_SLOT_BYTES];
@@ -45,7 +45,7 @@ fn close_beside<D: Device>(device: &mut D, at: u64, other: u64) -> Result<(), De
     requires slots { AreSlots at other }
     requires rules { (ruling : MasterSlot) × Rules (D.seen device.old) other at ruling }
     requires durable { Only (D.seen device.old) (D.may_leave device.old) }
-    ensures { ClosesBeside D.seen D.may_leave D.moment D.left_since D.faults at other device.old device.new result }
+    ensures { ClosesBeside D.Device at other device.old device.new result }
 {
     if !gate_is_open(device, at)? {
         return Ok(());
@@ -66,7 +66,7 @@ fn open_beside<D: Device>(
     requires rules { Rules (D.seen device.old) other at ruling.now }
     requires durable { Only (D.seen device.old) (D.may_leave device.old) }
     requires epoch { ruling.now.epoch < 2 ^ 63 }
-    ensures { TurnsBeside D.seen D.may_leave D.moment D.left_since D.faults ruling.now device.old device.new result }
+    ensures { TurnsBeside D.Device ruling.now device.old device.new result }
 {
     let text = encode_slot(&slot_after(ruling));
     write_durably(device, at + 1, &text[1..17])?;
@@ -84,7 +84,7 @@ fn rule_beside<D: Device>(
     requires rules { Rules (D.seen device.old) other at ruling.now }
     requires durable { Only (D.seen device.old) (D.may_leave device.old) }
     requires epoch { ruling.now.epoch < 2 ^ 63 }
-    ensures { TurnsBeside D.seen D.may_leave D.moment D.left_since D.faults ruling.now device.old device.new result }
+    ensures { TurnsBeside D.Device ruling.now device.old device.new result }
 {
     close_beside(device, at, other)?;
     open_beside(device, at, other, ruling)

@@ -11,7 +11,7 @@ pub(crate) fn write_durably<D: Device>(
     bytes: &[u8],
 ) -> Result<(), DeviceFault>
     requires { at + length bytes.now ≤ length (D.seen device.old) }
-    ensures { WritesDurably D.seen D.may_leave D.moment D.left_since D.faults at bytes.now
+    ensures { WritesDurably D.Device at bytes.now
         device.old device.new result }
 {
     device.write_at(at, bytes)?;

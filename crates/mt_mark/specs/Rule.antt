@@ -80,12 +80,23 @@ pub record Kept (k : About) (s : State Entry View) : Type 0 where
   pub fits : (by : ℕ) (v : View) → get_elem? s.views by ≡ some v → Fits k seat made log list by v
 
 abbrev pub first_end : About → View
-first_end k = record { keeps = true; sees = false; number = 0; made = 1; list = labelled k.book.value.items; known = []; sure = length k.book.value.items; base = k.base.value; book = k.book.value.items }
+first_end k = record {
+  keeps = true;
+  sees = false;
+  number = 0;
+  made = 1;
+  list = labelled k.book.value.items;
+  known = [];
+  sure = length k.book.value.items;
+  base = k.base.value;
+  book = k.book.value.items;
+}
 
 -- the history so far was seen; it has no further entry of this pass
 abbrev pub LooksTo : View → ℕ → View → Type 0
 LooksTo v found w =
-    (between : List Entry) × (w ≡ record v { list = v.list ++ between }) × NoneBy v.number between × (length (v.list ++ between) ≡ found) × IsLegal v.base (dones (v.list ++ between))
+    (between : List Entry) × (w ≡ record v { list = v.list ++ between }) × NoneBy v.number between
+    × (length (v.list ++ between) ≡ found) × IsLegal v.base (dones (v.list ++ between))
 
 abbrev pub Looks : Step Entry → Me Entry View → ℕ → Me Entry View → Type 0
 Looks s v found w = (w.1 ≡ v.1) × LooksTo v.0 found w.0
@@ -100,11 +111,13 @@ IsConfirmed v = length v.list ≤ v.sure
 
 -- a pass was answered with a list that goes on by an entry of its own, at this place
 abbrev pub CanEnter : View → ℕ → Type 0
-CanEnter v at = (pre : List Entry) × (e : Entry) × (v.known ≡ pre ++ e ∷ []) × (e.pass ≡ v.number) × (length pre ≡ at) × (length v.list ≤ at) × (at ≤ v.sure)
+CanEnter v at = (pre : List Entry) × (e : Entry) × (v.known ≡ pre ++ e ∷ []) × (e.pass ≡ v.number) × (length pre ≡ at)
+    × (length v.list ≤ at) × (at ≤ v.sure)
 
 -- the entry was named, and the mark stands below it
 abbrev pub Names : Step Entry → Me Entry View → ℕ → Me Entry View → Type 0
-Names s v found w = (w.1 ≡ v.1) × ((e : Entry) × (s.said ≡ some e) × (w.0 ≡ record v.0 { list = v.0.list ++ e ∷ [] }) × IsPrefix v.0.known v.0.list × (length v.0.list ≡ found))
+Names s v found w = (w.1 ≡ v.1) × ((e : Entry) × (s.said ≡ some e) × (w.0 ≡ record v.0 { list = v.0.list ++ e ∷ [] })
+    × IsPrefix v.0.known v.0.list × (length v.0.list ≡ found))
 
 abbrev pub Enters : Step Entry → Me Entry View → ℕ → Me Entry View → Type 0
 Enters s v found w = (w.1 ≡ v.1) × (w.0 ≡ record v.0 { list = v.0.known }) × (found ≡ s.first) × OthersThen v.0
@@ -113,7 +126,8 @@ abbrev pub Settles : Step Entry → Me Entry View → ℕ → Me Entry View → 
 Settles s v found w = (w.1 ≡ v.1) × (w.0 ≡ record v.0 { list = v.0.known }) × Holds v.0.number v.0.list v.0.known
 
 abbrev pub Checks : Step Entry → Me Entry View → ℕ → Me Entry View → Type 0
-Checks s v found w = (w ≡ v) × IsPrefix v.0.known v.0.list × (length v.0.list ≡ found) × IsFrom v.0.book v.0.made v.0.list
+Checks s v found w =
+    (w ≡ v) × IsPrefix v.0.known v.0.list × (length v.0.list ≡ found) × IsFrom v.0.book v.0.made v.0.list
 
 abbrev pub note : View → List Entry → ℕ → View
 note v known sure = record v { keeps = false; sees = false; list = []; known = known; sure = sure }
@@ -134,7 +148,18 @@ abbrev pub heard : View → View → View
 heard v w = record v { known = w.known; sure = max v.sure w.sure }
 
 abbrev pub spent : View
-spent = record { keeps = false; sees = false; number = 0; made = 0; list = []; known = []; sure = 0; base = record { relations = 0; rows = []; counters = [] }; book = [] }
+spent = record {
+  keeps = false;
+  sees = false;
+  number = 0;
+  made = 0;
+  list = [];
+  known = [];
+  sure = 0;
+  base = record
+      { relations = 0; rows = []; counters = [] };
+  book = [];
+}
 
 -- its number and its base stay; only what a step shows it may change
 abbrev pub SamePass : View → View → Type 0

@@ -51,4 +51,5 @@ pub record IsLeastBar (held : Held) (t : ℕ) (x : Object) (m : LockMode) (holde
 -- no two transactions hold an object in modes that are not granted together
 abbrev pub AreTogether : Held → Type 0
 AreTogether held =
-    (t u : ℕ) (x : Object) (m n : LockMode) → t ≢ u → held t x m ≡ true → held u x n ≡ true → granted_together m n ≡ true
+    (t u : ℕ) (x : Object) (m n : LockMode) → t ≢ u → held t x m ≡ true → held u x n ≡ true
+    → granted_together m n ≡ true

@@ -1,6 +1,7 @@
 -- An operation that writes goes ahead: what a call of it does behind the bringing of its page, and what is left where it does nothing.
 use Rattle.std.proofs.Common.{◌≡◌, ◌≤◌, ◌+◌, ℕ, List, [], inr, refl, sym, ap, ◌∙◌, subst, arith}
 use Rattle.std.specs.Prelude.{Result, Ok, Err, IfErr, OnErr}
+use Rattle.mt_disk.specs.declared.device.Device.{Ghosts}
 use Rattle.mt_base.specs.declared.refusal.Refusal.{Refusal}
 use Rattle.mt_disk.specs.Disk.{LeavesOnly}
 use Rattle.mt_log.specs.Words.{appended, durable, used, area_size}
@@ -87,21 +88,21 @@ idle_err s (Err why) idle = refl
 idle_went : (r : Result Stepped Refusal) → IsIdle r → r ≡ Ok stepped.Went → ⊥
 idle_went r idle is = subst IsIdle is idle
 
-module _ {D : Type 0} (seen : D → List ℕ) (may_leave : D → List ℕ → Type 0) (moment : D → ℕ) (left_since : D → ℕ → List ℕ → Type 0) (failures : D → ℕ) (o m : Operations D) (s : OpScope)
-    (right : (opening : PageBytes) (relations counters : ℕ) → IsRight seen may_leave opening relations counters o → IsRight seen may_leave opening relations counters m)
-    (rests : (opening : PageBytes) → Rests (world seen opening o) (world seen opening m))
-    (moments : (opening : PageBytes) → IsKept seen may_leave opening o.store → LeavesOnly moment left_since o.store.device m.store.device (Explains opening o.store))
-    (once : moment m.store.device ≤ moment o.store.device + 1)
+module _ {D : Type 0} (g : Ghosts D) (o m : Operations D) (s : OpScope)
+    (right : (opening : PageBytes) (relations counters : ℕ) → IsRight g opening relations counters o → IsRight g opening relations counters m)
+    (rests : (opening : PageBytes) → Rests (world g opening o) (world g opening m))
+    (moments : (opening : PageBytes) → IsKept g opening o.store → LeavesOnly g.moment g.left_since o.store.device m.store.device (Explains opening o.store))
+    (once : g.moment m.store.device ≤ g.moment o.store.device + 1)
     (spent : used m.store.log ≡ used o.store.log) (area : area_size m.store.log ≡ area_size o.store.log) (lasting : durable m.store.log ≡ durable o.store.log) (map : m.map ≡ o.map) (locks : m.locks ≡ o.locks) where
   records : appended m.store.log ≡ appended o.store.log
   records = (rests (λ n. [])).records
 
   -- nothing but what is in frames has changed
   pub idle_ahead : (r : Result Stepped Refusal) → IsIdle r → s.stage ≡ Writing → HasBudget s → (r ≡ Ok stepped.Flush → IsFull o.store.pool × (m ≡ o)) → IfErr r IsCause
-      → TellsFaults (failures o.store.device) (failures m.store.device) r → GoesAhead seen may_leave moment left_since failures o m s s r
+      → TellsFaults (g.faults o.store.device) (g.faults m.store.device) r → GoesAhead g o m s s r
   idle_ahead r idle writing budget full why outcome = record {
     steps = λ opening relations counters ok k few some.
-        (right opening relations counters ok, idle_steps relations counters (world seen opening o) (world seen opening m) s s r idle (rests_goes_as relations counters (world seen opening o) (world seen opening m) s (rests opening) k));
+        (right opening relations counters ok, idle_steps relations counters (world g opening o) (world g opening m) s s r idle (rests_goes_as relations counters (world g opening o) (world g opening m) s (rests opening) k));
     moments = moments;
     log = ap (λ (n : ℕ). n + s.left) spent;
     area = area;
@@ -124,14 +125,14 @@ module _ {D : Type 0} (seen : D → List ℕ) (may_leave : D → List ℕ → Ty
   }
 
   -- a call behind it that does not touch the device
-  pub ahead_behind : (n : Operations D) (t : OpScope) (r : Result Stepped Refusal) → GoesAhead seen may_leave moment left_since failures m n s t r → n.store.device ≡ m.store.device → (r ≡ Ok stepped.Flush → ⊥)
-      → failures m.store.device ≡ failures o.store.device → GoesAhead seen may_leave moment left_since failures o n s t r
+  pub ahead_behind : (n : Operations D) (t : OpScope) (r : Result Stepped Refusal) → GoesAhead g m n s t r → n.store.device ≡ m.store.device → (r ≡ Ok stepped.Flush → ⊥)
+      → g.faults m.store.device ≡ g.faults o.store.device → GoesAhead g o n s t r
   ahead_behind n t r a device never unfailed = record {
     steps = λ opening relations counters ok k few some.
-        let w = world seen opening o in let x = world seen opening m in
+        let w = world g opening o in let x = world g opening m in
         let gone = a.steps opening relations counters (right opening relations counters ok) (rests_own relations counters w x s (rests opening) k) few some in
-        (gone.0, steps_then relations counters w x (world seen opening n) s s t r (rests opening).records refl (rests_goes_as relations counters w x s (rests opening) k) gone.1);
-    moments = λ opening kept. subst (λ (d : D). LeavesOnly moment left_since o.store.device d (Explains opening o.store)) (sym device) (moments opening kept);
+        (gone.0, steps_then relations counters w x (world g opening n) s s t r (rests opening).records refl (rests_goes_as relations counters w x s (rests opening) k) gone.1);
+    moments = λ opening kept. subst (λ (d : D). LeavesOnly g.moment g.left_since o.store.device d (Explains opening o.store)) (sym device) (moments opening kept);
     log = a.log ∙ ap (λ (n : ℕ). n + s.left) spent;
     area = a.area ∙ area;
     durable = a.durable ∙ lasting;
@@ -148,6 +149,6 @@ module _ {D : Type 0} (seen : D → List ℕ) (may_leave : D → List ℕ → Ty
     err = a.err;
     flush = a.flush;
     why = a.why;
-    faults = reported_behind (failures o.store.device) (failures m.store.device) (failures n.store.device) r unfailed a.faults;
-    once = subst (λ (d : D). moment d ≤ moment o.store.device + 1) (sym device) once;
+    faults = reported_behind (g.faults o.store.device) (g.faults m.store.device) (g.faults n.store.device) r unfailed a.faults;
+    once = subst (λ (d : D). g.moment d ≤ g.moment o.store.device + 1) (sym device) once;
   }

@@ -1,6 +1,7 @@
 -- A step of a taking back as a whole: where nothing is done, where nothing is left to be done, and where a page is put back.
 use Rattle.std.proofs.Common.{◌≡◌, ◌⊎◌, ◌≤◌, ◌+◌, ◌++◌, ℕ, List, inl, refl, sym, ap, ◌∙◌, subst, arith, append-nil}
 use Rattle.std.specs.Prelude.{Result, Ok, Err, IfErr, OnErr}
+use Rattle.mt_disk.specs.declared.device.Device.{Ghosts}
 use Rattle.mt_base.specs.declared.refusal.Refusal.{Refusal}
 use Rattle.mt_base.specs.declared.refusal.Refusal.TheVariants as refusal
 use Rattle.mt_disk.specs.Disk.{LeavesOnly}
@@ -11,12 +12,11 @@ use Rattle.mt_space.specs.Changes.{PageBytes}
 use Rattle.mt_pool.specs.Kept.{IsKept, Explains}
 use Rattle.mt_pool.specs.Views.{IsFull}
 use Rattle.mt_space.specs.Rooms.{reserved_of}
-use Rattle.mt_op.specs.World.{IsUnderWay}
 use Rattle.mt_op.specs.Moves.{Rests}
-use Rattle.mt_op.specs.Operations.{world, IsRight, Goes, HasBudget, IsCause, claimed}
+use Rattle.mt_op.specs.Operations.{world, IsRight, HasBudget, IsCause, claimed}
 use Rattle.mt_op.specs.Records.{TellsDropped, dropped_with}
 use Rattle.mt_op.specs.Faults.{TellsFaults}
-use Rattle.mt_op.specs.Stepping.{PutsOneBack}
+use Rattle.mt_op.specs.Stepping.{PutsOneBack, TakesStepBack}
 use Rattle.mt_op.specs.declared.answers.TakenBack.{TakenBack}
 use Rattle.mt_op.specs.declared.answers.TakenBack.TheVariants as taken
 use Rattle.mt_op.specs.declared.operations.Operations.{Operations}
@@ -28,28 +28,6 @@ use Rattle.mt_op.proofs.Going.{goes_behind}
 use Rattle.mt_op.proofs.Restored.{clears_goes}
 use Rattle.mt_op.proofs.Staying.{rests_own}
 use Rattle.mt_op.proofs.Written.{rests_goes_as}
-
--- what is promised of a step
-pub record TakesBack {D : Type 0} (seen : D → List ℕ) (may_leave : D → List ℕ → Type 0) (moment : D → ℕ) (left_since : D → ℕ → List ℕ → Type 0) (failures : D → ℕ) (o n : Operations D) (s t : OpScope) (r : Result TakenBack Refusal) : Type 0 where
-  pub goes : (opening : PageBytes) (relations counters : ℕ) → IsRight seen may_leave opening relations counters o → IsUnderWay relations counters (world seen opening o) s
-      → IsRight seen may_leave opening relations counters n × Goes relations counters (world seen opening o) (world seen opening n) s t
-  pub moments : (opening : PageBytes) → IsKept seen may_leave opening o.store → LeavesOnly moment left_since o.store.device n.store.device (Explains opening o.store)
-  pub more : r ≡ Ok taken.More → (t.stage ≡ Taking) × (t.standing + 1 ≡ s.standing)
-  pub clear : r ≡ Ok taken.Clear → (t.stage ≡ Cleared) × (s.standing ≤ 1)
-  pub few : s.standing ≤ 8
-  pub log : used n.store.log + t.left ≡ used o.store.log + s.left
-  pub area : area_size n.store.log ≡ area_size o.store.log
-  pub durable : durable n.store.log ≡ durable o.store.log
-  pub claimed : claimed n ≡ claimed o
-  pub records : TellsDropped s (appended o.store.log) (appended n.store.log) r
-  pub locks : n.locks ≡ o.locks
-  pub budget : HasBudget t
-  pub err : OnErr r (t ≡ s)
-  pub flush : r ≡ Ok taken.Flush → t ≡ s
-  pub full : r ≡ Ok taken.Flush → IsFull o.store.pool × (n ≡ o)
-  pub why : IfErr r IsCause
-  pub faults : TellsFaults (failures o.store.device) (failures n.store.device) r
-  pub once : moment n.store.device ≤ moment o.store.device + 1
 
 -- nothing was done: it is refused, or has to wait for a frame
 abbrev pub TakesNone : Result TakenBack Refusal → Type 0
@@ -78,13 +56,13 @@ cause_of : (r : Result TakenBack Refusal) → IfErr r (λ why. why ≡ refusal.N
 cause_of (Ok x) memory = tt
 cause_of (Err why) memory = inl memory
 
-module _ {D : Type 0} (seen : D → List ℕ) (may_leave : D → List ℕ → Type 0) (moment : D → ℕ) (left_since : D → ℕ → List ℕ → Type 0) (failures : D → ℕ) (o : Operations D) (s : OpScope) where
+module _ {D : Type 0} (g : Ghosts D) (o : Operations D) (s : OpScope) where
   -- no page stands
-  pub no_page_stands : ((opening : PageBytes) → IsKept seen may_leave opening o.store → LeavesOnly moment left_since o.store.device o.store.device (Explains opening o.store)) → s.standing ≤ 8
+  pub no_page_stands : ((opening : PageBytes) → IsKept g opening o.store → LeavesOnly g.moment g.left_since o.store.device o.store.device (Explains opening o.store)) → s.standing ≤ 8
       → (s.stage ≡ Planning) ⊎ ((s.stage ≡ Writing) ⊎ (s.stage ≡ Taking)) → s.standing ≡ 0 → HasBudget s
-      → TakesBack seen may_leave moment left_since failures o o s (record s { stage = Cleared }) (Ok taken.Clear)
+      → TakesStepBack g o o s (record s { stage = Cleared }) (Ok taken.Clear)
   no_page_stands moments few stage none budget = record {
-    goes = λ opening relations counters right k. (right, clears_goes relations counters (world seen opening o) s k stage none);
+    goes = λ opening relations counters right k. (right, clears_goes relations counters (world g opening o) s k stage none);
     moments = moments;
     more = λ is. absurd cc;
     clear = λ is. (refl, omega arith);
@@ -100,24 +78,24 @@ module _ {D : Type 0} (seen : D → List ℕ) (may_leave : D → List ℕ → Ty
     flush = λ is. absurd cc;
     full = λ is. absurd cc;
     why = tt;
-    faults = no_fault_ok (failures o.store.device) (failures o.store.device) taken.Clear refl;
+    faults = no_fault_ok (g.faults o.store.device) (g.faults o.store.device) taken.Clear refl;
     once = omega arith;
   }
 
-module _ {D : Type 0} (seen : D → List ℕ) (may_leave : D → List ℕ → Type 0) (moment : D → ℕ) (left_since : D → ℕ → List ℕ → Type 0) (failures : D → ℕ) (o m : Operations D) (s : OpScope)
-    (right : (opening : PageBytes) (relations counters : ℕ) → IsRight seen may_leave opening relations counters o → IsRight seen may_leave opening relations counters m)
-    (rests : (opening : PageBytes) → Rests (world seen opening o) (world seen opening m))
-    (moments : (opening : PageBytes) → IsKept seen may_leave opening o.store → LeavesOnly moment left_since o.store.device m.store.device (Explains opening o.store))
-    (once : moment m.store.device ≤ moment o.store.device + 1)
+module _ {D : Type 0} (g : Ghosts D) (o m : Operations D) (s : OpScope)
+    (right : (opening : PageBytes) (relations counters : ℕ) → IsRight g opening relations counters o → IsRight g opening relations counters m)
+    (rests : (opening : PageBytes) → Rests (world g opening o) (world g opening m))
+    (moments : (opening : PageBytes) → IsKept g opening o.store → LeavesOnly g.moment g.left_since o.store.device m.store.device (Explains opening o.store))
+    (once : g.moment m.store.device ≤ g.moment o.store.device + 1)
     (log : m.store.log ≡ o.store.log) (map : m.map ≡ o.map) (locks : m.locks ≡ o.locks) (few : s.standing ≤ 8) where
   same_claims : claimed m ≡ claimed o
   same_claims = ap (λ (x : SpaceMap). reserved_of x.space) map
 
   -- nothing but what is in frames has changed
-  pub takes_none : (r : Result TakenBack Refusal) → TakesNone r → HasBudget s → (r ≡ Ok taken.Flush → IsFull o.store.pool × (m ≡ o)) → IfErr r IsCause → TellsFaults (failures o.store.device) (failures m.store.device) r
-      → TakesBack seen may_leave moment left_since failures o m s s r
+  pub takes_none : (r : Result TakenBack Refusal) → TakesNone r → HasBudget s → (r ≡ Ok taken.Flush → IsFull o.store.pool × (m ≡ o)) → IfErr r IsCause → TellsFaults (g.faults o.store.device) (g.faults m.store.device) r
+      → TakesStepBack g o m s s r
   takes_none r none budget full why outcome = record {
-    goes = λ opening relations counters ok k. (right opening relations counters ok, rests_goes_as relations counters (world seen opening o) (world seen opening m) s (rests opening) k);
+    goes = λ opening relations counters ok k. (right opening relations counters ok, rests_goes_as relations counters (world g opening o) (world g opening m) s (rests opening) k);
     moments = moments;
     more = λ is. absurd (none_more r none is);
     clear = λ is. absurd (none_clear r none is);
@@ -138,13 +116,13 @@ module _ {D : Type 0} (seen : D → List ℕ) (may_leave : D → List ℕ → Ty
   }
 
   -- a page that is in a frame is put back
-  pub takes_behind : (n : Operations D) (t : OpScope) (r : Result TakenBack Refusal) → PutsOneBack seen may_leave m n s t r → failures m.store.device ≡ failures o.store.device → TakesBack seen may_leave moment left_since failures o n s t r
+  pub takes_behind : (n : Operations D) (t : OpScope) (r : Result TakenBack Refusal) → PutsOneBack g m n s t r → g.faults m.store.device ≡ g.faults o.store.device → TakesStepBack g o n s t r
   takes_behind n t r b unfailed = record {
     goes = λ opening relations counters ok k.
-        let w = world seen opening o in let x = world seen opening m in
+        let w = world g opening o in let x = world g opening m in
         let gone = b.goes opening relations counters (right opening relations counters ok) (rests_own relations counters w x s (rests opening) k) in
-        (gone.0, goes_behind relations counters w x (world seen opening n) s t (rests opening) gone.1);
-    moments = λ opening kept. subst (λ (d : D). LeavesOnly moment left_since o.store.device d (Explains opening o.store)) (sym b.device) (moments opening kept);
+        (gone.0, goes_behind relations counters w x (world g opening n) s t (rests opening) gone.1);
+    moments = λ opening kept. subst (λ (d : D). LeavesOnly g.moment g.left_since o.store.device d (Explains opening o.store)) (sym b.device) (moments opening kept);
     more = b.more;
     clear = b.clear;
     few = few;
@@ -159,6 +137,6 @@ module _ {D : Type 0} (seen : D → List ℕ) (may_leave : D → List ℕ → Ty
     flush = λ is. absurd (b.never is);
     full = λ is. absurd (b.never is);
     why = cause_of r b.only_memory;
-    faults = reported_behind (failures o.store.device) (failures m.store.device) (failures n.store.device) r unfailed (no_fault (failures m.store.device) (failures n.store.device) r b.only_memory (ap failures b.device));
-    once = subst (λ (d : D). moment d ≤ moment o.store.device + 1) (sym b.device) once;
+    faults = reported_behind (g.faults o.store.device) (g.faults m.store.device) (g.faults n.store.device) r unfailed (no_fault (g.faults m.store.device) (g.faults n.store.device) r b.only_memory (ap g.faults b.device));
+    once = subst (λ (d : D). g.moment d ≤ g.moment o.store.device + 1) (sym b.device) once;
   }

@@ -1,6 +1,7 @@
 -- A step of an operation that plans, as a whole: a page that is locked, a plan that is kept, and what is left where neither is done.
 use Rattle.std.proofs.Common.{◌≡◌, ◌<◌, ◌≤◌, ◌+◌, ℕ, List, inl, refl, sym, ap, ◌∙◌, subst, arith, Option, Some, None, true, if◌then◌else◌}
 use Rattle.std.specs.Prelude.{Result, Ok, Err, IfErr}
+use Rattle.mt_disk.specs.declared.device.Device.{Ghosts}
 use Rattle.mt_base.specs.declared.refusal.Refusal.{Refusal}
 use Rattle.mt_base.specs.declared.refusal.Refusal.TheVariants as refusal
 use Rattle.mt_disk.specs.Disk.{LeavesOnly}
@@ -17,12 +18,12 @@ use Rattle.mt_model.specs.declared.operations.Op.TheVariants.{Get, Insert, Updat
 use Rattle.mt_steps.specs.Plans.{own_needs, IsReading}
 use Rattle.mt_op.specs.World.{World, IsUnderWay, IsAt, IsPlanning}
 use Rattle.mt_op.specs.Moves.{Rests, SameOp}
-use Rattle.mt_op.specs.Operations.{world, IsRight, Goes, GoesOn, Steps, GivesBack, HasBudget, IsAsFar, IsCause, claimed, only_reads, needs}
+use Rattle.mt_op.specs.Operations.{world, IsRight, Goes, GoesOn, GivesBack, HasBudget, IsAsFar, IsCause, claimed, only_reads, needs}
 use Rattle.mt_op.specs.Holds.{IsNext, KeepsLocks, KeepsScope}
 use Rattle.mt_op.specs.Records.{KeepsRecords}
-use Rattle.mt_op.specs.Work.{Works, ComesTo}
+use Rattle.mt_op.specs.Work.{Works}
 use Rattle.mt_op.specs.Faults.{TellsFaults}
-use Rattle.mt_op.specs.Stepping.{GoesAhead, KeepsPlan, LocksPage, PlansOn, TakesLock}
+use Rattle.mt_op.specs.Stepping.{GoesAhead, KeepsPlan, LocksPage, MakesStep, PlansOn, TakesLock}
 use Rattle.mt_op.specs.declared.answers.Stepped.{Stepped}
 use Rattle.mt_op.specs.declared.answers.Stepped.TheVariants as stepped
 use Rattle.mt_op.specs.declared.operations.Operations.{Operations}
@@ -64,18 +65,18 @@ reading_of (Read c) is = tt
 
 -- ---- a page is locked
 
-module _ {D : Type 0} (seen : D → List ℕ) (may_leave : D → List ℕ → Type 0) (moment : D → ℕ) (left_since : D → ℕ → List ℕ → Type 0) (failures : D → ℕ) (o m : Operations D) (s : OpScope)
-    (right : (opening : PageBytes) (relations counters : ℕ) → IsRight seen may_leave opening relations counters o → IsRight seen may_leave opening relations counters m)
-    (rests : (opening : PageBytes) → Rests (world seen opening o) (world seen opening m))
-    (moments : (opening : PageBytes) → IsKept seen may_leave opening o.store → LeavesOnly moment left_since o.store.device m.store.device (Explains opening o.store))
-    (once : moment m.store.device ≤ moment o.store.device + 1)
+module _ {D : Type 0} (g : Ghosts D) (o m : Operations D) (s : OpScope)
+    (right : (opening : PageBytes) (relations counters : ℕ) → IsRight g opening relations counters o → IsRight g opening relations counters m)
+    (rests : (opening : PageBytes) → Rests (world g opening o) (world g opening m))
+    (moments : (opening : PageBytes) → IsKept g opening o.store → LeavesOnly g.moment g.left_since o.store.device m.store.device (Explains opening o.store))
+    (once : g.moment m.store.device ≤ g.moment o.store.device + 1)
     (log : m.store.log ≡ o.store.log) (map : m.map ≡ o.map) (locks : m.locks ≡ o.locks) (rooms : m.rooms ≡ o.rooms) where
   -- nothing but what is in frames has changed
   pub idle_locks : (r : Result Stepped Refusal) → IsIdle r → (r ≡ Ok stepped.Flush → IsFull o.store.pool × (m ≡ o)) → IfErr r IsCause
-      → TellsFaults (failures o.store.device) (failures m.store.device) r → LocksPage seen may_leave moment left_since failures o m s s r
+      → TellsFaults (g.faults o.store.device) (g.faults m.store.device) r → LocksPage g o m s s r
   idle_locks r idle full why outcome = record {
     goes = λ opening relations counters ok k.
-        (right opening relations counters ok, idle_goes_on relations counters (world seen opening o) (world seen opening m) s s r idle (rests_goes_as relations counters (world seen opening o) (world seen opening m) s (rests opening) k));
+        (right opening relations counters ok, idle_goes_on relations counters (world g opening o) (world g opening m) s s r idle (rests_goes_as relations counters (world g opening o) (world g opening m) s (rests opening) k));
     moments = moments;
     log = log;
     map = map;
@@ -91,16 +92,16 @@ module _ {D : Type 0} (seen : D → List ℕ) (may_leave : D → List ℕ → Ty
 
   -- it is asked for behind it
   pub locks_behind : (n : Operations D) (t : OpScope) (r : Result Stepped Refusal)
-      → ((opening : PageBytes) (relations counters : ℕ) → IsRight seen may_leave opening relations counters m → IsUnderWay relations counters (world seen opening m) s
-      → IsRight seen may_leave opening relations counters n × GoesOn relations counters (world seen opening m) (world seen opening n) s t r)
-      → n.store ≡ m.store → n.map ≡ m.map → IsAsFar s t → (r ≡ Ok stepped.Flush → ⊥) → Works s t r → KeepsLocks s.number (IsNext m.rooms m.locks s) m.locks n.locks r → KeepsScope s t r → IfErr r (λ why. why ≡ refusal.NoMemory) → failures m.store.device ≡ failures o.store.device
-      → LocksPage seen may_leave moment left_since failures o n s t r
+      → ((opening : PageBytes) (relations counters : ℕ) → IsRight g opening relations counters m → IsUnderWay relations counters (world g opening m) s
+      → IsRight g opening relations counters n × GoesOn relations counters (world g opening m) (world g opening n) s t r)
+      → n.store ≡ m.store → n.map ≡ m.map → IsAsFar s t → (r ≡ Ok stepped.Flush → ⊥) → Works s t r → KeepsLocks s.number (IsNext m.rooms m.locks s) m.locks n.locks r → KeepsScope s t r → IfErr r (λ why. why ≡ refusal.NoMemory) → g.faults m.store.device ≡ g.faults o.store.device
+      → LocksPage g o n s t r
   locks_behind n t r goes store same_map same never work keeps scope memory unfailed = record {
     goes = λ opening relations counters ok k.
-        let w = world seen opening o in let x = world seen opening m in
+        let w = world g opening o in let x = world g opening m in
         let gone = goes opening relations counters (right opening relations counters ok) (rests_own relations counters w x s (rests opening) k) in
-        (gone.0, goes_on_behind relations counters w x (world seen opening n) s t r (rests opening) gone.1);
-    moments = λ opening kept. subst (λ (x : Store D). LeavesOnly moment left_since o.store.device x.device (Explains opening o.store)) (sym store) (moments opening kept);
+        (gone.0, goes_on_behind relations counters w x (world g opening n) s t r (rests opening) gone.1);
+    moments = λ opening kept. subst (λ (x : Store D). LeavesOnly g.moment g.left_since o.store.device x.device (Explains opening o.store)) (sym store) (moments opening kept);
     log = ap (λ (x : Store D). x.log) store ∙ log;
     map = same_map ∙ map;
     same = same;
@@ -109,8 +110,8 @@ module _ {D : Type 0} (seen : D → List ℕ) (may_leave : D → List ℕ → Ty
     locks = subst (λ (x : Rooms). KeepsLocks s.number (IsNext x o.locks s) o.locks n.locks r) rooms (subst (λ (ls : List PageLock). KeepsLocks s.number (IsNext m.rooms ls s) ls n.locks r) locks keeps);
     scope = scope;
     why = cause_memory r memory;
-    faults = reported_behind (failures o.store.device) (failures m.store.device) (failures n.store.device) r unfailed (no_fault (failures m.store.device) (failures n.store.device) r memory (ap (λ (x : Store D). failures x.device) store));
-    once = subst (λ (x : Store D). moment x.device ≤ moment o.store.device + 1) (sym store) once;
+    faults = reported_behind (g.faults o.store.device) (g.faults m.store.device) (g.faults n.store.device) r unfailed (no_fault (g.faults m.store.device) (g.faults n.store.device) r memory (ap (λ (x : Store D). g.faults x.device) store));
+    once = subst (λ (x : Store D). g.moment x.device ≤ g.moment o.store.device + 1) (sym store) once;
   }
 
 -- ---- a step that plans
@@ -152,12 +153,12 @@ unled_goes relations counters w s planning k =
       same = op;
     }
 
-module _ {D : Type 0} (seen : D → List ℕ) (may_leave : D → List ℕ → Type 0) (moment : D → ℕ) (left_since : D → ℕ → List ℕ → Type 0) (failures : D → ℕ) (o : Operations D) (s : OpScope) where
+module _ {D : Type 0} (g : Ghosts D) (o : Operations D) (s : OpScope) where
   -- nothing is planned for want of memory
-  pub refused_plan : ((opening : PageBytes) → IsKept seen may_leave opening o.store → LeavesOnly moment left_since o.store.device o.store.device (Explains opening o.store)) → s.stage ≡ Planning → HasBudget s
-      → PlansOn seen may_leave moment left_since failures o o s s (Err refusal.NoMemory)
+  pub refused_plan : ((opening : PageBytes) → IsKept g opening o.store → LeavesOnly g.moment g.left_since o.store.device o.store.device (Explains opening o.store)) → s.stage ≡ Planning → HasBudget s
+      → PlansOn g o o s s (Err refusal.NoMemory)
   refused_plan moments planning budget = record {
-    goes = λ opening relations counters right k few. (right, rests_goes_as relations counters (world seen opening o) (world seen opening o) s (rests_same (world seen opening o)) k);
+    goes = λ opening relations counters right k few. (right, rests_goes_as relations counters (world g opening o) (world g opening o) s (rests_same (world g opening o)) k);
     moments = moments;
     made = λ is. absurd cc;
     log = refl;
@@ -170,12 +171,12 @@ module _ {D : Type 0} (seen : D → List ℕ) (may_leave : D → List ℕ → Ty
     locks = refl;
     scope = inl (stays_same s);
     why = inl refl;
-    faults = no_fault (failures o.store.device) (failures o.store.device) (Err refusal.NoMemory) refl refl;
+    faults = no_fault (g.faults o.store.device) (g.faults o.store.device) (Err refusal.NoMemory) refl refl;
     once = omega arith;
   }
 
-module _ {D : Type 0} (seen : D → List ℕ) (may_leave : D → List ℕ → Type 0) (moment : D → ℕ) (left_since : D → ℕ → List ℕ → Type 0) (failures : D → ℕ) (o n : Operations D) (s t : OpScope) (planning : s.stage ≡ Planning) where
-  pub locked_some : (a : Stepped) → HasBudget s → LocksPage seen may_leave moment left_since failures o n s t (Ok a) → PlansOn seen may_leave moment left_since failures o n s t (Ok (Some a))
+module _ {D : Type 0} (g : Ghosts D) (o n : Operations D) (s t : OpScope) (planning : s.stage ≡ Planning) where
+  pub locked_some : (a : Stepped) → HasBudget s → LocksPage g o n s t (Ok a) → PlansOn g o n s t (Ok (Some a))
   locked_some a budget l = record {
     goes = λ opening relations counters right k few. l.goes opening relations counters right k;
     moments = l.moments;
@@ -190,11 +191,11 @@ module _ {D : Type 0} (seen : D → List ℕ) (may_leave : D → List ℕ → Ty
     locks = l.locks;
     scope = l.scope;
     why = tt;
-    faults = reported_ok (failures o.store.device) (failures n.store.device) (Ok a) a (Some a) refl l.faults;
+    faults = reported_ok (g.faults o.store.device) (g.faults n.store.device) (Ok a) a (Some a) refl l.faults;
     once = l.once;
   }
 
-  pub locked_err : (why : Refusal) → HasBudget s → LocksPage seen may_leave moment left_since failures o n s t (Err why) → PlansOn seen may_leave moment left_since failures o n s t (Err why)
+  pub locked_err : (why : Refusal) → HasBudget s → LocksPage g o n s t (Err why) → PlansOn g o n s t (Err why)
   locked_err why budget l = record {
     goes = λ opening relations counters right k few. l.goes opening relations counters right k;
     moments = l.moments;
@@ -209,14 +210,14 @@ module _ {D : Type 0} (seen : D → List ℕ) (may_leave : D → List ℕ → Ty
     locks = l.locks;
     scope = l.scope;
     why = l.why;
-    faults = reported_err (failures o.store.device) (failures n.store.device) (Err why) (Err why) why refl refl l.faults;
+    faults = reported_err (g.faults o.store.device) (g.faults n.store.device) (Err why) (Err why) why refl refl l.faults;
     once = l.once;
   }
 
 -- ---- a page of the plan is locked to be written
 
-module _ {D : Type 0} (seen : D → List ℕ) (may_leave : D → List ℕ → Type 0) (o n : Operations D) (s t : OpScope) (planning : s.stage ≡ Planning) (budget : HasBudget s) where
-  pub taken_some : (a : Stepped) → TakesLock seen may_leave o n s t (Ok a) → KeepsPlan seen may_leave o n s t (Ok (Some a))
+module _ {D : Type 0} (g : Ghosts D) (o n : Operations D) (s t : OpScope) (planning : s.stage ≡ Planning) (budget : HasBudget s) where
+  pub taken_some : (a : Stepped) → TakesLock g o n s t (Ok a) → KeepsPlan g o n s t (Ok (Some a))
   taken_some a l = record {
     goes = λ opening relations counters right k few. l.goes opening relations counters right k;
     store = l.store;
@@ -232,7 +233,7 @@ module _ {D : Type 0} (seen : D → List ℕ) (may_leave : D → List ℕ → Ty
     only_memory = tt;
   }
 
-  pub taken_err : (why : Refusal) → TakesLock seen may_leave o n s t (Err why) → KeepsPlan seen may_leave o n s t (Err why)
+  pub taken_err : (why : Refusal) → TakesLock g o n s t (Err why) → KeepsPlan g o n s t (Err why)
   taken_err why l = record {
     goes = λ opening relations counters right k few. l.goes opening relations counters right k;
     store = l.store;
@@ -250,35 +251,14 @@ module _ {D : Type 0} (seen : D → List ℕ) (may_leave : D → List ℕ → Ty
 
 -- ---- what is promised of a step
 
-pub record MakesStep {D : Type 0} (seen : D → List ℕ) (may_leave : D → List ℕ → Type 0) (moment : D → ℕ) (left_since : D → ℕ → List ℕ → Type 0) (failures : D → ℕ) (o n : Operations D) (s t : OpScope) (r : Result Stepped Refusal) : Type 0 where
-  pub steps : (opening : PageBytes) (relations counters : ℕ) → IsRight seen may_leave opening relations counters o → IsUnderWay relations counters (world seen opening o) s → relations ≤ 64 → counters ≤ 128
-      → IsRight seen may_leave opening relations counters n × Steps relations counters (world seen opening o) (world seen opening n) s t r
-  pub moments : (opening : PageBytes) → IsKept seen may_leave opening o.store → LeavesOnly moment left_since o.store.device n.store.device (Explains opening o.store)
-  pub log : used n.store.log + t.left ≡ used o.store.log + s.left
-  pub area : area_size n.store.log ≡ area_size o.store.log
-  pub durable : durable n.store.log ≡ durable o.store.log
-  pub budget : HasBudget t
-  pub claims : GivesBack (own_needs s.op s.split) (claimed o) (claimed n) r
-  pub full : r ≡ Ok stepped.Flush → IsFull o.store.pool × (n ≡ o)
-  pub stage : ComesTo t.stage r
-  pub work : Works s t r
-  pub records : KeepsRecords t (appended o.store.log) (appended n.store.log) r
-  pub locks : KeepsLocks s.number (IsNext o.rooms o.locks s) o.locks n.locks r
-  pub scope : KeepsScope s t r
-  pub writing : s.stage ≡ Writing → n.locks ≡ o.locks
-  pub went : s.stage ≡ Writing → r ≡ Ok stepped.Went → t.written ≡ s.written + 1
-  pub why : IfErr r IsCause
-  pub faults : TellsFaults (failures o.store.device) (failures n.store.device) r
-  pub once : moment n.store.device ≤ moment o.store.device + 1
-
 pub room_still : (old new : Log) (left now : ℕ) → new ≡ old → now ≡ left → used old + left < area_size old → used new + now < area_size new
 room_still old new left now log same room = subst (λ (X : Type 0). X) (λ i. used (sym log i) + sym same i < area_size (sym log i)) room
 
 not_writing : (s : OpScope) → s.stage ≡ Planning → s.stage ≡ Writing → ⊥
 not_writing s planning writing = cc
 
-module _ {D : Type 0} (seen : D → List ℕ) (may_leave : D → List ℕ → Type 0) (moment : D → ℕ) (left_since : D → ℕ → List ℕ → Type 0) (failures : D → ℕ) (o n : Operations D) (s t : OpScope) where
-  pub writes_step : (r : Result Stepped Refusal) → GoesAhead seen may_leave moment left_since failures o n s t r → MakesStep seen may_leave moment left_since failures o n s t r
+module _ {D : Type 0} (g : Ghosts D) (o n : Operations D) (s t : OpScope) where
+  pub writes_step : (r : Result Stepped Refusal) → GoesAhead g o n s t r → MakesStep g o n s t r
   writes_step r a = record {
     steps = a.steps;
     moments = a.moments;
@@ -301,7 +281,7 @@ module _ {D : Type 0} (seen : D → List ℕ) (may_leave : D → List ℕ → Ty
   }
 
   -- it is refused while it plans
-  pub stopped_step : (why : Refusal) → PlansOn seen may_leave moment left_since failures o n s t (Err why) → MakesStep seen may_leave moment left_since failures o n s t (Err why)
+  pub stopped_step : (why : Refusal) → PlansOn g o n s t (Err why) → MakesStep g o n s t (Err why)
   stopped_step why p = record {
     steps = λ opening relations counters right k few some. p.goes opening relations counters right k few;
     moments = p.moments;
@@ -319,15 +299,15 @@ module _ {D : Type 0} (seen : D → List ℕ) (may_leave : D → List ℕ → Ty
     writing = λ writing. p.locks;
     went = λ writing is. absurd cc;
     why = p.why;
-    faults = reported_err (failures o.store.device) (failures n.store.device) (Err why) (Err why) why refl refl p.faults;
+    faults = reported_err (g.faults o.store.device) (g.faults n.store.device) (Err why) (Err why) why refl refl p.faults;
     once = p.once;
   }
 
   -- it goes on planning
-  pub planned_step : (a : Stepped) → s.stage ≡ Planning → IsUnready (Ok a) → PlansOn seen may_leave moment left_since failures o n s t (Ok (Some a))
-      → MakesStep seen may_leave moment left_since failures o n s t (Ok a)
+  pub planned_step : (a : Stepped) → s.stage ≡ Planning → IsUnready (Ok a) → PlansOn g o n s t (Ok (Some a))
+      → MakesStep g o n s t (Ok a)
   planned_step a planning unready p = record {
-    steps = λ opening relations counters right k few some. let gone = p.goes opening relations counters right k few in (gone.0, on_steps relations counters (world seen opening o) (world seen opening n) s t (Ok a) gone.1);
+    steps = λ opening relations counters right k few some. let gone = p.goes opening relations counters right k few in (gone.0, on_steps relations counters (world g opening o) (world g opening n) s t (Ok a) gone.1);
     moments = p.moments;
     log = λ i. used (p.log i) + p.left i;
     area = ap (λ (l : Log). area_size l) p.log;
@@ -343,13 +323,13 @@ module _ {D : Type 0} (seen : D → List ℕ) (may_leave : D → List ℕ → Ty
     writing = λ writing. absurd (not_writing s planning writing);
     went = λ writing. absurd (not_writing s planning writing);
     why = tt;
-    faults = reported_ok (failures o.store.device) (failures n.store.device) (Ok (Some a)) (Some a) a refl p.faults;
+    faults = reported_ok (g.faults o.store.device) (g.faults n.store.device) (Ok (Some a)) (Some a) a refl p.faults;
     once = p.once;
   }
 
   -- its plan is made, and it goes ahead
-  pub made_step : (z : Operations D) (u : OpScope) (r : Result Stepped Refusal) → s.stage ≡ Planning → PlansOn seen may_leave moment left_since failures o n s t (Ok None) → GoesAhead seen may_leave moment left_since failures n z t u r
-      → MakesStep seen may_leave moment left_since failures o z s u r
+  pub made_step : (z : Operations D) (u : OpScope) (r : Result Stepped Refusal) → s.stage ≡ Planning → PlansOn g o n s t (Ok None) → GoesAhead g n z t u r
+      → MakesStep g o z s u r
   made_step z u r planning p a =
       let made = p.made refl in
       let same : SameOp s t = p.scope.op in
@@ -357,8 +337,8 @@ module _ {D : Type 0} (seen : D → List ℕ) (may_leave : D → List ℕ → Ty
         steps = λ opening relations counters right k few some.
             let gone = p.goes opening relations counters right k few in
             let ended = a.steps opening relations counters gone.0 gone.1.own few some in
-            (ended.0, steps_then relations counters (world seen opening o) (world seen opening n) (world seen opening z) s t u r (ap (λ (l : Log). appended l) p.log) p.scope.room gone.1 ended.1);
-        moments = λ opening kept. subst (λ (x : Operations D). IsKept seen may_leave opening x.store → LeavesOnly moment left_since x.store.device z.store.device (Explains opening x.store)) made.0 (a.moments opening) kept;
+            (ended.0, steps_then relations counters (world g opening o) (world g opening n) (world g opening z) s t u r (ap (λ (l : Log). appended l) p.log) p.scope.room gone.1 ended.1);
+        moments = λ opening kept. subst (λ (x : Operations D). IsKept g opening x.store → LeavesOnly g.moment g.left_since x.store.device z.store.device (Explains opening x.store)) made.0 (a.moments opening) kept;
         log = a.log ∙ (λ i. used (p.log i) + p.left i);
         area = a.area ∙ ap (λ (l : Log). area_size l) p.log;
         durable = a.durable ∙ ap (λ (l : Log). durable l) p.log;
@@ -373,6 +353,6 @@ module _ {D : Type 0} (seen : D → List ℕ) (may_leave : D → List ℕ → Ty
         writing = λ writing. absurd (not_writing s planning writing);
         went = λ writing. absurd (not_writing s planning writing);
         why = a.why;
-        faults = reported_behind (failures o.store.device) (failures n.store.device) (failures z.store.device) r (ap (λ (x : Operations D). failures x.store.device) made.0) a.faults;
-        once = subst (λ (x : Operations D). moment z.store.device ≤ moment x.store.device + 1) made.0 a.once;
+        faults = reported_behind (g.faults o.store.device) (g.faults n.store.device) (g.faults z.store.device) r (ap (λ (x : Operations D). g.faults x.store.device) made.0) a.faults;
+        once = subst (λ (x : Operations D). g.moment z.store.device ≤ g.moment x.store.device + 1) made.0 a.once;
       }

@@ -3,8 +3,9 @@ use Rattle.std.proofs.Common.{◌≡◌, ◌<◌, ◌≤◌, ◌+◌, ℕ, Bool,
 use Rattle.std.specs.Prelude.{IsSome}
 use Rattle.std.proofs.lemmas.Bool.{ne_eqb}
 use Rattle.std.proofs.lemmas.List.{append-nil, length-map, length-take-le}
+use Rattle.mt_disk.specs.declared.device.Device.{Ghosts}
 use Rattle.mt_frame.specs.Grammar.{IsTxn}
-use Rattle.mt_frame.specs.History.{may_stand}
+use Rattle.mt_area_rules.specs.History.{may_stand}
 use Rattle.mt_frame.specs.declared.records.LoggedOp.{LoggedOp}
 use Rattle.mt_frame.specs.declared.records.Record.TheVariants.{OpEnd}
 use Rattle.mt_model.specs.Model.{base_after}
@@ -93,14 +94,14 @@ acts relations counters w z s t reply plan takes held own others ended same = re
 mapped_size : (kinds : List ℕ) (total : ℕ) → total ≤ length kinds → length (mapped kinds total) ≡ total
 mapped_size kinds total within = length-map (take total kinds) (λ (kind : ℕ). kind == 0) ∙ length-take-le total kinds within
 
-module _ {D : Type 0} (seen : D → List ℕ) (may_leave : D → List ℕ → Type 0) (opening : PageBytes) (relations counters : ℕ) (o : Operations D) (s : OpScope) (reply : Reply)
-    (right : IsRight seen may_leave opening relations counters o) (k : IsUnderWay relations counters (world seen opening o) s) (stage : s.stage ≡ Writing) (is : s.reply ≡ Some reply)
+module _ {D : Type 0} (g : Ghosts D) (opening : PageBytes) (relations counters : ℕ) (o : Operations D) (s : OpScope) (reply : Reply)
+    (right : IsRight g opening relations counters o) (k : IsUnderWay relations counters (world g opening o) s) (stage : s.stage ≡ Writing) (is : s.reply ≡ Some reply)
     (map : SpaceMap) (m : OpScope) (map_same : map ≡ o.map) (changes : m.changes ≡ s.changes) where
   abbrev held_now : PageBytes
-  held_now = held_in (world seen opening o)
+  held_now = held_in (world g opening o)
 
   plan_now : IsPlanned relations counters (pages o.store.pool) (looked s) held_now (changes_in s) s.op s.split reply
-  plan_now = planned_reply relations counters (world seen opening o) s reply right.sound k stage is
+  plan_now = planned_reply relations counters (world g opening o) s reply right.sound k stage is
 
   short_still : AreShort (changes_in m) held_now
   short_still = subst (λ (cs : Changes). AreShort cs.list.items held_now) (sym changes) plan_now.short
@@ -155,8 +156,8 @@ module _ {D : Type 0} (seen : D → List ℕ) (may_leave : D → List ℕ → Ty
 
 -- ---- the index of rooms follows
 
-module _ {D : Type 0} (seen : D → List ℕ) (may_leave : D → List ℕ → Type 0) (opening : PageBytes) (relations counters : ℕ) (o : Operations D) (s : OpScope) (reply : Reply)
-    (right : IsRight seen may_leave opening relations counters o) (k : IsUnderWay relations counters (world seen opening o) s) (stage : s.stage ≡ Writing) (is : s.reply ≡ Some reply)
+module _ {D : Type 0} (g : Ghosts D) (opening : PageBytes) (relations counters : ℕ) (o : Operations D) (s : OpScope) (reply : Reply)
+    (right : IsRight g opening relations counters o) (k : IsUnderWay relations counters (world g opening o) s) (stage : s.stage ≡ Writing) (is : s.reply ≡ Some reply)
     (m : OpScope) (copies : m.seen ≡ s.seen) where
   -- the pages that it looked at are whole
   pub note_whole : (p : ℕ) (bytes : List ℕ) → looked m p ≡ Some bytes → length bytes ≡ 4096
@@ -173,9 +174,9 @@ module _ {D : Type 0} (seen : D → List ℕ) (may_leave : D → List ℕ → Ty
   Asks map x y = (f : PageBytes) × Agrees (copied x.list.items) f × AreShort y.list.items f × ((p : ℕ) → get_or map p 0 ≡ 3 → IsShaped (after y.list.items f p))
 
   -- its changes leave each page of records well formed
-  pub note_asks : (map : List ℕ) → m.changes ≡ s.changes → map ≡ after (changes_in s) (held_in (world seen opening o)) 0 → Asks map m.seen m.changes
+  pub note_asks : (map : List ℕ) → m.changes ≡ s.changes → map ≡ after (changes_in s) (held_in (world g opening o)) 0 → Asks map m.seen m.changes
   note_asks map changes follows =
-      let w = world seen opening o in
+      let w = world g opening o in
       let plan = planned_reply relations counters w s reply right.sound k stage is in
       let made : Asks map s.seen s.changes =
       (held_in w, (now relations counters w s reply right.sound k stage is).sees.saw, plan.short, λ p records. plan.good.rows.file.each p (ap (λ (bytes : List ℕ). get_or bytes p 0) (sym follows) ∙ records)) in
@@ -183,11 +184,11 @@ module _ {D : Type 0} (seen : D → List ℕ) (may_leave : D → List ℕ → Ty
 
 -- ---- it has ended
 
-module _ {D : Type 0} (seen : D → List ℕ) (may_leave : D → List ℕ → Type 0) (opening : PageBytes) (relations counters : ℕ) (o : Operations D) (s t : OpScope) (reply : Reply)
-    (right : IsRight seen may_leave opening relations counters o) (k : IsUnderWay relations counters (world seen opening o) s) (stage : s.stage ≡ Writing) (is : s.reply ≡ Some reply)
+module _ {D : Type 0} (g : Ghosts D) (opening : PageBytes) (relations counters : ℕ) (o : Operations D) (s t : OpScope) (reply : Reply)
+    (right : IsRight g opening relations counters o) (k : IsUnderWay relations counters (world g opening o) s) (stage : s.stage ≡ Writing) (is : s.reply ≡ Some reply)
     (left : ℕ) (moves : t ≡ record s { left = left; reply = None; stage = Ready }) where
   abbrev w : World
-  w = world seen opening o
+  w = world g opening o
 
   planned : IsPlanned relations counters w.total (looked s) (held_in w) (changes_in s) s.op s.split reply
   planned = planned_reply relations counters w s reply right.sound k stage is
@@ -248,18 +249,18 @@ module _ {D : Type 0} (seen : D → List ℕ) (may_leave : D → List ℕ → Ty
       followed
 
   -- its end was noted
-  pub finished : (done : LoggedOp) (m n : Operations D) → logged_of s.op reply ≡ Some done → s.written ≡ length (changes_in s) → Notes w (world seen opening m) (OpEnd s.txn s.number s.undoes done) → IsKept seen may_leave opening m.store
+  pub finished : (done : LoggedOp) (m n : Operations D) → logged_of s.op reply ≡ Some done → s.written ≡ length (changes_in s) → Notes w (world g opening m) (OpEnd s.txn s.number s.undoes done) → IsKept g opening m.store
       → n.store ≡ m.store → n.locks ≡ m.locks → n.map.kinds.value ≡ after (changes_in s) (held_in w) 0 → n.map.space.0 ≡ mapped n.map.kinds.value (pages o.store.pool) → reserved_of n.map.space ≤ free_of n.map.space
       → length n.rooms ≡ length o.rooms → AreRooms n.rooms (after (changes_in s) (held_in w))
-      → IsRight seen may_leave opening relations counters n × Acts relations counters w (world seen opening n) s t reply
+      → IsRight g opening relations counters n × Acts relations counters w (world g opening n) s t reply
   finished done m n due all noted kept store locks map space claims rooms fits =
-      let z = world seen opening m in
-      let moved : world seen opening n ≡ z = λ i. world seen opening (record m { store = store i; locks = locks i }) in
+      let z = world g opening m in
+      let moved : world g opening n ≡ z = λ i. world g opening (record m { store = store i; locks = locks i }) in
       let e = ends relations counters w z s done noted right.sound k stage all reply is in
       let total : pages o.store.pool ≡ pages n.store.pool = sym noted.area.total ∙ sym (ap (λ (x : Store D). pages x.pool) store) in
-      let kinds : n.map.kinds.value ≡ held_in (world seen opening n) 0 = map ∙ sym (ap (λ (x : World). held_in x 0) moved ∙ ap (λ (f : PageBytes). f 0) e.1) in (
+      let kinds : n.map.kinds.value ≡ held_in (world g opening n) 0 = map ∙ sym (ap (λ (x : World). held_in x 0) moved ∙ ap (λ (f : PageBytes). f 0) e.1) in (
         record {
-          kept = subst (λ (x : Store D). IsKept seen may_leave opening x) (sym store) kept;
+          kept = subst (λ (x : Store D). IsKept g opening x) (sym store) kept;
           sound = subst (IsWorld relations counters) (sym moved) e.0;
           map = kinds;
           space = space ∙ (λ i. mapped (kinds i) (total i));
@@ -267,7 +268,7 @@ module _ {D : Type 0} (seen : D → List ℕ) (may_leave : D → List ℕ → Ty
           rooms = rooms ∙ right.rooms ∙ total;
           noted = subst (AreRooms n.rooms) (sym (ap held_in moved ∙ e.1)) fits;
         },
-        acts relations counters w (world seen opening n) s t reply planned takes (ap held_in moved ∙ e.1)
+        acts relations counters w (world g opening n) s t reply planned takes (ap held_in moved ∙ e.1)
             (subst (λ (x : World). IsUnderWay relations counters x t) (sym moved) (own_ends relations counters w z s done noted right.sound k stage all t same guards copies ready))
             (λ u ku other. subst (λ (x : World). IsUnderWay relations counters x u) (sym moved) (others_end relations counters w z s done noted right.sound k stage all u ku other))
             (ap (λ (x : World). x.records) moved ∙ noted.records ∙ ap (λ (d : Option LoggedOp). w.records ++ end_with s.txn s.number s.undoes d) (sym due)) same,
@@ -276,15 +277,15 @@ module _ {D : Type 0} (seen : D → List ℕ) (may_leave : D → List ℕ → Ty
   -- nothing of it is logged
   pub finished_quietly : (n : Operations D) → logged_of s.op reply ≡ None → n.store ≡ o.store → n.locks ≡ o.locks → n.map.kinds.value ≡ after (changes_in s) (held_in w) 0
       → n.map.space.0 ≡ mapped n.map.kinds.value (pages o.store.pool) → reserved_of n.map.space ≤ free_of n.map.space → length n.rooms ≡ length o.rooms → AreRooms n.rooms (after (changes_in s) (held_in w))
-      → IsRight seen may_leave opening relations counters n × Acts relations counters w (world seen opening n) s t reply
+      → IsRight g opening relations counters n × Acts relations counters w (world g opening n) s t reply
   finished_quietly n quiet store locks map space claims rooms fits =
-      let moved : world seen opening n ≡ w = λ i. world seen opening (record o { store = store i; locks = locks i }) in
+      let moved : world g opening n ≡ w = λ i. world g opening (record o { store = store i; locks = locks i }) in
       let none = nothing_changes relations counters w s reply right.sound k stage is quiet in
       let held : after (changes_in s) (held_in w) ≡ held_in w = ap (λ (cs : List PageChange). after cs (held_in w)) none in
       let total : pages o.store.pool ≡ pages n.store.pool = sym (ap (λ (x : Store D). pages x.pool) store) in
-      let kinds : n.map.kinds.value ≡ held_in (world seen opening n) 0 = map ∙ ap (λ (f : PageBytes). f 0) held ∙ sym (ap (λ (x : World). held_in x 0) moved) in (
+      let kinds : n.map.kinds.value ≡ held_in (world g opening n) 0 = map ∙ ap (λ (f : PageBytes). f 0) held ∙ sym (ap (λ (x : World). held_in x 0) moved) in (
         record {
-          kept = subst (λ (x : Store D). IsKept seen may_leave opening x) (sym store) right.kept;
+          kept = subst (λ (x : Store D). IsKept g opening x) (sym store) right.kept;
           sound = subst (IsWorld relations counters) (sym moved) right.sound;
           map = kinds;
           space = space ∙ (λ i. mapped (kinds i) (total i));
@@ -292,7 +293,7 @@ module _ {D : Type 0} (seen : D → List ℕ) (may_leave : D → List ℕ → Ty
           rooms = rooms ∙ right.rooms ∙ total;
           noted = subst (AreRooms n.rooms) (sym (ap held_in moved ∙ sym held)) fits;
         },
-        acts relations counters w (world seen opening n) s t reply planned takes (ap held_in moved ∙ sym held)
+        acts relations counters w (world g opening n) s t reply planned takes (ap held_in moved ∙ sym held)
             (subst (λ (x : World). IsUnderWay relations counters x t) (sym moved) (own_ends_quietly relations counters w s right.sound k stage none t same guards copies ready))
             (λ u ku other. subst (λ (x : World). IsUnderWay relations counters x u) (sym moved) ku)
             (ap (λ (x : World). x.records) moved ∙ sym (append-nil w.records) ∙ ap (λ (d : Option LoggedOp). w.records ++ end_with s.txn s.number s.undoes d) (sym quiet)) same,

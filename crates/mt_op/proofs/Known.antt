@@ -6,6 +6,7 @@ use Rattle.std.proofs.lemmas.Bool.{cases_eq}
 use Rattle.std.proofs.lemmas.List.Elements.{All-get_or, All-contains}
 use Rattle.std.proofs.Props.{props}
 use mathlib.Core.Logic.{∥∥₁_elim, ∥∥₁_map}
+use Rattle.mt_disk.specs.declared.device.Device.{Ghosts}
 use Rattle.mt_frame.specs.Grammar.{IsTxn, IsOp}
 use Rattle.mt_file.specs.Rooms.{AreRooms, Takes}
 use Rattle.mt_log.specs.Words.{appended}
@@ -33,9 +34,9 @@ use Rattle.mt_op.specs.declared.scope.Stage.TheVariants.{Writing, Taking}
 use Rattle.mt_op.proofs.Alone.{guard_of}
 use Rattle.mt_op.proofs.Staying.{rests_own}
 
-pub record IsKnown {D : Type 0} (seen : D → List ℕ) (may_leave : D → List ℕ → Type 0) (o : Operations D) (s : OpScope) : Type 0 where
-  pub kept : HasOpening seen may_leave o.store
-  pub steady : IsSteady seen may_leave o.store
+pub record IsKnown {D : Type 0} (g : Ghosts D) (o : Operations D) (s : OpScope) : Type 0 where
+  pub kept : HasOpening g o.store
+  pub steady : IsSteady g o.store
   pub txn : IsTxn s.txn
   pub op : IsOp s.number
   pub locks : locks_of s.number o.locks ≡ s.guards.items
@@ -74,16 +75,16 @@ short_record relations counters (Delete r k) within = omega arith
 short_record relations counters (Add c d) within = omega arith
 short_record relations counters (Read c) within = omega arith
 
-module _ {D : Type 0} (seen : D → List ℕ) (may_leave : D → List ℕ → Type 0) where
-  Known-prop : (o : Operations D) (s : OpScope) → IsProp (IsKnown seen may_leave o s)
+module _ {D : Type 0} (g : Ghosts D) where
+  Known-prop : (o : Operations D) (s : OpScope) → IsProp (IsKnown g o s)
   Known-prop o s = hlevel (props, Steady-prop)
 
-  pub known : (o : Operations D) (s : OpScope) → IsOneOf seen may_leave o s → IsKnown seen may_leave o s
+  pub known : (o : Operations D) (s : OpScope) → IsOneOf g o s → IsKnown g o s
   known o s one = ∥∥₁_elim one (Known-prop o s) (λ (opening, relations, counters, right, k).
-      let kept : HasOpening seen may_leave o.store = ∣ (opening, right.kept) ∣₁ in
+      let kept : HasOpening g o.store = ∣ (opening, right.kept) ∣₁ in
       record {
         kept = kept;
-        steady = steady seen may_leave o.store kept;
+        steady = steady g o.store kept;
         txn = k.txn;
         op = k.op;
         locks = k.locks;
@@ -91,22 +92,22 @@ module _ {D : Type 0} (seen : D → List ℕ) (may_leave : D → List ℕ → Ty
         total = k.total;
         inside = k.inside;
         rooms = right.rooms;
-        unseen = λ p none. unlooked_at relations counters (world seen opening o) s p k none;
-        records = λ bytes p some takes. noted_records o.rooms o.map.kinds.value (held_in (world seen opening o)) bytes p right.noted right.map some takes;
+        unseen = λ p none. unlooked_at relations counters (world g opening o) s p k none;
+        records = λ bytes p some takes. noted_records o.rooms o.map.kinds.value (held_in (world g opening o)) bytes p right.noted right.map some takes;
         short = short_record relations counters s.op k.within;
       })
 
-  pub one_of : (o : Operations D) (s : OpScope) → IsOneWithin seen may_leave o s → IsOneOf seen may_leave o s
+  pub one_of : (o : Operations D) (s : OpScope) → IsOneWithin g o s → IsOneOf g o s
   one_of o s one = ∥∥₁_map one (λ (opening, relations, counters, right, k, few, some). (opening, relations, counters, right, k))
 
-  pub known_within : (o : Operations D) (s : OpScope) → IsOneWithin seen may_leave o s → IsKnown seen may_leave o s
+  pub known_within : (o : Operations D) (s : OpScope) → IsOneWithin g o s → IsKnown g o s
   known_within o s one = known o s (one_of o s one)
 
   -- it stays where nothing changes but what is in frames
-  pub one_rests : (o n : Operations D) (s : OpScope) → ((opening : PageBytes) (relations counters : ℕ) → IsRight seen may_leave opening relations counters o → IsRight seen may_leave opening relations counters n)
-      → ((opening : PageBytes) → Rests (world seen opening o) (world seen opening n)) → IsOneOf seen may_leave o s → IsOneOf seen may_leave n s
+  pub one_rests : (o n : Operations D) (s : OpScope) → ((opening : PageBytes) (relations counters : ℕ) → IsRight g opening relations counters o → IsRight g opening relations counters n)
+      → ((opening : PageBytes) → Rests (world g opening o) (world g opening n)) → IsOneOf g o s → IsOneOf g n s
   one_rests o n s stays rests one = ∥∥₁_map one (λ (opening, relations, counters, right, k).
-      (opening, relations, counters, stays opening relations counters right, rests_own relations counters (world seen opening o) (world seen opening n) s (rests opening) k))
+      (opening, relations, counters, stays opening relations counters right, rests_own relations counters (world g opening o) (world g opening n) s (rests opening) k))
 
 -- what is known of one that writes
 pub record IsOn {D : Type 0} (o : Operations D) (s : OpScope) : Type 0 where
@@ -116,9 +117,9 @@ pub record IsOn {D : Type 0} (o : Operations D) (s : OpScope) : Type 0 where
   pub few : length (changes_in s) ≤ 8
   pub inside : (c : PageChange) → s.written < length (changes_in s) → c ≡ get_or (changes_in s) s.written c → c.page < pages o.store.pool
 
-pub writes_on : {D : Type 0} (seen : D → List ℕ) (may_leave : D → List ℕ → Type 0) (o : Operations D) (s : OpScope) → IsOneOf seen may_leave o s → s.stage ≡ Writing → IsOn o s
-writes_on seen may_leave o s one writing = ∥∥₁_elim one (hlevel props) (λ (opening, relations, counters, right, k).
-    let at : IsWriting relations counters (world seen opening o) s = subst (IsAt relations counters (world seen opening o) s) writing k.at in
+pub writes_on : {D : Type 0} (g : Ghosts D) (o : Operations D) (s : OpScope) → IsOneOf g o s → s.stage ≡ Writing → IsOn o s
+writes_on g o s one writing = ∥∥₁_elim one (hlevel props) (λ (opening, relations, counters, right, k).
+    let at : IsWriting relations counters (world g opening o) s = subst (IsAt relations counters (world g opening o) s) writing k.at in
     record {
       unfinished = at.unended.unfinished;
       all_stand = at.all_stand;

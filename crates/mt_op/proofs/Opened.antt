@@ -2,7 +2,7 @@
 use Rattle.std.proofs.Common.{◌≡◌, List, [], sym, subst}
 use Rattle.std.proofs.lemmas.List.Elements.{All-nil}
 use Rattle.mt_frame.specs.declared.records.Record.{Record}
-use Rattle.mt_frame.specs.History.{txn_of}
+use Rattle.mt_frame.specs.Grammar.{txn_of}
 use Rattle.mt_op.specs.Begun.{AreImages}
 
 -- a log without a record has no other than images

@@ -6,7 +6,7 @@ use Rattle.mt_base.specs.Edits.{patched}
 use Rattle.mt_base.specs.declared.edits.Edit.{Edit}
 use Rattle.mt_frame.specs.declared.records.Record.{Record}
 use Rattle.mt_frame.specs.declared.records.Record.TheVariants.{Page, OpEnd, OpDropped, Commit, AbortEnd}
-use Rattle.mt_frame.specs.History.{is_of_page, some_record}
+use Rattle.mt_area_rules.specs.History.{is_of_page, some_record}
 use Rattle.mt_space.specs.Changes.{PageBytes, AreShort}
 use Rattle.mt_space.specs.declared.changes.PageChange.{PageChange}
 use Rattle.mt_steps.specs.Repeated.{Repeated, Change, by, but, on, changed, repeated, repeat, logged, ranges_of, changes_of}

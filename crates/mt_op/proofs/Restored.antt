@@ -6,10 +6,11 @@ use Rattle.std.specs.Prelude.{IsSome, ◌==◌}
 use Rattle.std.proofs.lemmas.Bool.{cases_eq, cases_Bool, ne_eqb}
 use Rattle.std.proofs.lemmas.List.{get_or-take}
 use Rattle.std.proofs.lemmas.List.Elements.{All-get_or}
+use Rattle.mt_disk.specs.declared.device.Device.{Ghosts}
 use Rattle.mt_frame.specs.declared.records.Record.{Record}
 use Rattle.mt_frame.specs.declared.records.Record.TheVariants.{OpDropped}
 use Rattle.mt_frame.specs.Grammar.{IsTxn}
-use Rattle.mt_frame.specs.History.{some_record, is_of_page, may_stand}
+use Rattle.mt_area_rules.specs.History.{some_record, is_of_page, may_stand}
 use Rattle.mt_log.specs.Words.{appended}
 use Rattle.mt_space.specs.Changes.{PageBytes}
 use Rattle.mt_pool.specs.Kept.{IsKept}
@@ -80,9 +81,9 @@ pub record IsReturnable {D : Type 0} (o : Operations D) (s : OpScope) (p : ℕ) 
   pub logged : 0 < waits_for o.store.pool p
 
 -- the last of the pages that still stand can
-pub returnable : {D : Type 0} (seen : D → List ℕ) (may_leave : D → List ℕ → Type 0) (opening : PageBytes) (relations counters : ℕ) (o : Operations D) (s : OpScope) (c : PageChange) → IsRight seen may_leave opening relations counters o
-    → IsUnderWay relations counters (world seen opening o) s → (s.stage ≡ Writing) ⊎ (s.stage ≡ Taking) → 0 < s.standing → c ≡ get_or (changes_in s) (s.standing - 1) c → IsReturnable o s c.page
-returnable seen may_leave opening relations counters o s c right k stage one is = record {
+pub returnable : {D : Type 0} (g : Ghosts D) (opening : PageBytes) (relations counters : ℕ) (o : Operations D) (s : OpScope) (c : PageChange) → IsRight g opening relations counters o
+    → IsUnderWay relations counters (world g opening o) s → (s.stage ≡ Writing) ⊎ (s.stage ≡ Taking) → 0 < s.standing → c ≡ get_or (changes_in s) (s.standing - 1) c → IsReturnable o s c.page
+returnable g opening relations counters o s c right k stage one is = record {
   some = some;
   inside = k.inside c.page some;
   logged = elim (cases_eq (waits_for o.store.pool c.page) 0) [
@@ -92,7 +93,7 @@ returnable seen may_leave opening relations counters o s c right k stage one is 
 }
   where
     w : World
-    w = world seen opening o
+    w = world g opening o
 
     at : HasChanged relations counters w s
     at = has_changed relations counters w s k stage
@@ -114,9 +115,9 @@ pub record HasStanding {D : Type 0} (o : Operations D) (s : OpScope) : Type 0 wh
   pub unfinished : IsUnfinished s.txn s.number (appended o.store.log)
   pub place : s.standing - 1 < length (changes_in s)
 
-pub standing_one : {D : Type 0} (seen : D → List ℕ) (may_leave : D → List ℕ → Type 0) (o : Operations D) (s : OpScope) → IsOneOf seen may_leave o s → (s.stage ≡ Writing) ⊎ (s.stage ≡ Taking) → 0 < s.standing → HasStanding o s
-standing_one seen may_leave o s one stage stands = ∥∥₁_elim one (hlevel props) (λ (opening, relations, counters, right, k).
-    let at : HasChanged relations counters (world seen opening o) s = has_changed relations counters (world seen opening o) s k stage in
+pub standing_one : {D : Type 0} (g : Ghosts D) (o : Operations D) (s : OpScope) → IsOneOf g o s → (s.stage ≡ Writing) ⊎ (s.stage ≡ Taking) → 0 < s.standing → HasStanding o s
+standing_one g o s one stage stands = ∥∥₁_elim one (hlevel props) (λ (opening, relations, counters, right, k).
+    let at : HasChanged relations counters (world g opening o) s = has_changed relations counters (world g opening o) s k stage in
     record { unfinished = at.unended.unfinished; place = let some = at.some in let fewer = at.fewer_stand in omega arith })
 
 -- the record of its taking back may stand in the log
@@ -125,19 +126,19 @@ drop_stands records txn op is u =
     let named : (txn == 0) ≡ false = ne_eqb txn 0 (λ e. let some = is.0 in omega arith) in
     rw (named, u.transaction) refl
 
-pub returnable_one : {D : Type 0} (seen : D → List ℕ) (may_leave : D → List ℕ → Type 0) (o : Operations D) (s : OpScope) (c : PageChange) → IsOneOf seen may_leave o s
+pub returnable_one : {D : Type 0} (g : Ghosts D) (o : Operations D) (s : OpScope) (c : PageChange) → IsOneOf g o s
     → (s.stage ≡ Writing) ⊎ (s.stage ≡ Taking) → 0 < s.standing → c ≡ get_or (changes_in s) (s.standing - 1) c → IsReturnable o s c.page
-returnable_one seen may_leave o s c one stage some is = ∥∥₁_elim one (hlevel props) (λ (opening, relations, counters, right, k). returnable seen may_leave opening relations counters o s c right k stage some is)
+returnable_one g o s c one stage some is = ∥∥₁_elim one (hlevel props) (λ (opening, relations, counters, right, k). returnable g opening relations counters o s c right k stage some is)
 
-module _ {D : Type 0} (seen : D → List ℕ) (may_leave : D → List ℕ → Type 0) (opening : PageBytes) (relations counters : ℕ) (o n : Operations D) (s : OpScope) (c : PageChange)
-    (right : IsRight seen may_leave opening relations counters o) (k : IsUnderWay relations counters (world seen opening o) s) (stage : (s.stage ≡ Writing) ⊎ (s.stage ≡ Taking))
-    (is : c ≡ get_or (changes_in s) (s.standing - 1) c) (kept : IsKept seen may_leave opening n.store) (map : n.map ≡ o.map) (rooms : n.rooms ≡ o.rooms) where
+module _ {D : Type 0} (g : Ghosts D) (opening : PageBytes) (relations counters : ℕ) (o n : Operations D) (s : OpScope) (c : PageChange)
+    (right : IsRight g opening relations counters o) (k : IsUnderWay relations counters (world g opening o) s) (stage : (s.stage ≡ Writing) ⊎ (s.stage ≡ Taking))
+    (is : c ≡ get_or (changes_in s) (s.standing - 1) c) (kept : IsKept g opening n.store) (map : n.map ≡ o.map) (rooms : n.rooms ≡ o.rooms) where
   -- a page is put back that is not the last
-  pub back_goes : (t : OpScope) → PutsBack (world seen opening o) (world seen opening n) s c [] → 1 < s.standing → SamePlan s t → t.stage ≡ Taking → t.written ≡ s.written → t.standing + 1 ≡ s.standing
-      → IsRight seen may_leave opening relations counters n × Goes relations counters (world seen opening o) (world seen opening n) s t
+  pub back_goes : (t : OpScope) → PutsBack (world g opening o) (world g opening n) s c [] → 1 < s.standing → SamePlan s t → t.stage ≡ Taking → t.written ≡ s.written → t.standing + 1 ≡ s.standing
+      → IsRight g opening relations counters n × Goes relations counters (world g opening o) (world g opening n) s t
   back_goes t m more plan taking written standing =
-      let w = world seen opening o in let z = world seen opening n in (
-        right_held seen may_leave opening relations counters o n right kept (puts_back relations counters w z s c m right.sound k stage more is) (puts_back_held relations counters w z s c m right.sound k stage more is) map rooms m.area.total,
+      let w = world g opening o in let z = world g opening n in (
+        right_held g opening relations counters o n right kept (puts_back relations counters w z s c m right.sound k stage more is) (puts_back_held relations counters w z s c m right.sound k stage more is) map rooms m.area.total,
         record {
           own = own_puts_back relations counters w z s c m right.sound k stage more is t plan taking written standing;
           others = others_put_back relations counters w z s c m right.sound k stage more is;
@@ -147,11 +148,11 @@ module _ {D : Type 0} (seen : D → List ℕ) (may_leave : D → List ℕ → Ty
       )
 
   -- the last one is
-  pub last_goes : (t : OpScope) → PutsBack (world seen opening o) (world seen opening n) s c (OpDropped s.txn s.number ∷ []) → s.standing ≡ 1 → SamePlan s t → t.stage ≡ Cleared
-      → IsRight seen may_leave opening relations counters n × Goes relations counters (world seen opening o) (world seen opening n) s t
+  pub last_goes : (t : OpScope) → PutsBack (world g opening o) (world g opening n) s c (OpDropped s.txn s.number ∷ []) → s.standing ≡ 1 → SamePlan s t → t.stage ≡ Cleared
+      → IsRight g opening relations counters n × Goes relations counters (world g opening o) (world g opening n) s t
   last_goes t m last plan cleared =
-      let w = world seen opening o in let z = world seen opening n in (
-        right_held seen may_leave opening relations counters o n right kept (clears relations counters w z s c m right.sound k stage last is) (clears_held relations counters w z s c m right.sound k stage last is) map rooms m.area.total,
+      let w = world g opening o in let z = world g opening n in (
+        right_held g opening relations counters o n right kept (clears relations counters w z s c m right.sound k stage last is) (clears_held relations counters w z s c m right.sound k stage last is) map rooms m.area.total,
         record {
           own = own_clears relations counters w z s c m right.sound k stage last is t plan.op plan.guards plan.seen cleared;
           others = others_clear relations counters w z s c m right.sound k stage last is;
@@ -161,11 +162,11 @@ module _ {D : Type 0} (seen : D → List ℕ) (may_leave : D → List ℕ → Ty
       )
 
 -- its locks go that has nothing unfinished
-pub leaves_right : {D : Type 0} (seen : D → List ℕ) (may_leave : D → List ℕ → Type 0) (opening : PageBytes) (relations counters : ℕ) (o n : Operations D) (s : OpScope) → IsRight seen may_leave opening relations counters o
-    → HasNothing (world seen opening o) s → Leaves (world seen opening o) (world seen opening n) s → n.store ≡ o.store → n.map ≡ o.map → n.rooms ≡ o.rooms → IsRight seen may_leave opening relations counters n
-leaves_right {D = D} seen may_leave opening relations counters o n s right nothing m store map rooms =
-    let w = world seen opening o in let z = world seen opening n in
-    right_held seen may_leave opening relations counters o n right (subst (λ (x : Store D). IsKept seen may_leave opening x) (sym store) right.kept)
+pub leaves_right : {D : Type 0} (g : Ghosts D) (opening : PageBytes) (relations counters : ℕ) (o n : Operations D) (s : OpScope) → IsRight g opening relations counters o
+    → HasNothing (world g opening o) s → Leaves (world g opening o) (world g opening n) s → n.store ≡ o.store → n.map ≡ o.map → n.rooms ≡ o.rooms → IsRight g opening relations counters n
+leaves_right {D = D} g opening relations counters o n s right nothing m store map rooms =
+    let w = world g opening o in let z = world g opening n in
+    right_held g opening relations counters o n right (subst (λ (x : Store D). IsKept g opening x) (sym store) right.kept)
     (world_leaves relations counters w z s m right.sound nothing) (leaves_held w z s m) map rooms m.area.total
 
 module _ (relations counters : ℕ) (w : World) (s : OpScope) (k : IsUnderWay relations counters w s) (stage : (s.stage ≡ Planning) ⊎ ((s.stage ≡ Writing) ⊎ (s.stage ≡ Taking))) where

@@ -4,7 +4,7 @@ use Rattle.std.specs.Prelude.{IsSome}
 use Rattle.std.proofs.lemmas.List.Elements.{All-take, All-contains, Contains-append_right}
 use Rattle.mt_base.specs.declared.modes.Mode.TheVariants.{Write}
 use Rattle.mt_frame.specs.declared.records.Record.{Record}
-use Rattle.mt_frame.specs.History.{some_record, ends_txn, ends_op, finishes, undoes_op}
+use Rattle.mt_area_rules.specs.History.{some_record, ends_txn, ends_op, finishes, undoes_op}
 use Rattle.mt_frame.specs.Grammar.{IsTxn, IsOp}
 use Rattle.mt_model.specs.declared.operations.Op.{Op}
 use Rattle.mt_model.specs.declared.operations.Reply.{Reply}

@@ -3,6 +3,7 @@ use Rattle.std.proofs.Common.{◌≡◌, ◌<◌, ◌≤◌, ℕ, List, [], get_
 use Rattle.std.proofs.Props.{props}
 use Rattle.std.proofs.lemmas.Int.{ints}
 use mathlib.Core.Logic.{∥∥₁_elim, ∥∥₁_map}
+use Rattle.mt_disk.specs.declared.device.Device.{Ghosts}
 use Rattle.mt_disk.proofs.Frame.{leaves_more, runs_both, started}
 use Rattle.mt_file.proofs.Filed.{record_kind, record_records}
 use Rattle.mt_file.specs.File.{record_in}
@@ -31,23 +32,23 @@ use Rattle.mt_steps.specs.Held.{Holds}
 use Rattle.mt_steps.specs.Listed.{HasListed, IsSame}
 use Rattle.mt_steps.specs.Plans.{IsGood}
 
-module _ {D : Type 0} (seen : D → List ℕ) (may_leave : D → List ℕ → Type 0) where
-  pub idle_opening : (relations : ℕ) (o : Operations D) → IsIdle seen may_leave relations o → HasOpening seen may_leave o.store
+module _ {D : Type 0} (g : Ghosts D) where
+  pub idle_opening : (relations : ℕ) (o : Operations D) → IsIdle g relations o → HasOpening g o.store
   idle_opening relations o idle = ∥∥₁_map idle (λ (opening, counters, right, free). (opening, right.kept))
 
-  pub idle_steady : (relations : ℕ) (o : Operations D) → IsIdle seen may_leave relations o → IsSteady seen may_leave o.store
-  idle_steady relations o idle = steady seen may_leave o.store (idle_opening relations o idle)
+  pub idle_steady : (relations : ℕ) (o : Operations D) → IsIdle g relations o → IsSteady g o.store
+  idle_steady relations o idle = steady g o.store (idle_opening relations o idle)
 
   -- the bytes that a page shows are those that are held
-  pub idle_page : (opening : PageBytes) (relations counters : ℕ) (o : Operations D) (p : ℕ) → IsRight seen may_leave opening relations counters o → o.locks ≡ [] → p < pages o.store.pool
-      → view o.store.pool (seen o.store.device) p ≡ held_in (world seen opening o) p
-  idle_page opening relations counters o p right free inside = idle_shows relations counters (world seen opening o) right.sound free p inside
+  pub idle_page : (opening : PageBytes) (relations counters : ℕ) (o : Operations D) (p : ℕ) → IsRight g opening relations counters o → o.locks ≡ [] → p < pages o.store.pool
+      → view o.store.pool (g.seen o.store.device) p ≡ held_in (world g opening o) p
+  idle_page opening relations counters o p right free inside = idle_shows relations counters (world g opening o) right.sound free p inside
 
-  pub idle_free : (relations : ℕ) (o : Operations D) → IsIdle seen may_leave relations o → o.locks ≡ []
+  pub idle_free : (relations : ℕ) (o : Operations D) → IsIdle g relations o → o.locks ≡ []
   idle_free relations o idle = ∥∥₁_elim idle (hlevel props) (λ (opening, counters, right, free). free)
 
-  module _ (moment : D → ℕ) (left_since : D → ℕ → List ℕ → Type 0) where
-    pub read_rests : (opening : PageBytes) (o n : Operations D) → OnlyReads seen may_leave moment left_since o n → Rests (world seen opening o) (world seen opening n)
+  module _ where
+    pub read_rests : (opening : PageBytes) (o n : Operations D) → OnlyReads g o n → Rests (world g opening o) (world g opening n)
     read_rests opening o n reads = record {
       area = record { opening = refl; total = ap pages reads.pool };
       pages = λ p inside i. view (reads.pool i) (reads.content i) p;
@@ -55,20 +56,20 @@ module _ {D : Type 0} (seen : D → List ℕ) (may_leave : D → List ℕ → Ty
       locks = reads.locks;
     }
 
-    pub read_right : (opening : PageBytes) (relations counters : ℕ) (o n : Operations D) → OnlyReads seen may_leave moment left_since o n → IsRight seen may_leave opening relations counters o → IsRight seen may_leave opening relations counters n
-    read_right opening relations counters o n reads right = right_rests seen may_leave opening relations counters o n right (reads.kept opening right.kept) (read_rests opening o n reads) reads.map reads.rooms
+    pub read_right : (opening : PageBytes) (relations counters : ℕ) (o n : Operations D) → OnlyReads g o n → IsRight g opening relations counters o → IsRight g opening relations counters n
+    read_right opening relations counters o n reads right = right_rests g opening relations counters o n right (reads.kept opening right.kept) (read_rests opening o n reads) reads.map reads.rooms
 
-    pub read_held : (opening : PageBytes) (o n : Operations D) → OnlyReads seen may_leave moment left_since o n → held_in (world seen opening n) ≡ held_in (world seen opening o)
-    read_held opening o n reads = rests_held (world seen opening o) (world seen opening n) (read_rests opening o n reads)
+    pub read_held : (opening : PageBytes) (o n : Operations D) → OnlyReads g o n → held_in (world g opening n) ≡ held_in (world g opening o)
+    read_held opening o n reads = rests_held (world g opening o) (world g opening n) (read_rests opening o n reads)
 
-    pub read_idle : (relations : ℕ) (o n : Operations D) → OnlyReads seen may_leave moment left_since o n → IsIdle seen may_leave relations o → IsIdle seen may_leave relations n
+    pub read_idle : (relations : ℕ) (o n : Operations D) → OnlyReads g o n → IsIdle g relations o → IsIdle g relations n
     read_idle relations o n reads idle = ∥∥₁_map idle (λ (opening, counters, right, free). (opening, counters, read_right opening relations counters o n reads right, reads.locks ∙ free))
 
-    pub reads_both : (o m n : Operations D) → OnlyReads seen may_leave moment left_since o m → OnlyReads seen may_leave moment left_since m n → OnlyReads seen may_leave moment left_since o n
+    pub reads_both : (o m n : Operations D) → OnlyReads g o m → OnlyReads g m n → OnlyReads g o n
     reads_both o m n first second = record {
       kept = λ opening kept. second.kept opening (first.kept opening kept);
-      moments = λ opening kept. runs_both moment left_since o.store.device m.store.device n.store.device (Explains opening o.store) (first.moments opening kept)
-          (leaves_more moment left_since m.store.device n.store.device (Explains opening m.store) (Explains opening o.store) (second.moments opening (first.kept opening kept))
+      moments = λ opening kept. runs_both g.moment g.left_since o.store.device m.store.device n.store.device (Explains opening o.store) (first.moments opening kept)
+          (leaves_more g.moment g.left_since m.store.device n.store.device (Explains opening m.store) (Explains opening o.store) (second.moments opening (first.kept opening kept))
           (λ c explained. explains_back opening o.store m.store c (ap area_start first.log) (ap area_end first.log) (ap (λ (p : Pool). p.place) first.pool) (ap pages first.pool) (ap appended first.log)
           [] (ap durable first.log ∙ sym (append-nil (durable o.store.log))) explained));
       content = second.content ∙ first.content;
@@ -79,10 +80,10 @@ module _ {D : Type 0} (seen : D → List ℕ) (may_leave : D → List ℕ → Ty
       map = second.map ∙ first.map;
     }
 
-    pub reads_none : ((d : D) (c : List ℕ) → left_since d (moment d) c → may_leave d c) → (o : Operations D) → OnlyReads seen may_leave moment left_since o o
+    pub reads_none : ((d : D) (c : List ℕ) → g.left_since d (g.moment d) c → g.may_leave d c) → (o : Operations D) → OnlyReads g o o
     reads_none only_now o = record {
       kept = λ opening kept. kept;
-      moments = λ opening kept. started moment left_since o.store.device (Explains opening o.store) (λ c left. explains seen may_leave opening o.store kept c (only_now o.store.device c left));
+      moments = λ opening kept. started g.moment g.left_since o.store.device (Explains opening o.store) (λ c left. explains g opening o.store kept c (only_now o.store.device c left));
       content = refl;
       pool = refl;
       log = refl;
@@ -93,18 +94,18 @@ module _ {D : Type 0} (seen : D → List ℕ) (may_leave : D → List ℕ → Ty
 
 -- ---- pages
 
-module _ {D : Type 0} (seen : D → List ℕ) (may_leave : D → List ℕ → Type 0) where
-  pub kind_of : (opening : PageBytes) (relations counters : ℕ) (o : Operations D) (p i : ℕ) → IsRight seen may_leave opening relations counters o → i ≡ p → kind (held_in (world seen opening o)) p ≡ get_or o.map.kinds.value i 0
+module _ {D : Type 0} (g : Ghosts D) where
+  pub kind_of : (opening : PageBytes) (relations counters : ℕ) (o : Operations D) (p i : ℕ) → IsRight g opening relations counters o → i ≡ p → kind (held_in (world g opening o)) p ≡ get_or o.map.kinds.value i 0
   kind_of opening relations counters o p i right same = ap (λ (bytes : List ℕ). get_or bytes p 0) (sym right.map) ∙ ap (λ (j : ℕ). get_or o.map.kinds.value j 0) (sym same)
 
   -- a fixed page is one of them
-  pub fixed_inside : (relations : ℕ) (o : Operations D) (p : ℕ) → p ≤ 2 → IsIdle seen may_leave relations o → p < pages o.store.pool
+  pub fixed_inside : (relations : ℕ) (o : Operations D) (p : ℕ) → p ≤ 2 → IsIdle g relations o → p < pages o.store.pool
   fixed_inside relations o p low idle = ∥∥₁_elim idle (hlevel props) (λ (opening, counters, right, free).
-      let w = world seen opening o in
+      let w = world g opening o in
       let last : 2 < pages o.store.pool = right.sound.good.rows.index.within 2 (λ none. let wrong : 1 ≡ 0 = sym ((right.sound.good.rows.map 2).fixed (omega arith)) ∙ none in cc) in omega arith)
 
   -- the counters page tells of the schema
-  pub counters_page : (relations : ℕ) (o : Operations D) (bytes : List ℕ) → ((opening : PageBytes) (counters : ℕ) → IsRight seen may_leave opening relations counters o → bytes ≡ held_in (world seen opening o) 2) → IsIdle seen may_leave relations o
+  pub counters_page : (relations : ℕ) (o : Operations D) (bytes : List ℕ) → ((opening : PageBytes) (counters : ℕ) → IsRight g opening relations counters o → bytes ≡ held_in (world g opening o) 2) → IsIdle g relations o
       → (get_or bytes 0 0 ≡ relations) × AreCounters (get_or bytes 0 0) (get_or bytes 1 0) bytes
   counters_page relations o bytes is idle = (
     ∥∥₁_elim idle (hlevel props) (λ (opening, counters, right, free). (subst (AreCounters relations counters) (sym (is opening counters right)) right.sound.good.counts).relations_reported),
@@ -123,16 +124,16 @@ records_page relations counters total pages p good records = record {
 }
 
 -- and it is one, whoever is under way
-pub records_page_of : {D : Type 0} (seen : D → List ℕ) (may_leave : D → List ℕ → Type 0) (relations : ℕ) (o : Operations D) (p : ℕ) (bytes : List ℕ) → ((opening : PageBytes) (counters : ℕ) → IsRight seen may_leave opening relations counters o → bytes ≡ held_in (world seen opening o) p)
-    → get_or o.map.kinds.value p 0 ≡ 3 → IsIdle seen may_leave relations o → IsPage relations 1024 bytes
-records_page_of seen may_leave relations o p bytes is records idle = record {
+pub records_page_of : {D : Type 0} (g : Ghosts D) (relations : ℕ) (o : Operations D) (p : ℕ) (bytes : List ℕ) → ((opening : PageBytes) (counters : ℕ) → IsRight g opening relations counters o → bytes ≡ held_in (world g opening o) p)
+    → get_or o.map.kinds.value p 0 ≡ 3 → IsIdle g relations o → IsPage relations 1024 bytes
+records_page_of g relations o p bytes is records idle = record {
   shaped = shaped_of bytes (∥∥₁_map idle (λ (opening, counters, right, free). (page_of opening counters right).shaped));
   within = λ i row there. ∥∥₁_elim idle (hlevel props) (λ (opening, counters, right, free). (page_of opening counters right).within i row there);
 }
   where
-    page_of : (opening : PageBytes) (counters : ℕ) → IsRight seen may_leave opening relations counters o → IsPage relations 1024 bytes
+    page_of : (opening : PageBytes) (counters : ℕ) → IsRight g opening relations counters o → IsPage relations 1024 bytes
     page_of opening counters right = subst (IsPage relations 1024) (sym (is opening counters right))
-        (records_page relations counters (pages o.store.pool) (held_in (world seen opening o)) p right.sound.good (kind_of seen may_leave opening relations counters o p p right refl ∙ records))
+        (records_page relations counters (pages o.store.pool) (held_in (world g opening o)) p right.sound.good (kind_of g opening relations counters o p p right refl ∙ records))
 
 -- ---- what was listed
 

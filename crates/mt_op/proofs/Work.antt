@@ -4,6 +4,7 @@ use Rattle.std.specs.Prelude.{All, Contains, Result, Ok, Err, is_some, IsSome, i
 use Rattle.std.proofs.lemmas.Bool.{cases_eq, cases_Bool, eqb-true, eq-eqb, and_parts}
 use Rattle.std.proofs.lemmas.List.Folds.{list_any-append, Any-from_list_any}
 use Rattle.std.proofs.lemmas.List.Elements.{All-weaker, filter_passes}
+use Rattle.mt_disk.specs.declared.device.Device.{Ghosts}
 use Rattle.mt_base.specs.declared.modes.Mode.{Mode}
 use Rattle.mt_base.specs.declared.modes.Mode.TheVariants.{Read, Write}
 use Rattle.mt_base.specs.declared.refusal.Refusal.{Refusal}
@@ -207,11 +208,11 @@ plans_over relations counters w s planning h k small =
     (relations, counters, (held_in w, at.sees.saw, subst (λ (n : ℕ). IsGood relations counters n (held_in w)) (sym k.total) h.good, λ p is. (at.sees.named p is).2), k.within, small)
 
 -- the pages that are claimed are free in the pages held
-pub claim_free : {D : Type 0} (seen : D → List ℕ) (may_leave : D → List ℕ → Type 0) (opening : PageBytes) (relations counters : ℕ) (o : Operations D) (s : OpScope) → IsRight seen may_leave opening relations counters o
-    → IsUnderWay relations counters (world seen opening o) s → own_needs s.op s.split ≤ claimed o → own_needs s.op s.split ≤ free_pages s.seen.total (held_in (world seen opening o))
-claim_free seen may_leave opening relations counters o s right k claims =
-    let free : free_of o.map.space ≡ free_pages s.seen.total (held_in (world seen opening o)) =
-    ap free_in right.space ∙ ap (λ (n : ℕ). free_pages n (held_in (world seen opening o))) (sym k.total) in
+pub claim_free : {D : Type 0} (g : Ghosts D) (opening : PageBytes) (relations counters : ℕ) (o : Operations D) (s : OpScope) → IsRight g opening relations counters o
+    → IsUnderWay relations counters (world g opening o) s → own_needs s.op s.split ≤ claimed o → own_needs s.op s.split ≤ free_pages s.seen.total (held_in (world g opening o))
+claim_free g opening relations counters o s right k claims =
+    let free : free_of o.map.space ≡ free_pages s.seen.total (held_in (world g opening o)) =
+    ap free_in right.space ∙ ap (λ (n : ℕ). free_pages n (held_in (world g opening o))) (sym k.total) in
     let some = right.claims in
     omega (arith, free, some, claims)
 

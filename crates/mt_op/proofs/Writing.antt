@@ -9,7 +9,7 @@ use Rattle.mt_base.specs.declared.edits.Edit.{Edit}
 use Rattle.mt_base.specs.declared.modes.Mode.TheVariants.{Write}
 use Rattle.mt_frame.specs.declared.records.Record.{Record}
 use Rattle.mt_frame.specs.declared.records.Record.TheVariants.{Page}
-use Rattle.mt_frame.specs.History.{some_record, ends_txn, ends_op, finishes, undoes_op}
+use Rattle.mt_area_rules.specs.History.{some_record, ends_txn, ends_op, finishes, undoes_op}
 use Rattle.mt_plock.specs.declared.guards.PageLock.{PageLock}
 use Rattle.mt_plock.specs.Holding.{lock_of, AreTogether}
 use Rattle.mt_plock.specs.Releasing.{locks_of}

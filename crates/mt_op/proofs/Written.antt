@@ -2,6 +2,7 @@
 use Rattle.std.proofs.Props.{props}
 use mathlib.Core.Logic.{∥∥₁_elim}
 use Rattle.std.proofs.Common.{◌≡◌, ◌≢◌, ◌<◌, ◌+◌, ℕ, List, ◌++◌, length, get_or, refl, ap, ◌∙◌}
+use Rattle.mt_disk.specs.declared.device.Device.{Ghosts}
 use Rattle.mt_base.specs.Edits.{patched}
 use Rattle.mt_log.specs.Words.{appended}
 use Rattle.mt_space.specs.Changes.{PageBytes, IsShort}
@@ -41,42 +42,42 @@ writes_goes relations counters w z s t c m h k stage more is same is_writing wri
   same = same.op;
 }
 
-module _ {D : Type 0} (seen : D → List ℕ) (may_leave : D → List ℕ → Type 0) where
+module _ {D : Type 0} (g : Ghosts D) where
   -- the next change is short in the page as it shows
   pub next_short : (o : Operations D) (s : OpScope) (c : PageChange)
-      → IsOneOf seen may_leave o s
-      → s.stage ≡ Writing → s.written < length (changes_in s) → c ≡ get_or (changes_in s) s.written c → IsShort (view o.store.pool (seen o.store.device) c.page) c
+      → IsOneOf g o s
+      → s.stage ≡ Writing → s.written < length (changes_in s) → c ≡ get_or (changes_in s) s.written c → IsShort (view o.store.pool (g.seen o.store.device) c.page) c
   next_short o s c one stage more is = ∥∥₁_elim one (hlevel props) (λ (opening, relations, counters, right, k).
-      (next_is_short relations counters (world seen opening o) s c right.sound k stage more is).0)
+      (next_is_short relations counters (world g opening o) s c right.sound k stage more is).0)
 
   -- it is written in a frame, and logged
   pub store_writes : (opening : PageBytes) (o : Operations D) (n : Store D) (s : OpScope) (c : PageChange) → n.device ≡ o.store.device → n.pool.of_page ≡ o.store.pool.of_page
       → ((bytes : List ℕ) → view n.pool bytes c.page ≡ patched c.edits.items (view o.store.pool bytes c.page)) → ((bytes : List ℕ) (q : ℕ) → q ≢ c.page → view n.pool bytes q ≡ view o.store.pool bytes q)
-      → (let page = view o.store.pool (seen o.store.device) c.page in
+      → (let page = view o.store.pool (g.seen o.store.device) c.page in
       appended n.log ≡ appended o.store.log ++ change_records s.txn s.number c.page (due_image o.store.pool c.page page) page (patched c.edits.items page) c.edits.items)
-      → Writes (world seen opening o) (world seen opening (with_store o n)) s c
+      → Writes (world g opening o) (world g opening (with_store o n)) s c
   store_writes opening o n s c device there page others records = record {
     area = record { opening = refl; total = ap (λ v. length v.items) there };
-    others = λ p inside other. ap (λ (d : D). view n.pool (seen d) p) device ∙ others (seen o.store.device) p other;
-    page = ap (λ (d : D). view n.pool (seen d) c.page) device ∙ page (seen o.store.device);
-    image = due_image o.store.pool c.page (view o.store.pool (seen o.store.device) c.page);
+    others = λ p inside other. ap (λ (d : D). view n.pool (g.seen d) p) device ∙ others (g.seen o.store.device) p other;
+    page = ap (λ (d : D). view n.pool (g.seen d) c.page) device ∙ page (g.seen o.store.device);
+    image = due_image o.store.pool c.page (view o.store.pool (g.seen o.store.device) c.page);
     records = records;
     locks = refl;
   }
 
   -- nothing is appended or written
-  pub store_stays : (opening : PageBytes) (o : Operations D) (n : Store D) → n.device ≡ o.store.device → n.pool ≡ o.store.pool → appended n.log ≡ appended o.store.log → Rests (world seen opening o) (world seen opening (with_store o n))
+  pub store_stays : (opening : PageBytes) (o : Operations D) (n : Store D) → n.device ≡ o.store.device → n.pool ≡ o.store.pool → appended n.log ≡ appended o.store.log → Rests (world g opening o) (world g opening (with_store o n))
   store_stays opening o n device pool records = record {
     area = record { opening = refl; total = ap pages pool };
-    pages = λ p inside. λ i. view (pool i) (seen (device i)) p;
+    pages = λ p inside. λ i. view (pool i) (g.seen (device i)) p;
     records = records;
     locks = refl;
   }
 
-  pub writes_right : (opening : PageBytes) (relations counters : ℕ) (o : Operations D) (n : Store D) (s : OpScope) (c : PageChange) → Writes (world seen opening o) (world seen opening (with_store o n)) s c
-      → IsRight seen may_leave opening relations counters o → IsUnderWay relations counters (world seen opening o) s → s.stage ≡ Writing → s.written < length (changes_in s) → c ≡ get_or (changes_in s) s.written c
-      → IsKept seen may_leave opening n → IsRight seen may_leave opening relations counters (with_store o n)
+  pub writes_right : (opening : PageBytes) (relations counters : ℕ) (o : Operations D) (n : Store D) (s : OpScope) (c : PageChange) → Writes (world g opening o) (world g opening (with_store o n)) s c
+      → IsRight g opening relations counters o → IsUnderWay relations counters (world g opening o) s → s.stage ≡ Writing → s.written < length (changes_in s) → c ≡ get_or (changes_in s) s.written c
+      → IsKept g opening n → IsRight g opening relations counters (with_store o n)
   writes_right opening relations counters o n s c m right k stage more is kept =
-      let w = world seen opening o in
-      let z = world seen opening (with_store o n) in
-      right_held seen may_leave opening relations counters o (with_store o n) right kept (world_writes relations counters w z s c m right.sound k stage more is) (writes_held relations counters w z s c m right.sound k stage more is) refl refl m.area.total
+      let w = world g opening o in
+      let z = world g opening (with_store o n) in
+      right_held g opening relations counters o (with_store o n) right kept (world_writes relations counters w z s c m right.sound k stage more is) (writes_held relations counters w z s c m right.sound k stage more is) refl refl m.area.total

@@ -1,7 +1,8 @@
 -- What operations begin over.
 use Rattle.std.specs.Prelude.{◌≡◌, ◌<◌, ◌≤◌, ℕ, List, [], length, All}
+use Rattle.mt_disk.specs.declared.device.Device.{Ghosts}
 use Rattle.mt_file.specs.Rooms.{AreRooms}
-use Rattle.mt_frame.specs.History.{txn_of}
+use Rattle.mt_frame.specs.Grammar.{txn_of}
 use Rattle.mt_frame.specs.declared.records.Record.{Record}
 use Rattle.mt_pool.specs.Views.{view, pages}
 use Rattle.mt_pool.specs.declared.store.Store.{Store}
@@ -14,8 +15,8 @@ abbrev pub AreImages : List Record → Type 0
 AreImages records = All (λ (r : Record). txn_of r ≡ 0) records
 
 -- each page shows as it was when the area began
-abbrev pub ShowsOpening : {D : Type 0} → (D → List ℕ) → PageBytes → Store D → Type 0
-ShowsOpening seen opening s = (p : ℕ) → p < pages s.pool → view s.pool (seen s.device) p ≡ opening p
+abbrev pub ShowsOpening : {D : Type 0} → Ghosts D → PageBytes → Store D → Type 0
+ShowsOpening g opening s = (p : ℕ) → p < pages s.pool → view s.pool (g.seen s.device) p ≡ opening p
 
 -- what operations keep beside a store fits these pages of it, and none is under way
 pub record FitsPages (total : ℕ) (held : PageBytes) (i : Idle) : Type 0 where

@@ -123,7 +123,9 @@ pub record IsToWrite (s : OpScope) (p : ℕ) (mode : Mode) : Type 0 where
   pub writes : mode ≡ Write
   pub changes : List PageChange
   pub reply : Reply
-  pub planned : (relations counters : ℕ) → relations ≤ MAX_RELATIONS → IsWithin relations counters s.op → InPages (looked s) s.room relations counters s.seen.total (λ pages. IsPlanned relations counters s.seen.total (looked s) pages changes s.op s.split reply)
+  pub planned : (relations counters : ℕ) → relations ≤ MAX_RELATIONS → IsWithin relations counters s.op
+      → InPages (looked s) s.room relations counters s.seen.total
+      (λ pages. IsPlanned relations counters s.seen.total (looked s) pages changes s.op s.split reply)
   pub reads : only_reads s.op ≡ true → changes ≡ []
   pub touched : IsUntouched changes p → ⊥
 
@@ -140,8 +142,10 @@ IsBarred locks lock holder = IsLeastHolder lock locks holder × (holder < lock.o
 
 abbrev pub IsHeld : World → World → OpScope → OpScope → ℕ → Mode → Result Stepped Refusal → Type 0
 IsHeld w z s t p mode (Ok stepped.Went) = Locks w z (lock_of s.number p mode) × Holds s t p mode
-IsHeld w z s t p mode (Ok (stepped.Wait holder)) = Rests w z × Stays s t × IsAwaited w.locks (lock_of s.number p mode) holder
-IsHeld w z s t p mode (Ok (stepped.Again holder)) = Leaves w z s × IsAnew s t × IsBarred w.locks (lock_of s.number p mode) holder
+IsHeld w z s t p mode (Ok (stepped.Wait holder)) =
+    Rests w z × Stays s t × IsAwaited w.locks (lock_of s.number p mode) holder
+IsHeld w z s t p mode (Ok (stepped.Again holder)) =
+    Leaves w z s × IsAnew s t × IsBarred w.locks (lock_of s.number p mode) holder
 IsHeld w z s t p mode (Ok stepped.Flush) = ⊥
 IsHeld w z s t p mode (Ok (stepped.Ready first second)) = ⊥
 IsHeld w z s t p mode (Err why) = Rests w z × Stays s t
@@ -160,15 +164,19 @@ AsksNothing (Err why) = Unit {0}
 -- They stay but for what a step asks for, which is next: it gets this lock, and no other; or waits for the smallest
 -- operation in the way; or gives all its own back, and no other's.
 abbrev pub KeepsLocks : ℕ → (ℕ → Mode → Type 0) → List PageLock → List PageLock → Result Stepped Refusal → Type 0
-KeepsLocks op Next old new (Ok stepped.Went) = (new ≡ old) ⊎ ((p : ℕ) × (mode : Mode) × Next p mode × (new ≡ old ++ lock_of op p mode ∷ []))
-KeepsLocks op Next old new (Ok (stepped.Wait holder)) = (new ≡ old) × ((p : ℕ) × (mode : Mode) × Next p mode × IsAwaited old (lock_of op p mode) holder)
-KeepsLocks op Next old new (Ok (stepped.Again holder)) = (new ≡ locks_without op old) × ((p : ℕ) × (mode : Mode) × Next p mode × IsBarred old (lock_of op p mode) holder)
+KeepsLocks op Next old new (Ok stepped.Went) =
+    (new ≡ old) ⊎ ((p : ℕ) × (mode : Mode) × Next p mode × (new ≡ old ++ lock_of op p mode ∷ []))
+KeepsLocks op Next old new (Ok (stepped.Wait holder)) =
+    (new ≡ old) × ((p : ℕ) × (mode : Mode) × Next p mode × IsAwaited old (lock_of op p mode) holder)
+KeepsLocks op Next old new (Ok (stepped.Again holder)) =
+    (new ≡ locks_without op old) × ((p : ℕ) × (mode : Mode) × Next p mode × IsBarred old (lock_of op p mode) holder)
 KeepsLocks op Next old new (Ok stepped.Flush) = new ≡ old
 KeepsLocks op Next old new (Ok (stepped.Ready first second)) = new ≡ old
 KeepsLocks op Next old new (Err why) = new ≡ old
 
 -- the same of a step that plans; if it answers nothing the plan is made
-abbrev pub KeepsLocksOn : ℕ → (ℕ → Mode → Type 0) → List PageLock → List PageLock → Result (Option Stepped) Refusal → Type 0
+abbrev pub KeepsLocksOn : ℕ → (ℕ → Mode → Type 0) → List PageLock → List PageLock → Result (Option Stepped) Refusal
+    → Type 0
 KeepsLocksOn op Next old new (Ok (Some answer)) = KeepsLocks op Next old new (Ok answer)
 KeepsLocksOn op Next old new (Ok None) = new ≡ old
 KeepsLocksOn op Next old new (Err why) = new ≡ old
@@ -182,7 +190,8 @@ IsMisled s = (p : ℕ) → s.room ≡ Some p → fits_of (looked_bytes s p) < re
 -- It is led to the page that it was led to; or it was led to none, and is led to one that it had not looked at; or
 -- that page does not take its record, and it is led to none.
 abbrev pub KeepsRoom : OpScope → OpScope → Type 0
-KeepsRoom s t = (t.room ≡ s.room) ⊎ (((s.room ≡ None) × ((p : ℕ) → t.room ≡ Some p → looked s p ≡ None)) ⊎ ((t.room ≡ None) × IsMisled s))
+KeepsRoom s t = (t.room ≡ s.room) ⊎ (((s.room ≡ None) × ((p : ℕ) → t.room ≡ Some p → looked s p ≡ None))
+    ⊎ ((t.room ≡ None) × IsMisled s))
 
 -- It stays if it waits; if it begins anew it is as at its beginning. If it needs a frame or is refused it
 -- stays, unless its plan was made in this step. It forgets the page that it was led to only if that does not take its

@@ -51,7 +51,8 @@ pub record Writes (w z : World) (s : OpScope) (c : PageChange) : Type 0 where
   pub others : SamePagesBut c.page w z
   pub page : z.present c.page ≡ patched c.edits.items (w.present c.page)
   pub image : Option (List ℕ)
-  pub records : z.records ≡ w.records ++ change_records s.txn s.number c.page image (w.present c.page) (patched c.edits.items (w.present c.page)) c.edits.items
+  pub records : z.records ≡ w.records ++ change_records s.txn s.number c.page image (w.present c.page)
+      (patched c.edits.items (w.present c.page)) c.edits.items
   pub locks : z.locks ≡ w.locks
 
 -- a record more that is of no page

@@ -1,5 +1,6 @@
 -- The operations of one kernel over their store, and what each step does.
 use Rattle.std.specs.Prelude.{◌≡◌, ◌⊎◌, ◌≤◌, ◌-◌, ◌+◌, ◌*◌, ◌++◌, ℕ, List, [], length, Bool, true, false, if◌then◌else◌, Option, Some, None, Result, Ok, Err}
+use Rattle.mt_disk.specs.declared.device.Device.{Ghosts}
 use Rattle.mt_base.specs.declared.limits.TheConstants.{BATCH_HEAD_BYTES, LARGEST_OP_END, LARGEST_PAGE_RECORD, MAX_COUNTERS, MAX_RELATIONS, OPERATION_LOG_BYTES}
 use Rattle.mt_base.specs.declared.refusal.Refusal.{Refusal}
 use Rattle.mt_base.specs.declared.refusal.Refusal.TheVariants as refusal
@@ -11,8 +12,7 @@ use Rattle.mt_model.specs.declared.operations.Op.TheVariants.{Get, Insert, Updat
 use Rattle.mt_model.specs.declared.operations.Reply.{Reply}
 use Rattle.mt_model.specs.Model.{Base, reply_of, base_after}
 use Rattle.mt_space.specs.Changes.{PageBytes}
-use Rattle.mt_pool.specs.Begun.{store_frames}
-use Rattle.mt_pool.specs.Kept.{IsKept}
+use Rattle.mt_pool.specs.Kept.{IsKept, store_frames}
 use Rattle.mt_pool.specs.Views.{view, pages}
 use Rattle.mt_space.specs.Rooms.{mapped, free_of, reserved_of}
 use Rattle.mt_steps.specs.Held.{Holds}
@@ -30,18 +30,22 @@ use Rattle.mt_op.specs.declared.answers.Stepped.TheVariants as stepped
 use Rattle.mt_plock.specs.declared.guards.PageLock.{PageLock}
 use Rattle.mt_frame.specs.declared.slots.MasterSlot.{MasterSlot}
 use Rattle.mt_pool.specs.declared.pool.Pool.{Pool}
+use Rattle.mt_pool.specs.declared.store.Store.{Store}
 
 -- page locks, records and present pages, over the pages as they were when the log's area began
-abbrev pub world : {D : Type 0} → (D → List ℕ) → PageBytes → Operations D → World
-world seen opening o = record {
+abbrev pub world : {D : Type 0} → Ghosts D → PageBytes → Operations D → World
+world g opening o = record {
   locks = o.locks;
   opening = opening;
   records = appended o.store.log;
-  present = λ p. view o.store.pool (seen o.store.device) p;
+  present = λ p. view o.store.pool (g.seen o.store.device) p;
   total = pages o.store.pool;
 }
 
--- the device under them, and the log
+-- the store, and what is under it: its device, its log and its pool
+abbrev pub operation_store : {D : Type 0} → Operations D → Store D
+operation_store o = o.store
+
 abbrev pub operation_device : {D : Type 0} → Operations D → D
 operation_device o = o.store.device
 
@@ -62,30 +66,37 @@ operation_page_locks o = o.locks
 abbrev pub operation_frames : {D : Type 0} → Operations D → ℕ
 operation_frames o = store_frames o.store
 
+-- what each page of records takes
+abbrev pub operation_rooms : {D : Type 0} → Operations D → List ℕ
+operation_rooms o = o.rooms
+
 -- how many free pages are claimed
 abbrev pub claimed : {D : Type 0} → Operations D → ℕ
 claimed o = reserved_of o.map.space
 
 -- The store keeps its rules, the world is right, the map, the free pages and what each page of records takes are
 -- those of the pages held, and no more pages are claimed than are free.
-pub record IsRight {D : Type 0} (seen : D → List ℕ) (may_leave : D → List ℕ → Type 0) (opening : PageBytes) (relations counters : ℕ) (o : Operations D) : Type 0 where
-  pub kept : IsKept seen may_leave opening o.store
-  pub sound : IsWorld relations counters (world seen opening o)
-  pub map : o.map.kinds.value ≡ held_in (world seen opening o) 0
-  pub space : o.map.space.0 ≡ mapped (held_in (world seen opening o) 0) (pages o.store.pool)
+pub record IsRight {D : Type 0} (g : Ghosts D) (opening : PageBytes)
+    (relations counters : ℕ) (o : Operations D) : Type 0 where
+  pub kept : IsKept g opening o.store
+  pub sound : IsWorld relations counters (world g opening o)
+  pub map : o.map.kinds.value ≡ held_in (world g opening o) 0
+  pub space : o.map.space.0 ≡ mapped (held_in (world g opening o) 0) (pages o.store.pool)
   pub claims : reserved_of o.map.space ≤ free_of o.map.space
   pub rooms : length o.rooms ≡ pages o.store.pool
-  pub noted : AreRooms o.rooms (held_in (world seen opening o))
+  pub noted : AreRooms o.rooms (held_in (world g opening o))
 
 -- The operation is one of those under way, for some pages as they were when the area began and some schema.
-abbrev pub IsOneOf : {D : Type 0} → (D → List ℕ) → (D → List ℕ → Type 0) → Operations D → OpScope → Type 0
-IsOneOf seen may_leave o s =
-    ∥ ((opening : PageBytes) × (relations : ℕ) × (counters : ℕ) × IsRight seen may_leave opening relations counters o × IsUnderWay relations counters (world seen opening o) s) ∥₁
+abbrev pub IsOneOf : {D : Type 0} → Ghosts D → Operations D → OpScope → Type 0
+IsOneOf g o s =
+    ∥ ((opening : PageBytes) × (relations : ℕ) × (counters : ℕ) × IsRight g opening relations counters o
+    × IsUnderWay relations counters (world g opening o) s) ∥₁
 
 -- the same of a schema within its limits
-abbrev pub IsOneWithin : {D : Type 0} → (D → List ℕ) → (D → List ℕ → Type 0) → Operations D → OpScope → Type 0
-IsOneWithin seen may_leave o s =
-    ∥ ((opening : PageBytes) × (relations : ℕ) × (counters : ℕ) × IsRight seen may_leave opening relations counters o × IsUnderWay relations counters (world seen opening o) s
+abbrev pub IsOneWithin : {D : Type 0} → Ghosts D → Operations D → OpScope → Type 0
+IsOneWithin g o s =
+    ∥ ((opening : PageBytes) × (relations : ℕ) × (counters : ℕ) × IsRight g opening relations counters o
+    × IsUnderWay relations counters (world g opening o) s
     × (relations ≤ MAX_RELATIONS) × (counters ≤ MAX_COUNTERS)) ∥₁
 
 -- ---- log bytes
@@ -137,7 +148,8 @@ pub record Acts (relations counters : ℕ) (w z : World) (s t : OpScope) (reply 
   pub same : SameOp s t
 
 abbrev pub Steps : ℕ → ℕ → World → World → OpScope → OpScope → Result Stepped Refusal → Type 0
-Steps relations counters w z s t (Ok (stepped.Ready first second)) = Acts relations counters w z s t first × (second ≡ first)
+Steps relations counters w z s t (Ok (stepped.Ready first second)) =
+    Acts relations counters w z s t first × (second ≡ first)
 Steps relations counters w z s t (Ok stepped.Went) = Goes relations counters w z s t
 Steps relations counters w z s t (Ok (stepped.Wait holder)) = Goes relations counters w z s t
 Steps relations counters w z s t (Ok (stepped.Again holder)) = Goes relations counters w z s t

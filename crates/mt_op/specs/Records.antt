@@ -26,7 +26,8 @@ end_of s reply = end_with s.txn s.number s.undoes (logged_of s.op reply)
 
 -- nothing more, or the records of one of its changes over some bytes of the page
 abbrev pub HasPageMore : OpScope → List Record → List Record → Type 0
-HasPageMore s old new = (new ≡ old) ⊎ ((c : PageChange) × (image : Option (List ℕ)) × (bytes : List ℕ) × Contains (changes_in s) c
+HasPageMore s old new =
+    (new ≡ old) ⊎ ((c : PageChange) × (image : Option (List ℕ)) × (bytes : List ℕ) × Contains (changes_in s) c
     × (new ≡ old ++ change_records s.txn s.number c.page image bytes (patched c.edits.items bytes) c.edits.items))
 
 -- The records stay if the operation waits, begins anew or is refused; a step that goes on may append those of a

@@ -12,7 +12,8 @@ pub record IsRoom (kind : ℕ) (bytes : List ℕ) (room : ℕ) : Type 0 where
 
 -- each page that it looked at and locked takes so much, once its changes are made in these pages
 abbrev pub HasRooms : OpScope → List ℕ → List ℕ → PageBytes → Type 0
-HasRooms s map rooms pages = (p : ℕ) → IsSome (looked s p) → Any (λ l. l.page ≡ p) s.guards.items → IsRoom (get_or map p 0) (after (changes_in s) pages p) (get_or rooms p 0)
+HasRooms s map rooms pages = (p : ℕ) → IsSome (looked s p) → Any (λ l. l.page ≡ p) s.guards.items
+    → IsRoom (get_or map p 0) (after (changes_in s) pages p) (get_or rooms p 0)
 
 -- each of them does, and the others are as they were
 pub record HasNotedEach (s : OpScope) (map old new : List ℕ) : Type 0 where

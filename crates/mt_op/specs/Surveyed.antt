@@ -1,5 +1,6 @@
 -- What a survey finds, and what it leaves as it was.
-use Rattle.std.specs.Prelude.{◌≡◌, ℕ, List, [], length}
+use Rattle.std.specs.Prelude.{◌≡◌, ℕ, [], length}
+use Rattle.mt_disk.specs.declared.device.Device.{Ghosts}
 use Rattle.mt_disk.specs.Disk.{LeavesOnly}
 use Rattle.mt_index.specs.Pages.{depth_in}
 use Rattle.mt_model.specs.Model.{Base}
@@ -13,14 +14,16 @@ use Rattle.mt_op.specs.declared.operations.Operations.{Operations}
 use Rattle.mt_op.specs.declared.survey.Survey.{Survey}
 
 -- None is under way, over pages of a schema of so many relations.
-abbrev pub IsIdle : {D : Type 0} → (D → List ℕ) → (D → List ℕ → Type 0) → ℕ → Operations D → Type 0
-IsIdle seen may_leave relations o = ∥ ((opening : PageBytes) × (counters : ℕ) × IsRight seen may_leave opening relations counters o × (o.locks ≡ [])) ∥₁
+abbrev pub IsIdle : {D : Type 0} → Ghosts D → ℕ → Operations D → Type 0
+IsIdle g relations o = ∥ ((opening : PageBytes) × (counters : ℕ)
+    × IsRight g opening relations counters o × (o.locks ≡ [])) ∥₁
 
 -- The device was read, and nothing else has changed; whatever a crash leaves meanwhile explains the pages.
-pub record OnlyReads {D : Type 0} (seen : D → List ℕ) (may_leave : D → List ℕ → Type 0) (moment : D → ℕ) (left_since : D → ℕ → List ℕ → Type 0) (o n : Operations D) : Type 0 where
-  pub kept : (opening : PageBytes) → IsKept seen may_leave opening o.store → IsKept seen may_leave opening n.store
-  pub moments : (opening : PageBytes) → IsKept seen may_leave opening o.store → LeavesOnly moment left_since o.store.device n.store.device (Explains opening o.store)
-  pub content : seen n.store.device ≡ seen o.store.device
+pub record OnlyReads {D : Type 0} (g : Ghosts D) (o n : Operations D) : Type 0 where
+  pub kept : (opening : PageBytes) → IsKept g opening o.store → IsKept g opening n.store
+  pub moments : (opening : PageBytes) → IsKept g opening o.store
+      → LeavesOnly g.moment g.left_since o.store.device n.store.device (Explains opening o.store)
+  pub content : g.seen n.store.device ≡ g.seen o.store.device
   pub pool : n.store.pool ≡ o.store.pool
   pub log : n.store.log ≡ o.store.log
   pub locks : n.locks ≡ o.locks

@@ -1,12 +1,12 @@
 -- Operations half done over one log: what holds of all of them together, and of each one.
-use Rattle.std.specs.Prelude.{◌≡◌, ◌≢◌, ◌⊎◌, ◌<◌, ◌≤◌, ℕ, List, [], ◌∷◌, ◌++◌, length, take, All, Any, Contains, Option, Some, None, IsSome, true}
+use Rattle.std.specs.Prelude.{◌≡◌, ◌≢◌, ◌⊎◌, ◌<◌, ◌≤◌, ℕ, List, [], ◌∷◌, ◌++◌, length, take, All, Any, Contains, Option, Some, None, IsSome, Bool, true}
 use Rattle.mt_base.specs.declared.limits.TheConstants.{MAX_WRITTEN_PAGES, PAGE_BYTES}
 use Rattle.mt_base.specs.declared.modes.Mode.TheVariants.{Write}
 use Rattle.mt_frame.specs.declared.records.Record.{Record}
 use Rattle.mt_frame.specs.declared.records.Record.TheVariants.{OpEnd}
 use Rattle.mt_frame.specs.declared.records.LoggedOp.{LoggedOp}
 use Rattle.mt_frame.specs.Grammar.{IsTxn, IsOp}
-use Rattle.mt_frame.specs.History.{inverse_is_due}
+use Rattle.mt_area_rules.specs.History.{inverse_is_due}
 use Rattle.mt_model.specs.Model.{IsWithin}
 use Rattle.mt_model.specs.declared.operations.Reply.{Reply}
 use Rattle.mt_plock.specs.declared.guards.PageLock.{PageLock}
@@ -66,6 +66,16 @@ looked s p = copied s.seen.list.items p
 abbrev pub looked_bytes : OpScope → PageBytes
 looked_bytes s p = or_bytes (looked s p) []
 
+-- the operation that it takes back, or 0; whether an insert splits a bucket; and the log bytes that are kept for it
+abbrev pub undoes_of : OpScope → ℕ
+undoes_of s = s.undoes
+
+abbrev pub splits : OpScope → Bool
+splits s = s.split
+
+abbrev pub left_of : OpScope → ℕ
+left_of s = s.left
+
 abbrev pub changes_in : OpScope → List PageChange
 changes_in s = s.changes.list.items
 
@@ -83,8 +93,11 @@ HasWritten w s = by s.number (unfinished_in w) ≡ changes_of s.number (take s.w
 pub record HasPlan (relations counters : ℕ) (s : OpScope) : Type 0 where
   pub reply : Reply
   pub replies : s.reply ≡ Some reply
-  pub planned : (pages : PageBytes) → Agrees (looked s) pages → IsGood relations counters s.seen.total pages → IsNamed s.room pages → IsPlanned relations counters s.seen.total (looked s) pages (changes_in s) s.op s.split reply
-  pub takes : (pages : PageBytes) → Agrees (looked s) pages → IsGood relations counters s.seen.total pages → IsNamed s.room pages → TakesPages s.room s.op pages (after (changes_in s) pages)
+  pub planned : (pages : PageBytes) → Agrees (looked s) pages → IsGood relations counters s.seen.total pages
+      → IsNamed s.room pages → IsPlanned relations counters s.seen.total (looked s) pages (changes_in s) s.op s.split
+      reply
+  pub takes : (pages : PageBytes) → Agrees (looked s) pages → IsGood relations counters s.seen.total pages
+      → IsNamed s.room pages → TakesPages s.room s.op pages (after (changes_in s) pages)
   pub there : AreAtHand (looked s) (changes_in s)
   pub quiet : logged_of s.op reply ≡ None → changes_in s ≡ []
   pub few : length (changes_in s) ≤ MAX_WRITTEN_PAGES
@@ -98,11 +111,13 @@ pub record IsOpen (w : World) (s : OpScope) : Type 0 where
 -- the pages held have what it looked at, and the page that it was led to is its own and one of records
 pub record Sees (w : World) (s : OpScope) : Type 0 where
   pub saw : Agrees (looked s) (held_in w)
-  pub named : (p : ℕ) → s.room ≡ Some p → IsSome (looked s p) × Contains s.guards.items (lock_of s.number p Write) × (kind (held_in w) p ≡ 3)
+  pub named : (p : ℕ) → s.room ≡ Some p → IsSome (looked s p) × Contains s.guards.items (lock_of s.number p Write)
+      × (kind (held_in w) p ≡ 3)
 
 -- the pages that it has put back are as they are held
 abbrev pub AreBack : World → OpScope → Type 0
-AreBack w s = (c : PageChange) (front back : List PageChange) → take s.written (changes_in s) ≡ front ++ c ∷ back → s.standing ≤ length front → w.present c.page ≡ held_in w c.page
+AreBack w s = (c : PageChange) (front back : List PageChange) → take s.written (changes_in s) ≡ front ++ c ∷ back
+    → s.standing ≤ length front → w.present c.page ≡ held_in w c.page
 
 -- the pages that it looked at are as the records make them
 abbrev pub AreStanding : World → OpScope → Type 0

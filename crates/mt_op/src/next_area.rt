@@ -79,10 +79,10 @@ impl<D: Device> Operations<D> {
     /// Operations over a store whose log has no record but the images that its area began with. None is under way.
     /// They keep beside it what was made for its pages. No page is looked at, and it takes no memory.
     pub fn join(store: Store<D>, idle: Idle) -> Operations<D>
-        ensures right { (opening : PageBytes) (relations counters : ℕ) → IsKept D.seen D.may_leave opening store
+        ensures right { (opening : PageBytes) (relations counters : ℕ) → IsKept D.Device opening store
             → AreImages (appended store.log) → IsGood relations counters (pages store.pool) opening
-            → ShowsOpening D.seen opening store → FitsPages (pages store.pool) opening idle
-            → IsRight D.seen D.may_leave opening relations counters result }
+            → ShowsOpening D.Device opening store → FitsPages (pages store.pool) opening idle
+            → IsRight D.Device opening relations counters result }
         ensures store { result.store ≡ store }
         ensures locks { result.locks ≡ idle.locks }
         ensures claimed { claimed result ≡ idle_claims idle }

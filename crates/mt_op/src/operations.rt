@@ -1,25 +1,26 @@
 // The operations of one kernel over their pages: the store with page locks, and how an operation begins.
 // mt_core calls it. Claims, forces and flushes pass through here; the other files have the steps.
-ghost use Rattle.std.specs.Prelude.{◌≡◌, ◌≢◌, ◌⊎◌, ◌<◌, ◌≤◌, ◌+◌, ◌*◌, ◌++◌, ◌∷◌, [], ℕ, length, get_or, false, true, Ok, Err, if◌then◌else◌, IsOk, IsErr, IfOk, IfErr, OnOk, OnErr};
+ghost use Rattle.std.specs.Prelude.{◌≡◌, ◌≢◌, ◌<◌, ◌≤◌, ◌+◌, ◌*◌, ℕ, length, false, true, Ok, if◌then◌else◌, IfOk, IfErr, OnOk, OnErr};
 ghost use Rattle.mt_base.specs.declared.limits.TheConstants.{OPERATION_LOG_BYTES};
-ghost use Rattle.mt_disk.specs.Disk.{LeavesOnly, HasCause};
+ghost use Rattle.mt_disk.specs.Disk.{HasCause};
 ghost use Rattle.mt_frame.specs.Grammar.{IsTxn, IsOp, IsRecord};
-ghost use Rattle.mt_frame.specs.History.{may_stand, txn_of};
+ghost use Rattle.mt_frame.specs.Grammar.{txn_of};
+ghost use Rattle.mt_area_rules.specs.History.{may_stand};
 ghost use Rattle.mt_frame.specs.Lengths.{record_length};
 ghost use Rattle.mt_log.specs.Forcing.{ReportsFault};
-ghost use Rattle.mt_log.specs.Seen.{with_record};
 ghost use Rattle.mt_log.specs.Steps.{ForceSteps};
 ghost use Rattle.mt_log.specs.Words.{appended, durable, seen_of, used, area_size};
 ghost use Rattle.mt_model.specs.Model.{IsWithin};
 ghost use Rattle.mt_space.specs.Changes.{PageBytes};
 ghost use Rattle.mt_pool.specs.FlushSteps.{FlushSteps};
-ghost use Rattle.mt_pool.specs.Kept.{Explains, ExplainsMeanwhile, HasOpening, IsKept, IsOpen};
-ghost use Rattle.mt_pool.specs.Views.{IsPool, IsWaiting, Cleans, pages, to_flush, waits_for};
+ghost use Rattle.mt_pool.specs.Kept.{ExplainsMeanwhile, IsOpen};
+ghost use Rattle.mt_pool.specs.Views.{AreClean, IsPool, pages};
 ghost use Rattle.mt_pool.specs.declared.flushes.Flushed.TheVariants as flushed;
 ghost use Rattle.mt_steps.specs.Plans.{free_pages};
 ghost use Rattle.mt_op.specs.World.{IsUnderWay, IsFresh, held_in};
-ghost use Rattle.mt_op.specs.Moves.{Rests, Notes, EndsTxn};
+ghost use Rattle.mt_op.specs.Moves.{Rests, EndsTxn};
 ghost use Rattle.mt_op.specs.Operations.{world, IsRight, HasBudget, only_reads, claimed};
+ghost use Rattle.mt_op.specs.Stepping.{AppendSteps};
 ghost use Rattle.mt_op.specs.Work.{work_of};
 ghost use Rattle.mt_op.specs.declared.scope.OpScope.{OpScope};
 ghost use Rattle.mt_op.specs.declared.scope.Stage.TheVariants.{Planning};
@@ -94,9 +95,9 @@ impl<D: Device> Operations<D> {
         requires pool { IsPool self.now.store.pool }
         requires numbers { IsTxn txn × IsOp number }
         ensures under { (opening : PageBytes) (relations counters : ℕ)
-            → IsRight D.seen D.may_leave opening relations counters self.now → IsWithin relations counters op
-            → IsFresh (world D.seen opening self.now) txn number undoes →
-            IfOk result (IsUnderWay relations counters (world D.seen opening self.now)) }
+            → IsRight D.Device opening relations counters self.now → IsWithin relations counters op
+            → IsFresh (world D.Device opening self.now) txn number undoes →
+            IfOk result (IsUnderWay relations counters (world D.Device opening self.now)) }
         ensures named { IfOk result (λ s. (s.txn ≡ txn) × (s.number ≡ number) × (s.op ≡ op) × (s.undoes ≡ undoes)
             × (s.split ≡ split)) }
         ensures planning { IfOk result (λ s. (s.stage ≡ Planning) × (s.seen.total ≡ pages self.now.store.pool)) }
@@ -139,20 +140,21 @@ impl<D: Device> Operations<D> {
     /// pages held are free and not claimed; nothing has changed then. It takes no memory.
     pub fn claim(&mut self, count: u16) -> Result<(), Refusal>
         ensures right { (opening : PageBytes) (relations counters : ℕ)
-            → IsRight D.seen D.may_leave opening relations counters self.old
-            → IsRight D.seen D.may_leave opening relations counters self.new }
+            → IsRight D.Device opening relations counters self.old
+            → IsRight D.Device opening relations counters self.new }
         ensures claimed { OnOk result (claimed self.new ≡ claimed self.old + count) }
         ensures fits { (opening : PageBytes) (relations counters : ℕ)
-            → IsRight D.seen D.may_leave opening relations counters self.old →
+            → IsRight D.Device opening relations counters self.old →
             OnOk result (claimed self.old + count ≤ free_pages (pages self.old.store.pool)
-            (held_in (world D.seen opening self.old))) }
+            (held_in (world D.Device opening self.old))) }
         ensures why { IfErr result (λ why. why ≡ Refusal.NoRoom) }
         ensures cause { (opening : PageBytes) (relations counters : ℕ)
-            → IsRight D.seen D.may_leave opening relations counters self.old →
+            → IsRight D.Device opening relations counters self.old →
             OnErr result (free_pages (pages self.old.store.pool)
-            (held_in (world D.seen opening self.old)) < claimed self.old + count) }
+            (held_in (world D.Device opening self.old)) < claimed self.old + count) }
         ensures err { OnErr result (self.new ≡ self.old) }
-        ensures rests { (opening : PageBytes) → Rests (world D.seen opening self.old) (world D.seen opening self.new) }
+        ensures rests { (opening : PageBytes)
+            → Rests (world D.Device opening self.old) (world D.Device opening self.new) }
         ensures store { self.new.store ≡ self.old.store }
         ensures locks { self.new.locks ≡ self.old.locks }
     {
@@ -164,10 +166,11 @@ impl<D: Device> Operations<D> {
     pub fn give_back(&mut self, count: u16)
         requires { count ≤ claimed self.old }
         ensures right { (opening : PageBytes) (relations counters : ℕ)
-            → IsRight D.seen D.may_leave opening relations counters self.old
-            → IsRight D.seen D.may_leave opening relations counters self.new }
+            → IsRight D.Device opening relations counters self.old
+            → IsRight D.Device opening relations counters self.new }
         ensures claimed { claimed self.new + count ≡ claimed self.old }
-        ensures rests { (opening : PageBytes) → Rests (world D.seen opening self.old) (world D.seen opening self.new) }
+        ensures rests { (opening : PageBytes)
+            → Rests (world D.Device opening self.old) (world D.Device opening self.new) }
         ensures store { self.new.store ≡ self.old.store }
         ensures locks { self.new.locks ≡ self.old.locks }
     {
@@ -183,23 +186,16 @@ impl<D: Device> Operations<D> {
         requires rules { may_stand false (appended self.old.store.log) entry ≡ true }
         requires fits { used self.old.store.log + 5 + record_length entry < area_size self.old.store.log }
         ensures right { (opening : PageBytes) (relations counters : ℕ)
-            → IsRight D.seen D.may_leave opening relations counters self.old
-            → IsRight D.seen D.may_leave opening relations counters self.new }
-        ensures notes { (opening : PageBytes)
-            → OnOk result (Notes (world D.seen opening self.old) (world D.seen opening self.new) entry) }
-        ensures rests { (opening : PageBytes)
-            → OnErr result (Rests (world D.seen opening self.old) (world D.seen opening self.new)) }
+            → IsRight D.Device opening relations counters self.old
+            → IsRight D.Device opening relations counters self.new }
+        ensures steps { AppendSteps D.Device self.old self.new entry result }
         ensures others { (opening : PageBytes) (relations counters : ℕ) (u : OpScope)
-            → IsUnderWay relations counters (world D.seen opening self.old) u → u.txn ≢ txn_of entry
-            → IsUnderWay relations counters (world D.seen opening self.new) u }
-        ensures place { IfOk result (λ place. place ≡ length (appended self.new.store.log)) }
-        ensures log { OnOk result (seen_of self.new.store.log ≡ with_record (seen_of self.old.store.log) entry) }
-        ensures err { OnErr result (seen_of self.new.store.log ≡ seen_of self.old.store.log) }
-        ensures held { (opening : PageBytes) → held_in (world D.seen opening self.new) ≡ held_in
-            (world D.seen opening self.old) }
+            → IsUnderWay relations counters (world D.Device opening self.old) u → u.txn ≢ txn_of entry
+            → IsUnderWay relations counters (world D.Device opening self.new) u }
+        ensures held { (opening : PageBytes) → held_in (world D.Device opening self.new) ≡ held_in
+            (world D.Device opening self.old) }
         ensures claimed { claimed self.new ≡ claimed self.old }
         ensures device { self.new.store.device ≡ self.old.store.device }
-        ensures only_memory { IfErr result (λ why. why ≡ Refusal.NoMemory) }
     {
         self.store.append(entry)
     }
@@ -209,10 +205,11 @@ impl<D: Device> Operations<D> {
     pub fn force_step(&mut self) -> Result<Forced, Refusal>
         requires kept { IsOpen D.Device self.old.store self.old.store.device }
         ensures right { (opening : PageBytes) (relations counters : ℕ)
-            → IsRight D.seen D.may_leave opening relations counters self.old
-            → IsRight D.seen D.may_leave opening relations counters self.new }
-        ensures rests { (opening : PageBytes) → Rests (world D.seen opening self.old) (world D.seen opening self.new) }
-        ensures moments { ExplainsMeanwhile D.seen D.may_leave D.moment D.left_since self.old.store self.new.store }
+            → IsRight D.Device opening relations counters self.old
+            → IsRight D.Device opening relations counters self.new }
+        ensures rests { (opening : PageBytes)
+            → Rests (world D.Device opening self.old) (world D.Device opening self.new) }
+        ensures moments { ExplainsMeanwhile D.Device self.old.store self.new.store }
         ensures once { D.moment self.new.store.device ≤ D.moment self.old.store.device + 1 }
         ensures pool { self.new.store.pool ≡ self.old.store.pool }
         ensures ruling { self.new.store.ruling ≡ self.old.store.ruling }
@@ -229,17 +226,19 @@ impl<D: Device> Operations<D> {
     pub fn flush_step(&mut self) -> Result<Flushed, DeviceFault>
         requires kept { IsOpen D.Device self.old.store self.old.store.device }
         ensures right { (opening : PageBytes) (relations counters : ℕ)
-            → IsRight D.seen D.may_leave opening relations counters self.old
-            → IsRight D.seen D.may_leave opening relations counters self.new }
-        ensures rests { (opening : PageBytes) → Rests (world D.seen opening self.old) (world D.seen opening self.new) }
-        ensures moments { ExplainsMeanwhile D.seen D.may_leave D.moment D.left_since self.old.store self.new.store }
+            → IsRight D.Device opening relations counters self.old
+            → IsRight D.Device opening relations counters self.new }
+        ensures rests { (opening : PageBytes)
+            → Rests (world D.Device opening self.old) (world D.Device opening self.new) }
+        ensures moments { ExplainsMeanwhile D.Device self.old.store self.new.store }
         ensures once { D.moment self.new.store.device ≤ D.moment self.old.store.device + 1 }
         ensures claimed { claimed self.new ≡ claimed self.old }
         ensures log { self.new.store.log ≡ self.old.store.log }
-        ensures steps { FlushSteps (length (durable self.old.store.log)) self.old.store.pool self.new.store.pool result }
+        ensures steps { FlushSteps (length (durable self.old.store.log))
+            self.old.store.pool self.new.store.pool result }
         ensures forced { result ≡ Ok flushed.Force → length (durable self.old.store.log) < length
             (appended self.old.store.log) }
-        ensures exact { ((f : ℕ) → get_or self.old.store.pool.dirty.items f false ≡ false) → result ≡ Ok flushed.Clean }
+        ensures exact { AreClean self.old.store.pool → result ≡ Ok flushed.Clean }
         ensures cause { HasCause (D.faults self.old.store.device) (D.faults self.new.store.device) result }
     {
         self.store.flush_step()

@@ -26,9 +26,9 @@ use std::mem::replace;
 impl<D: Device> Operations<D> {
     // Brings a page into a frame; `false` if every frame holds a page that is yet to be flushed.
     pub(crate) fn bring(&mut self, page: PageNo) -> Result<bool, Refusal>
-        requires kept { HasOpening D.seen D.may_leave self.old.store }
+        requires kept { HasOpening D.Device self.old.store }
         requires inside { page < pages self.old.store.pool }
-        ensures { BringsPage D.seen D.may_leave D.moment D.left_since D.faults self.old self.new page result }
+        ensures { BringsPage D.Device self.old self.new page result }
     {
         match self.store.fetch(page) {
             Ok(Fetched::There) => Ok(true),
@@ -46,7 +46,7 @@ impl<D: Device> Operations<D> {
         mode: Mode,
     ) -> Result<Stepped, Refusal>
         requires locks { locks_of scope.old.number self.old.locks ≡ scope.old.guards.items }
-        ensures { AsksLock D.seen self.old self.new scope.old scope.new page mode result }
+        ensures { AsksLock D.Device self.old self.new scope.old scope.new page mode result }
     {
         scope.guards.reserve(1)?;
         match self.locks.ask(scope.number, page, mode)? {
@@ -72,14 +72,14 @@ impl<D: Device> Operations<D> {
         room: Option<PageNo>,
         search: Search,
     ) -> Result<Stepped, Refusal>
-        requires right { IsOneOf D.seen D.may_leave self.old scope.old }
+        requires right { IsOneOf D.Device self.old scope.old }
         requires planning { scope.old.stage ≡ Planning }
         requires next { IsToLook self.old.rooms self.old.locks scope.old page mode }
         requires led { (room ≡ scope.old.room)
             ⊎ ((room ≡ Some page) × (mode ≡ Write) × (get_or self.old.map.kinds.value page 0 ≡ 3)) }
         requires unled { (room ≡ scope.old.room) ⊎ (scope.old.room ≡ None) }
         requires searched { HasSearched (looked scope.old) scope.old.seen.total scope.old.op search }
-        ensures { LocksPage D.seen D.may_leave D.moment D.left_since D.faults self.old self.new scope.old scope.new
+        ensures { LocksPage D.Device self.old self.new scope.old scope.new
             result }
     {
         if !self.bring(page)? {
@@ -97,7 +97,7 @@ impl<D: Device> Operations<D> {
         room: Option<PageNo>,
         search: Search,
     ) -> Result<Stepped, Refusal>
-        requires right { IsOneOf D.seen D.may_leave self.old scope.old }
+        requires right { IsOneOf D.Device self.old scope.old }
         requires planning { scope.old.stage ≡ Planning }
         requires next { IsToLook self.old.rooms self.old.locks scope.old page mode }
         requires led { (room ≡ scope.old.room)
@@ -105,7 +105,7 @@ impl<D: Device> Operations<D> {
         requires unled { (room ≡ scope.old.room) ⊎ (scope.old.room ≡ None) }
         requires searched { HasSearched (looked scope.old) scope.old.seen.total scope.old.op search }
         requires there { IsThere self.old.store.pool page }
-        ensures { TakesLock D.seen D.may_leave self.old self.new scope.old scope.new result }
+        ensures { TakesLock D.Device self.old self.new scope.old scope.new result }
     {
         scope.seen.reserve(&mut self.spare)?;
         match self.hold(scope, page, mode)? {
@@ -121,10 +121,10 @@ impl<D: Device> Operations<D> {
 
     // Locks a page that the operation has looked at, to write it.
     pub(crate) fn upgrade(&mut self, scope: &mut OpScope, page: PageNo) -> Result<Stepped, Refusal>
-        requires right { IsOneOf D.seen D.may_leave self.old scope.old }
+        requires right { IsOneOf D.Device self.old scope.old }
         requires planning { scope.old.stage ≡ Planning }
         requires next { IsToWrite scope.old page Write }
-        ensures { TakesLock D.seen D.may_leave self.old self.new scope.old scope.new result }
+        ensures { TakesLock D.Device self.old self.new scope.old scope.new result }
     {
         self.hold(scope, page, Mode::Write)
     }
@@ -132,7 +132,7 @@ impl<D: Device> Operations<D> {
     // Gives all locks of an operation back, and forgets what it looked at.
     fn begin_again(&mut self, scope: &mut OpScope)
         requires locks { locks_of scope.old.number self.old.locks ≡ scope.old.guards.items }
-        ensures { BeginsAnew D.seen self.old self.new scope.old scope.new }
+        ensures { BeginsAnew D.Device self.old self.new scope.old scope.new }
     {
         let none = Vec::new(*scope.guards.allocator());
         let guards = replace(&mut scope.guards, none);

@@ -4,7 +4,7 @@ ghost use Rattle.std.specs.Prelude.{◌≡◌, ◌≢◌, ◌<◌, ◌≤◌, �
 ghost use Rattle.mt_base.specs.declared.limits.TheConstants.{BATCH_HEAD_BYTES, LARGEST_OP_END, MAX_COUNTERS, MAX_RELATIONS, PAGE_BYTES};
 ghost use Rattle.mt_frame.specs.Grammar.{IsTxn, IsOp, IsOperation, IsOfPage, IsRecord};
 ghost use Rattle.mt_frame.specs.Lengths.{record_length};
-ghost use Rattle.mt_frame.specs.History.{may_stand};
+ghost use Rattle.mt_area_rules.specs.History.{may_stand};
 ghost use Rattle.mt_pool.specs.Views.{IsThere};
 ghost use Rattle.mt_space.specs.declared.changes.PageChange.{PageChange};
 ghost use Rattle.mt_frame.specs.declared.records.Record.TheVariants.{OpEnd};
@@ -36,12 +36,12 @@ use mt_steps::{logged, pages_for};
 impl<D: Device> Operations<D> {
     // Writes the next page of the plan, with its log records.
     pub(crate) fn write_next(&mut self, scope: &mut OpScope) -> Result<Stepped, Refusal>
-        requires right { IsOneOf D.seen D.may_leave self.old scope.old }
+        requires right { IsOneOf D.Device self.old scope.old }
         requires writing { scope.old.stage ≡ Writing }
         requires more { scope.old.written < length (changes_in scope.old) }
         requires budget { HasBudget scope.old }
         requires room { used self.old.store.log + scope.old.left < area_size self.old.store.log }
-        ensures ahead { GoesAhead D.seen D.may_leave D.moment D.left_since D.faults self.old self.new scope.old
+        ensures ahead { GoesAhead D.Device self.old self.new scope.old
             scope.new result }
         ensures map { self.new.map ≡ self.old.map }
         ensures stage { scope.new.stage ≡ Writing }
@@ -55,14 +55,14 @@ impl<D: Device> Operations<D> {
 
     // Writes a page that is in a frame. If memory is refused nothing has changed.
     fn write_there(&mut self, scope: &mut OpScope) -> Result<Stepped, Refusal>
-        requires right { IsOneOf D.seen D.may_leave self.old scope.old }
+        requires right { IsOneOf D.Device self.old scope.old }
         requires writing { scope.old.stage ≡ Writing }
         requires more { scope.old.written < length (changes_in scope.old) }
         requires there { (c : PageChange) → c ≡ get_or (changes_in scope.old) scope.old.written c
             → IsThere self.old.store.pool c.page }
         requires budget { HasBudget scope.old }
         requires room { used self.old.store.log + scope.old.left < area_size self.old.store.log }
-        ensures { WritesPage D.seen D.may_leave D.moment D.left_since D.faults
+        ensures { WritesPage D.Device
             self.old self.new scope.old scope.new result }
     {
         let before = self.store.log.used();
@@ -77,13 +77,13 @@ impl<D: Device> Operations<D> {
     // Ends the operation. Its end is appended if one is due, and with that it has acted on the base that the pages
     // hold. Its claim on free pages is given back. If memory is refused nothing has changed.
     pub(crate) fn finish(&mut self, scope: &mut OpScope) -> Result<Stepped, Refusal>
-        requires right { IsOneWithin D.seen D.may_leave self.old scope.old }
+        requires right { IsOneWithin D.Device self.old scope.old }
         requires claims { own_needs scope.old.op scope.old.split ≤ claimed self.old }
         requires writing { scope.old.stage ≡ Writing }
         requires all { scope.old.written ≡ length (changes_in scope.old) }
         requires budget { HasBudget scope.old }
         requires room { used self.old.store.log + scope.old.left < area_size self.old.store.log }
-        ensures { EndsOperation D.seen D.may_leave D.moment D.left_since D.faults
+        ensures { EndsOperation D.Device
             self.old self.new scope.old scope.new result }
     {
         let (answer, done) = outcome(scope)?;
@@ -99,14 +99,14 @@ impl<D: Device> Operations<D> {
 
     // Appends the operation's end.
     fn append_end(&mut self, scope: &mut OpScope, done: LoggedOp) -> Result<(), Refusal>
-        requires kept { HasOpening D.seen D.may_leave self.old.store }
+        requires kept { HasOpening D.Device self.old.store }
         requires numbers { IsTxn scope.old.txn × IsOp scope.old.number }
         requires operation { IsOperation done }
         requires rules { may_stand false (appended self.old.store.log)
             (OpEnd scope.old.txn scope.old.number scope.old.undoes done) ≡ true }
         requires left { (BATCH_HEAD_BYTES + LARGEST_OP_END) ≤ scope.old.left }
         requires room { used self.old.store.log + scope.old.left < area_size self.old.store.log }
-        ensures { AppendsEnd D.seen D.may_leave self.old self.new scope.old scope.new done result }
+        ensures { AppendsEnd D.Device self.old self.new scope.old scope.new done result }
     {
         let before_end = self.store.log.used();
         self.append_record(Record::OpEnd {
@@ -121,12 +121,12 @@ impl<D: Device> Operations<D> {
 
     // Appends a record that is of no page. If memory is refused nothing has changed.
     pub(crate) fn append_record(&mut self, entry: Record) -> Result<(), Refusal>
-        requires kept { HasOpening D.seen D.may_leave self.old.store }
+        requires kept { HasOpening D.Device self.old.store }
         requires grammar { IsRecord entry }
         requires no_page { IsOfPage entry → ⊥ }
         requires rules { may_stand false (appended self.old.store.log) entry ≡ true }
         requires fits { used self.old.store.log + 5 + record_length entry < area_size self.old.store.log }
-        ensures { AppendsRecord D.seen D.may_leave self.old self.new entry result }
+        ensures { AppendsRecord D.Device self.old self.new entry result }
     {
         self.store.append(entry)?;
         Ok(())

@@ -38,7 +38,8 @@ impl SpaceMap {
     pub(crate) fn settle(&mut self, changes: &Changes, claim: u16)
         requires short { ∥ ((pages : PageBytes) × (pages 0 ≡ self.old.kinds.value)
             × AreShort changes.now.list.items pages × (length self.old.kinds.value ≡ PAGE_BYTES)
-            × (reserved_of self.old.space ≤ free_in (mapped (after changes.now.list.items pages 0) (length self.old.space.0)) + claim)) ∥₁ }
+            × (reserved_of self.old.space ≤ free_in (mapped (after changes.now.list.items pages 0)
+            (length self.old.space.0)) + claim)) ∥₁ }
         requires claimed { claim ≤ reserved_of self.old.space }
         requires mapped { self.old.space.0 ≡ mapped self.old.kinds.value (length self.old.space.0) }
         ensures kinds { (pages : PageBytes) → pages 0 ≡ self.old.kinds.value → AreShort changes.now.list.items pages

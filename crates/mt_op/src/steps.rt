@@ -1,26 +1,20 @@
 // The steps of an operation, from its first page lock to its end. After each look the plan is made anew.
 // Locks are got in `page_locks`, and pages written in `page_writes`.
-ghost use Rattle.std.specs.Prelude.{◌≡◌, ◌≢◌, ◌⊎◌, ◌<◌, ◌≤◌, ◌+◌, ◌^◌, ℕ, List, length, All, Contains, [], None, Some, Ok, true, false, MatchOption, IfErr, IsTrue, ◌↔◌};
-ghost use Rattle.mt_base.specs.declared.limits.TheConstants.{MAX_COUNTERS, MAX_PAGES, MAX_RELATIONS, MAX_WRITTEN_PAGES};
+ghost use Rattle.std.specs.Prelude.{◌≡◌, ◌⊎◌, ◌<◌, ◌≤◌, ◌+◌, ◌^◌, ℕ, length, All, Contains, [], None, true, MatchOption, IsTrue, ◌↔◌};
+ghost use Rattle.mt_base.specs.declared.limits.TheConstants.{MAX_PAGES, MAX_RELATIONS, MAX_WRITTEN_PAGES};
 ghost use Rattle.mt_steps.specs.Asks.{HasSearched};
 ghost use Rattle.mt_steps.specs.Overlays.{AreAtHand};
 ghost use Rattle.mt_steps.specs.Logged.{logged_of};
 ghost use Rattle.mt_base.specs.declared.modes.Mode.TheVariants.{Write};
-ghost use Rattle.mt_disk.specs.Disk.{LeavesOnly};
 ghost use Rattle.mt_model.specs.Model.{IsWithin};
-ghost use Rattle.mt_log.specs.Words.{appended, durable, used, area_size};
+ghost use Rattle.mt_log.specs.Words.{used, area_size};
 ghost use Rattle.mt_plock.specs.Holding.{lock_of};
-ghost use Rattle.mt_space.specs.Changes.{PageBytes, after, IsUntouched};
-ghost use Rattle.mt_pool.specs.Kept.{IsKept, Explains};
-ghost use Rattle.mt_pool.specs.Views.{IsFull};
-ghost use Rattle.mt_steps.specs.Plans.{own_needs, free_pages, record_bytes as bytes_put, InPages, IsPlanned, TakesPages};
-ghost use Rattle.mt_op.specs.World.{IsUnderWay, looked, held_in};
-ghost use Rattle.mt_op.specs.Operations.{world, IsRight, IsOneOf, IsOneWithin, Steps, GivesBack, IsPlannedOn, HasBudget, only_reads, IsCause, claimed};
-ghost use Rattle.mt_op.specs.Holds.{IsNext, IsAsked, IsUnseen, FindsRoom, KeepsLocks, KeepsLocksOn, KeepsScope, KeepsScopeOn};
-ghost use Rattle.mt_op.specs.Stepping.{GoesAhead, KeepsPlan, LocksPage, PlansOn};
-ghost use Rattle.mt_op.specs.Records.{KeepsRecords};
-ghost use Rattle.mt_op.specs.Work.{Works, WorksOn, ComesTo};
-ghost use Rattle.mt_op.specs.Faults.{TellsFaults};
+ghost use Rattle.mt_space.specs.Changes.{after, IsUntouched};
+ghost use Rattle.mt_steps.specs.Plans.{own_needs, record_bytes as bytes_put, InPages, IsPlanned, TakesPages};
+ghost use Rattle.mt_op.specs.World.{looked};
+ghost use Rattle.mt_op.specs.Operations.{IsOneOf, IsOneWithin, HasBudget, only_reads, claimed};
+ghost use Rattle.mt_op.specs.Holds.{IsAsked, IsUnseen, FindsRoom};
+ghost use Rattle.mt_op.specs.Stepping.{GoesAhead, KeepsPlan, LocksPage, MakesStep, PlansOn};
 ghost use Rattle.mt_op.specs.declared.scope.Stage.TheVariants.{Planning, Writing};
 ghost use Rattle.mt_op.specs.declared.answers.Stepped.TheVariants as stepped;
 
@@ -62,41 +56,12 @@ impl<D: Device> Operations<D> {
     /// of them. A step that answers [`Stepped::Went`] leaves less to do, [`Stepped::Again`] adds at most `2 n`
     /// steps, and nothing else adds any.
     pub fn step(&mut self, alloc: Global, scope: &mut OpScope) -> Result<Stepped, Refusal>
-        requires right { IsOneWithin D.seen D.may_leave self.old scope.old }
+        requires right { IsOneWithin D.Device self.old scope.old }
         requires claims { own_needs scope.old.op scope.old.split ≤ claimed self.old }
         requires stage { (scope.old.stage ≡ Planning) ⊎ (scope.old.stage ≡ Writing) }
         requires budget { HasBudget scope.old }
         requires room { used self.old.store.log + scope.old.left < area_size self.old.store.log }
-        ensures steps { (opening : PageBytes) (relations counters : ℕ)
-            → IsRight D.seen D.may_leave opening relations counters self.old
-            → IsUnderWay relations counters (world D.seen opening self.old) scope.old
-            → relations ≤ MAX_RELATIONS → counters ≤ MAX_COUNTERS →
-            IsRight D.seen D.may_leave opening relations counters self.new
-            × Steps relations counters (world D.seen opening self.old) (world D.seen opening self.new)
-            scope.old scope.new result }
-        ensures moments { (opening : PageBytes) → IsKept D.seen D.may_leave opening self.old.store
-            → LeavesOnly D.moment D.left_since self.old.store.device self.new.store.device
-            (Explains opening self.old.store) }
-        ensures once { D.moment self.new.store.device ≤ D.moment self.old.store.device + 1 }
-        ensures log { used self.new.store.log + scope.new.left ≡ used self.old.store.log + scope.old.left }
-        ensures area { area_size self.new.store.log ≡ area_size self.old.store.log }
-        ensures durable { durable self.new.store.log ≡ durable self.old.store.log }
-        ensures budget { HasBudget scope.new }
-        ensures claims { GivesBack (own_needs scope.old.op scope.old.split) (claimed self.old) (claimed self.new)
-            result }
-        ensures full { result ≡ Ok stepped.Flush → IsFull self.old.store.pool × (self.new ≡ self.old) }
-        ensures stage { ComesTo scope.new.stage result }
-        ensures work { Works scope.old scope.new result }
-        ensures records { KeepsRecords scope.new (appended self.old.store.log) (appended self.new.store.log) result }
-        ensures locks { KeepsLocks scope.old.number (IsNext self.old.rooms self.old.locks scope.old) self.old.locks
-            self.new.locks result }
-        ensures scope { KeepsScope scope.old scope.new result }
-        ensures writing { scope.old.stage ≡ Writing → self.new.locks ≡ self.old.locks }
-        // If the plan is made, a page more is written then.
-        ensures went { scope.old.stage ≡ Writing → result ≡ Ok stepped.Went
-            → scope.new.written ≡ scope.old.written + 1 }
-        ensures why { IfErr result IsCause }
-        ensures faults { TellsFaults (D.faults self.old.store.device) (D.faults self.new.store.device) result }
+        ensures steps { MakesStep D.Device self.old self.new scope.old scope.new result }
     {
         if scope.stage == Stage::Writing {
             return self.go_on(scope);
@@ -109,12 +74,12 @@ impl<D: Device> Operations<D> {
 
     // Writes the next page of the plan, or ends the operation.
     fn go_on(&mut self, scope: &mut OpScope) -> Result<Stepped, Refusal>
-        requires right { IsOneWithin D.seen D.may_leave self.old scope.old }
+        requires right { IsOneWithin D.Device self.old scope.old }
         requires claims { own_needs scope.old.op scope.old.split ≤ claimed self.old }
         requires writing { scope.old.stage ≡ Writing }
         requires budget { HasBudget scope.old }
         requires room { used self.old.store.log + scope.old.left < area_size self.old.store.log }
-        ensures { GoesAhead D.seen D.may_leave D.moment D.left_since D.faults self.old self.new scope.old scope.new
+        ensures { GoesAhead D.Device self.old self.new scope.old scope.new
             result }
     {
         if scope.written < scope.changes.list.len() {
@@ -127,11 +92,11 @@ impl<D: Device> Operations<D> {
     // Plans over the pages that the operation has looked at: locks the one that is needed next, or keeps the
     // plan if there is none.
     fn plan_step(&mut self, alloc: Global, scope: &mut OpScope) -> Result<Option<Stepped>, Refusal>
-        requires right { IsOneWithin D.seen D.may_leave self.old scope.old }
+        requires right { IsOneWithin D.Device self.old scope.old }
         requires claims { own_needs scope.old.op scope.old.split ≤ claimed self.old }
         requires planning { scope.old.stage ≡ Planning }
         requires budget { HasBudget scope.old }
-        ensures { PlansOn D.seen D.may_leave D.moment D.left_since D.faults self.old self.new scope.old scope.new
+        ensures { PlansOn D.Device self.old self.new scope.old scope.new
             result }
     {
         let mut search = scope.search;
@@ -166,12 +131,12 @@ impl<D: Device> Operations<D> {
         mode: Mode,
         search: Search,
     ) -> Result<Stepped, Refusal>
-        requires right { IsOneOf D.seen D.may_leave self.old scope.old }
+        requires right { IsOneOf D.Device self.old scope.old }
         requires planning { scope.old.stage ≡ Planning }
         requires unseen { IsUnseen scope.old page mode }
         requires asked { IsAsked scope.old page mode }
         requires searched { HasSearched (looked scope.old) scope.old.seen.total scope.old.op search }
-        ensures { LocksPage D.seen D.may_leave D.moment D.left_since D.faults self.old self.new scope.old scope.new
+        ensures { LocksPage D.Device self.old self.new scope.old scope.new
             result }
     {
         if page.get() != MAP {
@@ -211,7 +176,7 @@ impl<D: Device> Operations<D> {
         changes: Changes,
         reply: Reply,
     ) -> Result<Option<Stepped>, Refusal>
-        requires right { IsOneOf D.seen D.may_leave self.old scope.old }
+        requires right { IsOneOf D.Device self.old scope.old }
         requires planning { scope.old.stage ≡ Planning }
         requires there { AreAtHand (looked scope.old) changes.list.items }
         requires few { length changes.list.items ≤ MAX_WRITTEN_PAGES }
@@ -226,7 +191,7 @@ impl<D: Device> Operations<D> {
             → InPages (looked scope.old) scope.old.room relations counters scope.old.seen.total
             (λ pages. TakesPages scope.old.room scope.old.op pages (after changes.list.items pages)) }
         requires budget { HasBudget scope.old }
-        ensures { KeepsPlan D.seen D.may_leave self.old self.new scope.old scope.new result }
+        ensures { KeepsPlan D.Device self.old self.new scope.old scope.new result }
     {
         if let Some(page) = first_unlocked(scope.number, &changes, scope.guards.as_slice()) {
             let stepped = self.upgrade(scope, page)?;

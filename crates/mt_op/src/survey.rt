@@ -36,13 +36,13 @@ pub struct Survey {
 impl<D: Device> Operations<D> {
     // A page as it is held.
     fn held_page(&mut self, page: PageNo) -> Result<[u8; 4096], Refusal>
-        requires idle { ∥ ((relations : ℕ) × IsIdle D.seen D.may_leave relations self.old) ∥₁ }
+        requires idle { ∥ ((relations : ℕ) × IsIdle D.Device relations self.old) ∥₁ }
         requires inside { page < pages self.old.store.pool }
         ensures held { (opening : PageBytes) (relations counters : ℕ)
-            → IsRight D.seen D.may_leave opening relations counters self.old
-            → IfOk result (λ bytes. bytes ≡ held_in (world D.seen opening self.old) page) }
+            → IsRight D.Device opening relations counters self.old
+            → IfOk result (λ bytes. bytes ≡ held_in (world D.Device opening self.old) page) }
         ensures whole { IfOk result (λ bytes. length bytes ≡ PAGE_BYTES) }
-        ensures read { OnlyReads D.seen D.may_leave D.moment D.left_since self.old self.new }
+        ensures read { OnlyReads D.Device self.old self.new }
         ensures quiet { (result ≡ Err Refusal.DeviceFailed → ⊥)
             → D.faults self.new.store.device ≡ D.faults self.old.store.device }
         ensures cause { IfErr result (λ why. (why ≡ Refusal.DeviceFailed)
@@ -57,17 +57,17 @@ impl<D: Device> Operations<D> {
 
     // Lists the records of a page in a base, if it is a page of records.
     fn list_page(&mut self, alloc: Global, base: &mut Base, page: PageNo) -> Result<(), Refusal>
-        requires idle { IsIdle D.seen D.may_leave (relations_of base.old) self.old }
+        requires idle { IsIdle D.Device (relations_of base.old) self.old }
         requires inside { page < pages self.old.store.pool }
         ensures listed { (opening : PageBytes) (relations counters : ℕ) (held : ModelBase)
-            → IsRight D.seen D.may_leave opening relations counters self.old
-            → Holds (held_in (world D.seen opening self.old)) held
-            → HasListed (held_in (world D.seen opening self.old)) page (base_of base.old)
-            → OnOk result (HasListed (held_in (world D.seen opening self.old)) (page + 1) (base_of base.new)) }
+            → IsRight D.Device opening relations counters self.old
+            → Holds (held_in (world D.Device opening self.old)) held
+            → HasListed (held_in (world D.Device opening self.old)) page (base_of base.old)
+            → OnOk result (HasListed (held_in (world D.Device opening self.old)) (page + 1) (base_of base.new)) }
         ensures counts { OnOk result ((base_of base.new).counts ≡ (base_of base.old).counts) }
         ensures relations { relations_of base.new ≡ relations_of base.old }
         ensures counters { length (counters_of base.new) ≡ length (counters_of base.old) }
-        ensures read { OnlyReads D.seen D.may_leave D.moment D.left_since self.old self.new }
+        ensures read { OnlyReads D.Device self.old self.new }
         ensures quiet { (result ≡ Err Refusal.DeviceFailed → ⊥)
             → D.faults self.new.store.device ≡ D.faults self.old.store.device }
         ensures cause { IfErr result (λ why. (why ≡ Refusal.NoMemory) ⊎ (why ≡ Refusal.DeviceFailed)
@@ -82,17 +82,17 @@ impl<D: Device> Operations<D> {
 
     // Lists the records of all pages.
     fn list_pages(&mut self, alloc: Global, base: &mut Base) -> Result<(), Refusal>
-        requires idle { IsIdle D.seen D.may_leave (relations_of base.old) self.old }
+        requires idle { IsIdle D.Device (relations_of base.old) self.old }
         ensures listed { (opening : PageBytes) (relations counters : ℕ) (held : ModelBase)
-            → IsRight D.seen D.may_leave opening relations counters self.old
-            → Holds (held_in (world D.seen opening self.old)) held
-            → HasListed (held_in (world D.seen opening self.old)) 0 (base_of base.old)
-            → OnOk result (HasListed (held_in (world D.seen opening self.old)) (pages self.old.store.pool)
+            → IsRight D.Device opening relations counters self.old
+            → Holds (held_in (world D.Device opening self.old)) held
+            → HasListed (held_in (world D.Device opening self.old)) 0 (base_of base.old)
+            → OnOk result (HasListed (held_in (world D.Device opening self.old)) (pages self.old.store.pool)
             (base_of base.new)) }
         ensures counts { OnOk result ((base_of base.new).counts ≡ (base_of base.old).counts) }
         ensures relations { relations_of base.new ≡ relations_of base.old }
         ensures counters { length (counters_of base.new) ≡ length (counters_of base.old) }
-        ensures read { OnlyReads D.seen D.may_leave D.moment D.left_since self.old self.new }
+        ensures read { OnlyReads D.Device self.old self.new }
         ensures quiet { (result ≡ Err Refusal.DeviceFailed → ⊥)
             → D.faults self.new.store.device ≡ D.faults self.old.store.device }
         ensures cause { IfErr result (λ why. (why ≡ Refusal.NoMemory) ⊎ (why ≡ Refusal.DeviceFailed)
@@ -112,13 +112,13 @@ impl<D: Device> Operations<D> {
     /// [`Refusal::NoMemory`].
     pub fn survey(&mut self, alloc: Global) -> Result<Survey, Refusal>
         requires idle { ∥ ((relations : ℕ) × (relations ≤ MAX_RELATIONS)
-            × IsIdle D.seen D.may_leave relations self.old) ∥₁ }
+            × IsIdle D.Device relations self.old) ∥₁ }
         ensures surveyed { (opening : PageBytes) (relations counters : ℕ) (held : ModelBase)
-            → IsRight D.seen D.may_leave opening relations counters self.old
-            → Holds (held_in (world D.seen opening self.old)) held
+            → IsRight D.Device opening relations counters self.old
+            → Holds (held_in (world D.Device opening self.old)) held
             → IfOk result (IsSurvey relations counters (pages self.old.store.pool)
-            (held_in (world D.seen opening self.old)) held) }
-        ensures read { OnlyReads D.seen D.may_leave D.moment D.left_since self.old self.new }
+            (held_in (world D.Device opening self.old)) held) }
+        ensures read { OnlyReads D.Device self.old self.new }
         ensures quiet { (result ≡ Err Refusal.DeviceFailed → ⊥)
             → D.faults self.new.store.device ≡ D.faults self.old.store.device }
         ensures cause { IfErr result (λ why. (why ≡ Refusal.NoMemory) ⊎ (why ≡ Refusal.DeviceFailed)

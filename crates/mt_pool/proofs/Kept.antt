@@ -2,10 +2,11 @@
 use Rattle.std.proofs.Common.{◌≡◌, ◌⊎◌, inl, inr, ⊎_elim, ℕ, ◌+◌, ◌*◌, ◌<◌, ◌≤◌, List, [], ◌++◌, length, get_or, take, refl, sym, ◌∙◌, ap, subst, arith, length-append, append_assoc, append-nil, false, Option, None, Some}
 use Rattle.std.proofs.Math.Seq.{take-append_seam}
 use Rattle.std.proofs.lemmas.List.{map-append, length-map}
+use Rattle.mt_disk.specs.declared.device.Device.{Ghosts}
 use Rattle.mt_disk.specs.Disk.{Torn, Follows, Only, Elapses, LeavesOnly}
 use Rattle.mt_disk.proofs.Frame.{Apart, torn_refl, follows_less, one_call, started}
 use Rattle.mt_frame.specs.declared.records.Record.{Record}
-use Rattle.mt_frame.specs.History.{some_record, is_of_page}
+use Rattle.mt_area_rules.specs.History.{some_record, is_of_page}
 use Rattle.mt_log.specs.Batch.{joined}
 use Rattle.mt_log.specs.Holds.{HoldsBatches}
 use Rattle.mt_log.specs.Sound.{IsSound, HoldsBeginning}
@@ -53,11 +54,11 @@ joined_more old new m = ⊎_elim
 pub names_same : (ruling : MasterSlot) (pool new : Pool) (log later : Log) → new.place ≡ pool.place → pages new ≡ pages pool → area_start later ≡ area_start log → area_end later ≡ area_end log → Names ruling pool log → Names ruling new later
 names_same ruling pool new log later place count start end n = record { count = n.count ∙ sym count; place = place ∙ n.place; start = n.start ∙ sym start; end = n.end ∙ sym end }
 
-module _ {D : Type 0} (seen : D → List ℕ) (may : D → List ℕ → Type 0) (opening : ℕ → List ℕ) (s : Store D) (k : IsKept seen may opening s) where
+module _ {D : Type 0} (g : Ghosts D) (opening : ℕ → List ℕ) (s : Store D) (k : IsKept g opening s) where
   -- a crash now
-  pub explains : (c : List ℕ) → may s.device c → Explains opening s c
+  pub explains : (c : List ℕ) → g.may_leave s.device c → Explains opening s c
   explains c left =
-      let found : HoldsBeginning (pages s.pool) s.log c = beginning_found (pages s.pool) s.log c k.sound (scans_coming seen may s.log s.device k.on c left) in
+      let found : HoldsBeginning (pages s.pool) s.log c = beginning_found (pages s.pool) s.log c k.sound (scans_coming g s.log s.device k.on c left) in
       let start = joined found.batches in
       let images : take (length start) (carried (appended s.log)) ≡ carried start =
       ap (λ (l : List Record). take (length start) (carried l)) (sym found.beginning.of_appended) ∙ carried_take start found.beginning.rest in
@@ -67,7 +68,7 @@ module _ {D : Type 0} (seen : D → List ℕ) (may : D → List ℕ → Type 0) 
         held = found.held;
         beginning = found.beginning;
         gives = subst (λ es. GivesPages s.pool.place (pages s.pool) opening es c) images
-            (gives_pages s.pool.place (pages s.pool) opening (carried (appended s.log)) (length (durable s.log)) (may s.device) k.safe (length start)
+            (gives_pages s.pool.place (pages s.pool) opening (carried (appended s.log)) (length (durable s.log)) (g.may_leave s.device) k.safe (length start)
             (omega (arith, more, length-append (durable s.log) found.beginning.more)) c left);
         ruling = s.ruling;
         rules = k.rules c left;
@@ -96,19 +97,19 @@ explains_back opening s t c start end place count same more grown e = record {
 }
 
 -- a call with at most one device call
-pub each_moment : {D : Type 0} (seen : D → List ℕ) (may : D → List ℕ → Type 0) (moment : D → ℕ) (left_since : D → ℕ → List ℕ → Type 0) → ((d : D) (c : List ℕ) → left_since d (moment d) c → may d c) → (opening : ℕ → List ℕ) (s t : Store D)
-    → IsKept seen may opening s → IsKept seen may opening t → area_start t.log ≡ area_start s.log → area_end t.log ≡ area_end s.log → t.pool.place ≡ s.pool.place → pages t.pool ≡ pages s.pool → appended t.log ≡ appended s.log
+pub each_moment : {D : Type 0} (g : Ghosts D) → ((d : D) (c : List ℕ) → g.left_since d (g.moment d) c → g.may_leave d c) → (opening : ℕ → List ℕ) (s t : Store D)
+    → IsKept g opening s → IsKept g opening t → area_start t.log ≡ area_start s.log → area_end t.log ≡ area_end s.log → t.pool.place ≡ s.pool.place → pages t.pool ≡ pages s.pool → appended t.log ≡ appended s.log
     → (more : List Record) → durable t.log ≡ durable s.log ++ more
-    → Elapses (moment s.device) (moment t.device) (left_since s.device) (left_since t.device) (may t.device) → LeavesOnly moment left_since s.device t.device (Explains opening s)
-each_moment seen may moment left_since only_now opening s t k k2 start end place count same more grown time =
-    one_call moment left_since (may s.device) (may t.device) s.device t.device (Explains opening s) (only_now s.device) time (explains seen may opening s k)
-    (λ c left. explains_back opening s t c start end place count same more grown (explains seen may opening t k2 c left))
+    → Elapses (g.moment s.device) (g.moment t.device) (g.left_since s.device) (g.left_since t.device) (g.may_leave t.device) → LeavesOnly g.moment g.left_since s.device t.device (Explains opening s)
+each_moment g only_now opening s t k k2 start end place count same more grown time =
+    one_call g.moment g.left_since (g.may_leave s.device) (g.may_leave t.device) s.device t.device (Explains opening s) (only_now s.device) time (explains g opening s k)
+    (λ c left. explains_back opening s t c start end place count same more grown (explains g opening t k2 c left))
 
-module _ {D : Type 0} (seen : D → List ℕ) (may : D → List ℕ → Type 0) (opening : ℕ → List ℕ) (s : Store D) (k : IsKept seen may opening s) where
+module _ {D : Type 0} (g : Ghosts D) (opening : ℕ → List ℕ) (s : Store D) (k : IsKept g opening s) where
   -- a force step
-  pub kept_force : (log : Log) (d : D) (n : ℕ) → IsOn seen may log d → (IsSound (pages s.pool) s.log → IsSound (pages s.pool) log) → Moves s.log log → appended log ≡ appended s.log → n ≡ length (durable log)
-      → area_start log ≡ area_start s.log → area_end log ≡ area_end s.log → Torn (area_start s.log) (area_size s.log) (seen s.device) (seen d) → Follows (Torn (area_start s.log) (area_size s.log)) (may s.device) (may d)
-      → IsKept seen may opening (record s { log = log; device = d; settled = n })
+  pub kept_force : (log : Log) (d : D) (n : ℕ) → IsOn g log d → (IsSound (pages s.pool) s.log → IsSound (pages s.pool) log) → Moves s.log log → appended log ≡ appended s.log → n ≡ length (durable log)
+      → area_start log ≡ area_start s.log → area_end log ≡ area_end s.log → Torn (area_start s.log) (area_size s.log) (g.seen s.device) (g.seen d) → Follows (Torn (area_start s.log) (area_size s.log)) (g.may_leave s.device) (g.may_leave d)
+      → IsKept g opening (record s { log = log; device = d; settled = n })
   kept_force log d n on sound moves same n_is start end rest follows =
       let apart : Apart (area_start s.log) (area_size s.log) s.pool.place (4096 * pages s.pool) = inl k.apart in
       let grown = joined_more s.log log moves in
@@ -120,27 +121,27 @@ module _ {D : Type 0} (seen : D → List ℕ) (may : D → List ℕ → Type 0) 
         apart = let a = k.apart in omega (arith, start);
         few = k.few;
         frames = k.frames;
-        shows = shows_apart s.pool (area_start s.log) (area_size s.log) (seen s.device) (seen d) k.frames rest apart k.shows;
+        shows = shows_apart s.pool (area_start s.log) (area_size s.log) (g.seen s.device) (g.seen d) k.frames rest apart k.shows;
         settled = n_is;
-        safe = subst (λ (l : List Record). IsSafe s.pool.place (pages s.pool) opening (carried l) (length (durable log)) (may d)) (sym same)
-            (safe_elsewhere s.pool.place (pages s.pool) opening (carried (appended s.log)) (length (durable s.log)) (may s.device) (may d) k.safe (area_start s.log) (area_size s.log) (length (durable log))
+        safe = subst (λ (l : List Record). IsSafe s.pool.place (pages s.pool) opening (carried l) (length (durable log)) (g.may_leave d)) (sym same)
+            (safe_elsewhere s.pool.place (pages s.pool) opening (carried (appended s.log)) (length (durable s.log)) (g.may_leave s.device) (g.may_leave d) k.safe (area_start s.log) (area_size s.log) (length (durable log))
             (omega (arith, more)) (omega (arith, all, ap (λ (l : List Record). length (carried l)) same)) apart follows);
-        tied = subst (λ (l : List Record). IsTied s.pool (seen d) opening (carried l)) (sym same)
-            (tied_same s.pool s.pool (seen s.device) (seen d) opening (carried (appended s.log)) k.tied refl refl (views_apart s.pool (area_start s.log) (area_size s.log) (seen s.device) (seen d) rest apart));
+        tied = subst (λ (l : List Record). IsTied s.pool (g.seen d) opening (carried l)) (sym same)
+            (tied_same s.pool s.pool (g.seen s.device) (g.seen d) opening (carried (appended s.log)) k.tied refl refl (views_apart s.pool (area_start s.log) (area_size s.log) (g.seen s.device) (g.seen d) rest apart));
         names = names_same s.ruling s.pool s.pool s.log log refl refl start end k.names;
-        rules = rules_on s.ruling (area_start s.log) (area_size s.log) (may s.device) (may d) (let a = k.apart in let at = k.names.place in omega (arith, a, at)) follows k.rules;
+        rules = rules_on s.ruling (area_start s.log) (area_size s.log) (g.may_leave s.device) (g.may_leave d) (let a = k.apart in let at = k.names.place in omega (arith, a, at)) follows k.rules;
         unnamed = λ p lt none. ap (λ (l : List Record). some_record (is_of_page p) l) same ∙ k.unnamed p lt none;
       }
 
   -- a flush step
-  pub kept_flush : (p : Pool) (d : D) (n : ℕ) → n ≡ s.settled → IsPool p → Shows p (seen d) → p.waits ≡ s.pool.waits → p.place ≡ s.pool.place → pages p ≡ pages s.pool → ((q : ℕ) → view p (seen d) q ≡ view s.pool (seen s.device) q)
+  pub kept_flush : (p : Pool) (d : D) (n : ℕ) → n ≡ s.settled → IsPool p → Shows p (g.seen d) → p.waits ≡ s.pool.waits → p.place ≡ s.pool.place → pages p ≡ pages s.pool → ((q : ℕ) → view p (g.seen d) q ≡ view s.pool (g.seen s.device) q)
       → (d ≡ s.device) ⊎ ((x : ℕ) × (x < pages s.pool) × (0 < waits_for s.pool x) × (waits_for s.pool x ≤ n)
-      × Torn (s.pool.place + 4096 * x) 4096 (seen s.device) (seen d) × Follows (Torn (s.pool.place + 4096 * x) 4096) (may s.device) (may d))
-      → IsKept seen may opening (record s { pool = p; device = d })
+      × Torn (s.pool.place + 4096 * x) 4096 (g.seen s.device) (g.seen d) × Follows (Torn (s.pool.place + 4096 * x) 4096) (g.may_leave s.device) (g.may_leave d))
+      → IsKept g opening (record s { pool = p; device = d })
   kept_flush p d n n_is ok shows waits place count views crash = record {
     on = ⊎_elim
-        (λ same. subst (λ (x : D). IsOn seen may s.log x) (sym same) k.on)
-        (λ f. let lt = f.1 in let apart = k.apart in on_elsewhere seen may s.log s.device d (s.pool.place + 4096 * f.0) 4096 k.on (inr (omega arith)) f.4 f.5)
+        (λ same. subst (λ (x : D). IsOn g s.log x) (sym same) k.on)
+        (λ f. let lt = f.1 in let apart = k.apart in on_elsewhere g s.log s.device d (s.pool.place + 4096 * f.0) 4096 k.on (inr (omega arith)) f.4 f.5)
         crash;
     sound = subst (λ (x : ℕ). IsSound x s.log) (sym count) k.sound;
     apart = let a = k.apart in omega (arith, place, count);
@@ -148,44 +149,44 @@ module _ {D : Type 0} (seen : D → List ℕ) (may : D → List ℕ → Type 0) 
     frames = ok;
     shows = shows;
     settled = k.settled;
-    safe = subst (λ (x : ℕ). IsSafe x (pages p) opening (carried (appended s.log)) (length (durable s.log)) (may d)) (sym place)
-        (subst (λ (x : ℕ). IsSafe s.pool.place x opening (carried (appended s.log)) (length (durable s.log)) (may d)) (sym count)
+    safe = subst (λ (x : ℕ). IsSafe x (pages p) opening (carried (appended s.log)) (length (durable s.log)) (g.may_leave d)) (sym place)
+        (subst (λ (x : ℕ). IsSafe s.pool.place x opening (carried (appended s.log)) (length (durable s.log)) (g.may_leave d)) (sym count)
         (⊎_elim
-        (λ same. subst (λ (x : D). IsSafe s.pool.place (pages s.pool) opening (carried (appended s.log)) (length (durable s.log)) (may x)) (sym same) k.safe)
-        (λ f. safe_page s.pool (seen s.device) opening (carried (appended s.log)) (length (durable s.log)) (may s.device) (may d) f.0 k.tied k.safe f.1 f.2 (let le = f.3 in omega (arith, n_is, k.settled)) f.5)
+        (λ same. subst (λ (x : D). IsSafe s.pool.place (pages s.pool) opening (carried (appended s.log)) (length (durable s.log)) (g.may_leave x)) (sym same) k.safe)
+        (λ f. safe_page s.pool (g.seen s.device) opening (carried (appended s.log)) (length (durable s.log)) (g.may_leave s.device) (g.may_leave d) f.0 k.tied k.safe f.1 f.2 (let le = f.3 in omega (arith, n_is, k.settled)) f.5)
         crash));
-    tied = tied_same s.pool p (seen s.device) (seen d) opening (carried (appended s.log)) k.tied waits count (λ q lt. views q);
+    tied = tied_same s.pool p (g.seen s.device) (g.seen d) opening (carried (appended s.log)) k.tied waits count (λ q lt. views q);
     names = names_same s.ruling s.pool p s.log s.log place count refl refl k.names;
     rules = ⊎_elim
-        (λ same. subst (λ (x : D). (c : List ℕ) → may x c → IsRuling c s.ruling) (sym same) k.rules)
-        (λ f. rules_on s.ruling (s.pool.place + 4096 * f.0) 4096 (may s.device) (may d) (let at = k.names.place in omega (arith, at)) f.5 k.rules)
+        (λ same. subst (λ (x : D). (c : List ℕ) → g.may_leave x c → IsRuling c s.ruling) (sym same) k.rules)
+        (λ f. rules_on s.ruling (s.pool.place + 4096 * f.0) 4096 (g.may_leave s.device) (g.may_leave d) (let at = k.names.place in omega (arith, at)) f.5 k.rules)
         crash;
     unnamed = λ q lt none. k.unnamed q (omega (arith, lt, count)) (sym (ap (λ v. get_or v.items q 0) waits) ∙ none);
   }
 
   -- a fetch, which reads
-  pub kept_read : (p : Pool) (d : D) → IsPool p → Shows p (seen d) → p.waits ≡ s.pool.waits → p.place ≡ s.pool.place → pages p ≡ pages s.pool → ((q : ℕ) → view p (seen d) q ≡ view s.pool (seen s.device) q)
-      → seen d ≡ seen s.device → ((c : List ℕ) → may d c → may s.device c) → IsKept seen may opening (record s { pool = p; device = d })
+  pub kept_read : (p : Pool) (d : D) → IsPool p → Shows p (g.seen d) → p.waits ≡ s.pool.waits → p.place ≡ s.pool.place → pages p ≡ pages s.pool → ((q : ℕ) → view p (g.seen d) q ≡ view s.pool (g.seen s.device) q)
+      → g.seen d ≡ g.seen s.device → ((c : List ℕ) → g.may_leave d c → g.may_leave s.device c) → IsKept g opening (record s { pool = p; device = d })
   kept_read p d ok shows waits place count views same less = record {
-    on = on_elsewhere seen may s.log s.device d 0 0 k.on (inr (omega arith)) (subst (Torn 0 0 (seen s.device)) (sym same) (torn_refl 0 0 (seen s.device))) (follows_less 0 0 (may s.device) (may d) less);
+    on = on_elsewhere g s.log s.device d 0 0 k.on (inr (omega arith)) (subst (Torn 0 0 (g.seen s.device)) (sym same) (torn_refl 0 0 (g.seen s.device))) (follows_less 0 0 (g.may_leave s.device) (g.may_leave d) less);
     sound = subst (λ (x : ℕ). IsSound x s.log) (sym count) k.sound;
     apart = let a = k.apart in omega (arith, place, count);
     few = omega (arith, count, k.few);
     frames = ok;
     shows = shows;
     settled = k.settled;
-    safe = subst (λ (x : ℕ). IsSafe x (pages p) opening (carried (appended s.log)) (length (durable s.log)) (may d)) (sym place)
-        (subst (λ (x : ℕ). IsSafe s.pool.place x opening (carried (appended s.log)) (length (durable s.log)) (may d)) (sym count)
-        (safe_less s.pool.place (pages s.pool) opening (carried (appended s.log)) (length (durable s.log)) (may s.device) (may d) k.safe less));
-    tied = tied_same s.pool p (seen s.device) (seen d) opening (carried (appended s.log)) k.tied waits count (λ q lt. views q);
+    safe = subst (λ (x : ℕ). IsSafe x (pages p) opening (carried (appended s.log)) (length (durable s.log)) (g.may_leave d)) (sym place)
+        (subst (λ (x : ℕ). IsSafe s.pool.place x opening (carried (appended s.log)) (length (durable s.log)) (g.may_leave d)) (sym count)
+        (safe_less s.pool.place (pages s.pool) opening (carried (appended s.log)) (length (durable s.log)) (g.may_leave s.device) (g.may_leave d) k.safe less));
+    tied = tied_same s.pool p (g.seen s.device) (g.seen d) opening (carried (appended s.log)) k.tied waits count (λ q lt. views q);
     names = names_same s.ruling s.pool p s.log s.log place count refl refl k.names;
     rules = λ c left. k.rules c (less c left);
     unnamed = λ q lt none. k.unnamed q (omega (arith, lt, count)) (sym (ap (λ v. get_or v.items q 0) waits) ∙ none);
   }
 
   -- a page is put back
-  pub kept_restore : (p : Pool) → IsPool p → Shows p (seen s.device) → p.waits ≡ s.pool.waits → p.place ≡ s.pool.place → pages p ≡ pages s.pool → IsTied p (seen s.device) opening (carried (appended s.log))
-      → IsKept seen may opening (record s { pool = p })
+  pub kept_restore : (p : Pool) → IsPool p → Shows p (g.seen s.device) → p.waits ≡ s.pool.waits → p.place ≡ s.pool.place → pages p ≡ pages s.pool → IsTied p (g.seen s.device) opening (carried (appended s.log))
+      → IsKept g opening (record s { pool = p })
   kept_restore p ok shows waits place count tied = record {
     on = k.on;
     sound = subst (λ (x : ℕ). IsSound x s.log) (sym count) k.sound;
@@ -194,8 +195,8 @@ module _ {D : Type 0} (seen : D → List ℕ) (may : D → List ℕ → Type 0) 
     frames = ok;
     shows = shows;
     settled = k.settled;
-    safe = subst (λ (x : ℕ). IsSafe x (pages p) opening (carried (appended s.log)) (length (durable s.log)) (may s.device)) (sym place)
-        (subst (λ (x : ℕ). IsSafe s.pool.place x opening (carried (appended s.log)) (length (durable s.log)) (may s.device)) (sym count) k.safe);
+    safe = subst (λ (x : ℕ). IsSafe x (pages p) opening (carried (appended s.log)) (length (durable s.log)) (g.may_leave s.device)) (sym place)
+        (subst (λ (x : ℕ). IsSafe s.pool.place x opening (carried (appended s.log)) (length (durable s.log)) (g.may_leave s.device)) (sym count) k.safe);
     tied = tied;
     names = names_same s.ruling s.pool p s.log s.log place count refl refl k.names;
     rules = k.rules;
@@ -203,15 +204,15 @@ module _ {D : Type 0} (seen : D → List ℕ) (may : D → List ℕ → Type 0) 
   }
 
   -- no device call
-  pub no_call : (moment : D → ℕ) (left_since : D → ℕ → List ℕ → Type 0) → ((d : D) (c : List ℕ) → left_since d (moment d) c → may d c) → LeavesOnly moment left_since s.device s.device (Explains opening s)
-  no_call moment left_since only_now = started moment left_since s.device (Explains opening s) (λ c left. explains seen may opening s k c (only_now s.device c left))
+  pub no_call : ((d : D) (c : List ℕ) → g.left_since d (g.moment d) c → g.may_leave d c) → LeavesOnly g.moment g.left_since s.device s.device (Explains opening s)
+  no_call only_now = started g.moment g.left_since s.device (Explains opening s) (λ c left. explains g opening s k c (only_now s.device c left))
 
 -- no record is appended yet, and a crash leaves the slots as they are
-pub kept_begin : {D : Type 0} (seen : D → List ℕ) (may : D → List ℕ → Type 0) (opening : ℕ → List ℕ) (s : Store D) → IsOn seen may s.log s.device → IsSound (pages s.pool) s.log → s.pool.place + 4096 * pages s.pool ≤ area_start s.log → pages s.pool ≤ 4000
-    → IsPool s.pool → Shows s.pool (seen s.device) → s.settled ≡ 0 → durable s.log ≡ [] → in_flight s.log ≡ [] → waiting s.log ≡ [] → ((p : ℕ) → waits_for s.pool p ≡ 0)
-    → ((p : ℕ) → p < pages s.pool → view s.pool (seen s.device) p ≡ opening p) → ((p : ℕ) → p < pages s.pool → (c : List ℕ) → may s.device c → slot s.pool.place c p ≡ opening p)
-    → Names s.ruling s.pool s.log → ((c : List ℕ) → may s.device c → IsRuling c s.ruling) → IsKept seen may opening s
-kept_begin seen may opening s on sound apart few frames shows settled durable_none flying_none waiting_none waits views slots names rules =
+pub kept_begin : {D : Type 0} (g : Ghosts D) (opening : ℕ → List ℕ) (s : Store D) → IsOn g s.log s.device → IsSound (pages s.pool) s.log → s.pool.place + 4096 * pages s.pool ≤ area_start s.log → pages s.pool ≤ 4000
+    → IsPool s.pool → Shows s.pool (g.seen s.device) → s.settled ≡ 0 → durable s.log ≡ [] → in_flight s.log ≡ [] → waiting s.log ≡ [] → ((p : ℕ) → waits_for s.pool p ≡ 0)
+    → ((p : ℕ) → p < pages s.pool → view s.pool (g.seen s.device) p ≡ opening p) → ((p : ℕ) → p < pages s.pool → (c : List ℕ) → g.may_leave s.device c → slot s.pool.place c p ≡ opening p)
+    → Names s.ruling s.pool s.log → ((c : List ℕ) → g.may_leave s.device c → IsRuling c s.ruling) → IsKept g opening s
+kept_begin g opening s on sound apart few frames shows settled durable_none flying_none waiting_none waits views slots names rules =
     let none : appended s.log ≡ [] =
     ap (λ (l : List Record). l ++ (in_flight s.log ++ waiting s.log)) durable_none ∙ ap (λ (l : List Record). l ++ waiting s.log) flying_none ∙ waiting_none in
     record {
@@ -222,12 +223,12 @@ kept_begin seen may opening s on sound apart few frames shows settled durable_no
       frames = frames;
       shows = shows;
       settled = settled ∙ sym (ap length durable_none);
-      safe = subst (λ (l : List Record). IsSafe s.pool.place (pages s.pool) opening (carried l) (length (durable s.log)) (may s.device)) (sym none) (record {
+      safe = subst (λ (l : List Record). IsSafe s.pool.place (pages s.pool) opening (carried l) (length (durable s.log)) (g.may_leave s.device)) (sym none) (record {
         within = omega (arith, ap length durable_none);
         images = λ p lt has d. absurd (cc);
         slots = λ p lt not c left. slots p lt c left;
       });
-      tied = subst (λ (l : List Record). IsTied s.pool (seen s.device) opening (carried l)) (sym none) (record {
+      tied = subst (λ (l : List Record). IsTied s.pool (g.seen s.device) opening (carried l)) (sym none) (record {
         imaged = λ p lt waiting. absurd (let w = waits p in omega arith);
         within = λ p lt. let w = waits p in omega arith;
         untouched = λ p lt is. (refl, views p lt);
@@ -236,12 +237,6 @@ kept_begin seen may opening s on sound apart few frames shows settled durable_no
       rules = rules;
       unnamed = λ p lt is. ap (λ (l : List Record). some_record (is_of_page p) l) none;
     }
-
--- what a crash leaves of a slot that is synced, where writes went elsewhere
-pub slot_stays : (at n place pages p : ℕ) (synced : List ℕ) (may may2 : List ℕ → Type 0) → Only synced may → Follows (Torn at n) may may2 → place + 4096 * pages ≤ at → p < pages → (c : List ℕ) → may2 c → slot place c p ≡ slot place synced p
-slot_stays at n place pages p synced may may2 only follows before lt c left =
-    let from : (d : List ℕ) × may d × Torn at n d c = follows c left in
-    cut_torn at n (place + 4096 * p) 4096 from.0 c from.2 (inl (omega arith)) ∙ ap (λ (l : List ℕ). slot place l p) (only from.0 from.1)
 
 -- where no frame is to be flushed, each page is in its slot
 pub all_in_slots : (pool : Pool) (seen : List ℕ) → IsPool pool → Shows pool seen → ((f : ℕ) → get_or pool.dirty.items f false ≡ false) → (q : ℕ) → slot pool.place seen q ≡ view pool seen q

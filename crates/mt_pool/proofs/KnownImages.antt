@@ -7,7 +7,7 @@ use Rattle.std.proofs.lemmas.List.{map-append, length-map, get_or-set_other, tak
 use Rattle.std.proofs.lemmas.Grind.{get_or-set_at}
 use Rattle.mt_frame.specs.declared.records.Record.{Record}
 use Rattle.mt_frame.specs.declared.records.Record.TheVariants.{Page, OpEnd, OpDropped, Commit, AbortEnd}
-use Rattle.mt_frame.specs.History.{some_record, is_of_page}
+use Rattle.mt_area_rules.specs.History.{some_record, is_of_page}
 use Rattle.mt_pool.specs.Images.{has_image}
 use Rattle.mt_pool.specs.Kept.{carried, carried_of}
 use Rattle.mt_pool.specs.Views.{pages, waits_for}

@@ -4,11 +4,12 @@ use Rattle.std.specs.Prelude.{◌||◌}
 use Rattle.std.proofs.Math.Seq.{take-length}
 use Rattle.std.proofs.lemmas.List.{map-append, length-map, take-append-le, get_or-set_same, get_or-set_other}
 use Rattle.std.proofs.lemmas.Bool.{cases_eq}
+use Rattle.mt_disk.specs.declared.device.Device.{Ghosts}
 use Rattle.mt_frame.specs.declared.records.Record.{Record}
 use Rattle.mt_frame.specs.declared.records.Record.TheVariants.{Page, OpEnd, OpDropped, Commit, AbortEnd}
 use Rattle.mt_frame.specs.Grammar.{IsOfPage, IsRecord}
 use Rattle.std.specs.List.{AllByRecursion}
-use Rattle.mt_frame.specs.History.{some_record, is_of_page, may_stand, MayFollow}
+use Rattle.mt_area_rules.specs.History.{some_record, is_of_page, may_stand, MayFollow}
 use Rattle.mt_log.specs.Holds.{HasItsPage}
 use Rattle.mt_log.specs.Sound.{IsSound}
 use Rattle.mt_log.specs.Batch.{joined}
@@ -156,12 +157,12 @@ same_stand old new rs l = ap (λ (x : LogSeen). (x.start, x.end, x.gate, x.batch
 pub carried_more : (old new : Log) (rs : List Record) → IsLonger old new rs → carried (appended new) ≡ carried (appended old) ++ carried rs
 carried_more old new rs l = ap carried (longer_appended old new rs l) ∙ map-append carried_of (appended old) rs
 
-module _ {D : Type 0} (seen : D → List ℕ) (may : D → List ℕ → Type 0) (opening : ℕ → List ℕ) (s : Store D) (k : IsKept seen may opening s) where
+module _ {D : Type 0} (g : Ghosts D) (opening : ℕ → List ℕ) (s : Store D) (k : IsKept g opening s) where
   -- a change of a page behind its records
   pub kept_write : (log : Log) (p : Pool) (rs : List Record) (page : ℕ) → IsLonger s.log log rs → (IsSound (pages s.pool) s.log → IsSound (pages s.pool) log)
-      → page < pages s.pool → 0 < length rs → AreImagesFirst s.pool (seen s.device) page (carried rs) → ((q : ℕ) → q ≢ page → some_record (is_of_page q) rs ≡ false)
-      → IsPool p → Shows p (seen s.device) → p.waits.items ≡ set s.pool.waits.items page (length (appended log)) → p.place ≡ s.pool.place → pages p ≡ pages s.pool → ((q : ℕ) → q ≢ page → view p (seen s.device) q ≡ view s.pool (seen s.device) q)
-      → IsKept seen may opening (record s { log = log; pool = p })
+      → page < pages s.pool → 0 < length rs → AreImagesFirst s.pool (g.seen s.device) page (carried rs) → ((q : ℕ) → q ≢ page → some_record (is_of_page q) rs ≡ false)
+      → IsPool p → Shows p (g.seen s.device) → p.waits.items ≡ set s.pool.waits.items page (length (appended log)) → p.place ≡ s.pool.place → pages p ≡ pages s.pool → ((q : ℕ) → q ≢ page → view p (g.seen s.device) q ≡ view s.pool (g.seen s.device) q)
+      → IsKept g opening (record s { log = log; pool = p })
   kept_write log p rs page longer sound lt some first named ok shows waits place count others =
       let all = longer_appended s.log log rs longer in
       let images = carried_more s.log log rs longer in
@@ -169,20 +170,20 @@ module _ {D : Type 0} (seen : D → List ℕ) (may : D → List ℕ → Type 0) 
       ap length all ∙ length-append (appended s.log) rs ∙ ap (λ (n : ℕ). n + length rs) (sym (length-map (appended s.log) carried_of)) ∙ ap (λ (n : ℕ). length (carried (appended s.log)) + n) (sym (length-map rs carried_of)) in
       let durable_len : length (durable log) ≡ length (durable s.log) = ap (λ (x : LogSeen). length (joined x.batches)) longer in
       record {
-        on = on_same seen may s.log log s.device (same_stand s.log log rs longer) k.on;
+        on = on_same g s.log log s.device (same_stand s.log log rs longer) k.on;
         sound = subst (λ (x : ℕ). IsSound x log) (sym count) (sound k.sound);
         apart = let a = k.apart in omega (arith, place, count, same_start s.log log rs longer);
         few = omega (arith, count, k.few);
         frames = ok;
         shows = shows;
         settled = k.settled ∙ sym durable_len;
-        safe = subst (λ es. IsSafe p.place (pages p) opening es (length (durable log)) (may s.device)) (sym images)
-            (subst (λ (x : ℕ). IsSafe x (pages p) opening (carried (appended s.log) ++ carried rs) (length (durable log)) (may s.device)) (sym place)
-            (subst (λ (x : ℕ). IsSafe s.pool.place x opening (carried (appended s.log) ++ carried rs) (length (durable log)) (may s.device)) (sym count)
-            (subst (λ (x : ℕ). IsSafe s.pool.place (pages s.pool) opening (carried (appended s.log) ++ carried rs) x (may s.device)) (sym durable_len)
-            (safe_images s.pool (seen s.device) opening (carried (appended s.log)) (carried rs) (length (durable s.log)) (may s.device) page k.tied lt first k.safe))));
-        tied = subst (λ es. IsTied p (seen s.device) opening es) (sym images)
-            (tied_images s.pool p (seen s.device) opening (carried (appended s.log)) (carried rs) page k.frames k.tied lt (omega (arith, some, length-map rs carried_of)) first
+        safe = subst (λ es. IsSafe p.place (pages p) opening es (length (durable log)) (g.may_leave s.device)) (sym images)
+            (subst (λ (x : ℕ). IsSafe x (pages p) opening (carried (appended s.log) ++ carried rs) (length (durable log)) (g.may_leave s.device)) (sym place)
+            (subst (λ (x : ℕ). IsSafe s.pool.place x opening (carried (appended s.log) ++ carried rs) (length (durable log)) (g.may_leave s.device)) (sym count)
+            (subst (λ (x : ℕ). IsSafe s.pool.place (pages s.pool) opening (carried (appended s.log) ++ carried rs) x (g.may_leave s.device)) (sym durable_len)
+            (safe_images s.pool (g.seen s.device) opening (carried (appended s.log)) (carried rs) (length (durable s.log)) (g.may_leave s.device) page k.tied lt first k.safe))));
+        tied = subst (λ es. IsTied p (g.seen s.device) opening es) (sym images)
+            (tied_images s.pool p (g.seen s.device) opening (carried (appended s.log)) (carried rs) page k.frames k.tied lt (omega (arith, some, length-map rs carried_of)) first
             (waits ∙ ap (λ (n : ℕ). set s.pool.waits.items page n) position) count others);
         names = names_same s.ruling s.pool p s.log log place count (same_start s.log log rs longer) (same_end s.log log rs longer) k.names;
         rules = k.rules;
@@ -199,7 +200,7 @@ module _ {D : Type 0} (seen : D → List ℕ) (may : D → List ℕ → Type 0) 
 
   -- records of no page
   pub kept_append : (log : Log) (rs : List Record) → IsLonger s.log log rs → (IsSound (pages s.pool) s.log → IsSound (pages s.pool) log)
-      → ((q : ℕ) → has_image (carried rs) q ≡ false) → ((q : ℕ) → some_record (is_of_page q) rs ≡ false) → IsKept seen may opening (record s { log = log })
+      → ((q : ℕ) → has_image (carried rs) q ≡ false) → ((q : ℕ) → some_record (is_of_page q) rs ≡ false) → IsKept g opening (record s { log = log })
   kept_append log rs longer sound none named =
       let all = longer_appended s.log log rs longer in
       let images = carried_more s.log log rs longer in
@@ -208,14 +209,14 @@ module _ {D : Type 0} (seen : D → List ℕ) (may : D → List ℕ → Type 0) 
       let f = k.safe in
       let before = carried (appended s.log) in
       record {
-        on = on_same seen may s.log log s.device (same_stand s.log log rs longer) k.on;
+        on = on_same g s.log log s.device (same_stand s.log log rs longer) k.on;
         sound = sound k.sound;
         apart = let a = k.apart in omega (arith, same_start s.log log rs longer);
         few = k.few;
         frames = k.frames;
         shows = k.shows;
         settled = k.settled ∙ sym durable_len;
-        safe = subst (λ es. IsSafe s.pool.place (pages s.pool) opening es (length (durable log)) (may s.device)) (sym images) (subst (λ (x : ℕ). IsSafe s.pool.place (pages s.pool) opening (before ++ carried rs) x (may s.device)) (sym durable_len) (record {
+        safe = subst (λ es. IsSafe s.pool.place (pages s.pool) opening es (length (durable log)) (g.may_leave s.device)) (sym images) (subst (λ (x : ℕ). IsSafe s.pool.place (pages s.pool) opening (before ++ carried rs) x (g.may_leave s.device)) (sym durable_len) (record {
           within = let w = f.within in omega (arith, length-append before (carried rs));
           images = λ p lt has d. elim (bool_cases (has_image before p)) [
             | inl was ↦ in_more p before (carried rs) d d was ∙ f.images p lt was d
@@ -223,7 +224,7 @@ module _ {D : Type 0} (seen : D → List ℕ) (may : D → List ℕ → Type 0) 
           ];
           slots = λ p lt not c left. f.slots p lt (sym (ap (λ l. has_image l p) (take-append-le (length (durable s.log)) before (carried rs) f.within)) ∙ not) c left;
         }));
-        tied = subst (λ es. IsTied s.pool (seen s.device) opening es) (sym images) (record {
+        tied = subst (λ es. IsTied s.pool (g.seen s.device) opening es) (sym images) (record {
           imaged = λ p lt waits. ap (λ l. has_image l p) (take-append-le (get_or s.pool.waits.items p 0) before (carried rs) (t.within p lt)) ∙ t.imaged p lt waits;
           within = λ p lt. let le = t.within p lt in omega (arith, length-append before (carried rs));
           untouched = λ p lt not. let was = t.untouched p lt not in (has_later p before (carried rs) was.0 ∙ none p, was.1);

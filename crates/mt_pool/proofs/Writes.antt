@@ -3,6 +3,7 @@ use Rattle.std.proofs.Common.{◌≡◌, ◌≢◌, ◌⊎◌, inl, inr, ⊎_eli
 use Rattle.std.specs.Prelude.{All, ◌||◌, ◌&&◌, ◌==◌, not, if◌then◌else◌, cond, is_some}
 use Rattle.std.specs.List.{AllByRecursion}
 use Rattle.std.proofs.lemmas.Bool.{cases_eq, eqb-true, eq-eqb}
+use Rattle.mt_disk.specs.declared.device.Device.{Ghosts}
 use Rattle.mt_base.specs.Edits.{patched, log_size, IsShortest}
 use Rattle.mt_base.specs.Ranges.{part}
 use Rattle.mt_base.specs.declared.edits.Edit.{Edit}
@@ -10,7 +11,7 @@ use Rattle.mt_base.proofs.Places.{part_length}
 use Rattle.mt_frame.specs.declared.records.Record.{Record}
 use Rattle.mt_frame.specs.declared.records.Record.TheVariants.{Page, OpEnd, OpDropped, Commit, AbortEnd}
 use Rattle.mt_frame.specs.Grammar.{IsRecord, IsTxn, IsOp, IsImage, IsPageRecord}
-use Rattle.mt_frame.specs.History.{some_record, is_of_page, ends_txn, ends_op, MayFollow}
+use Rattle.mt_area_rules.specs.History.{some_record, is_of_page, ends_txn, ends_op, MayFollow}
 use Rattle.mt_frame.specs.Lengths.{image_length}
 use Rattle.mt_log.specs.Holds.{HasItsPage}
 use Rattle.mt_pool.specs.Images.{has_image, page_in, slot}
@@ -23,7 +24,7 @@ use Rattle.mt_pool.specs.Kept.{carried}
 use Rattle.mt_pool.specs.declared.store.Store.{Store}
 use Rattle.mt_frame.specs.PageRecords.{range_record, change_records}
 use Rattle.mt_frame.proofs.Redone.{patched_length, shortest_within}
-use Rattle.mt_pool.specs.Writes.{due_image, due_records, records_size, IsUnfinished}
+use Rattle.mt_pool.specs.Writes.{IsAsLeft, due_image, due_records, records_size, IsUnfinished}
 use Rattle.std.proofs.lemmas.List.Elements.{recursion_from_All, All-weaker}
 use Rattle.mt_pool.proofs.Safe.{bool_cases, has_all}
 use Rattle.mt_pool.proofs.Logged.{AreImagesFirst, no_records}
@@ -210,20 +211,24 @@ image_named p (AbortEnd txn ∷ rs) has = image_named p rs has
 pub edits_within : (old : List ℕ) (c : PageChange) → length old ≡ 4096 → IsShort old c → All (λ (e : Edit). e.start + length e.bytes ≤ 4096) c.edits.items
 edits_within old c whole short = All-weaker (IsShortest old (patched c.edits.items old)) (λ (e : Edit). e.start + length e.bytes ≤ 4096) (λ e range. let within = range.within in omega (arith, whole)) c.edits.items short.ranges
 
-module _ {D : Type 0} (seen : D → List ℕ) (may : D → List ℕ → Type 0) (s : Store D) (k : IsSteady seen may s) (txn op : ℕ) (change : PageChange)
-    (there : IsThere s.pool change.page) (inside : change.page < pages s.pool) (short : IsShort (view s.pool (seen s.device) change.page) change) (numbers : IsTxn txn × IsOp op) where
+-- each has the bytes of the page as all of them leave it
+pub edits_left : (old : List ℕ) (c : PageChange) → IsShort old c → All (IsAsLeft (patched c.edits.items old)) c.edits.items
+edits_left old c short = All-weaker (IsShortest old (patched c.edits.items old)) (IsAsLeft (patched c.edits.items old)) (λ e range. range.bytes) c.edits.items short.ranges
+
+module _ {D : Type 0} (g : Ghosts D) (s : Store D) (k : IsSteady g s) (txn op : ℕ) (change : PageChange)
+    (there : IsThere s.pool change.page) (inside : change.page < pages s.pool) (short : IsShort (view s.pool (g.seen s.device) change.page) change) (numbers : IsTxn txn × IsOp op) where
   abbrev pub page_now : List ℕ
-  page_now = view s.pool (seen s.device) change.page
+  page_now = view s.pool (g.seen s.device) change.page
 
   abbrev pub records_now : List Record
   records_now = due_records s.pool txn op change page_now
 
   -- whatever its slot has
   pub now_any : (other : List ℕ) → due_records s.pool txn op change (view s.pool other change.page) ≡ records_now
-  now_any other = ap (due_records s.pool txn op change) (view_any s.pool other (seen s.device) change.page there)
+  now_any other = ap (due_records s.pool txn op change) (view_any s.pool other (g.seen s.device) change.page there)
 
   whole : length page_now ≡ 4096
-  whole = view_whole s.pool (seen s.device) change.page k.frames there
+  whole = view_whole s.pool (g.seen s.device) change.page k.frames there
 
   each : AllByRecursion (IsShortest page_now (patched change.edits.items page_now)) change.edits.items
   each = recursion_from_All (IsShortest page_now (patched change.edits.items page_now)) change.edits.items short.ranges

@@ -19,4 +19,5 @@ ComesTo pool from to Dirty = (f : ℕ) → from ≤ f → f < to → get_or pool
 pub record Passes (was now : Pool) (from to : ℕ) (passed : Passed) : Type 0 where
   pub came : ComesTo was from to passed
   pub still : passed ≡ Dirty → now ≡ was
-  pub rest : (u : _) × (h : ℕ) × (now ≡ record was { used = u; hand = h }) × (length u.items ≡ frames was) × (h ≤ frames was)
+  pub rest : (u : _) × (h : ℕ) × (now ≡ record was { used = u; hand = h }) × (length u.items ≡ frames was)
+      × (h ≤ frames was)

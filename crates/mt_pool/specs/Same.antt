@@ -12,7 +12,7 @@ use Rattle.mt_frame.specs.declared.records.Record.TheVariants.{Page, OpEnd, OpDr
 use Rattle.mt_frame.specs.declared.records.LoggedOp.{LoggedOp}
 use Rattle.mt_frame.specs.declared.records.LoggedOp.TheVariants.{Insert, Update, Delete, Add}
 use Rattle.mt_frame.specs.Grammar.{IsRecord, IsPageRecord, IsImageAlone, IsChange, IsImage, IsOperation}
-use Rattle.mt_frame.specs.History.{MayFollow, BatchesMayFollow, IsHistory}
+use Rattle.mt_area_rules.specs.History.{MayFollow, BatchesMayFollow, IsHistory}
 use Rattle.mt_log.specs.Holds.{HasItsPage, AreRecords}
 use Rattle.mt_log.specs.Sound.{IsSound}
 use Rattle.mt_log.specs.declared.log.Log.{Log}
@@ -22,7 +22,8 @@ use Rattle.mt_pool.specs.declared.pool.Pool.{Pool}
 -- what is in an option, with a fact of it
 Held-prop : (o : Option ℕ) (P : ℕ → Type 0) → ((p : ℕ) → IsProp (P p)) → IsProp ((p : ℕ) × (o ≡ Some p) × P p)
 Held-prop o P one x y =
-    let same : ◌≡◌ {A = (p : ℕ) × ((o ≡ Some p) × P p)} (x.0, (x.1, x.2)) (y.0, (y.1, y.2)) = Σ_prop_path (λ p. ×_prop (some_prop p) (one p)) (some_inj (sym x.1 ∙ y.1)) in
+    let same : ◌≡◌ {A = (p : ℕ) × ((o ≡ Some p) × P p)} (x.0, (x.1, x.2)) (y.0, (y.1, y.2)) = Σ_prop_path
+    (λ p. ×_prop (some_prop p) (one p)) (some_inj (sym x.1 ∙ y.1)) in
     ap (λ (t : (p : ℕ) × ((o ≡ Some p) × P p)). (t.0, t.1.0, t.1.1)) same
   where
     some_prop : (p : ℕ) → IsProp (o ≡ Some p)
@@ -65,7 +66,8 @@ Operation-prop (Update r k v o) = hlevel props
 Operation-prop (Delete r k o) = hlevel props
 Operation-prop (Add c s) = hlevel (props, IsStep-prop)
 
-PageRecord-prop : (txn op page : ℕ) (image : Option (List ℕ)) (start : ℕ) (old new : List ℕ) → IsProp (IsPageRecord txn op page image start old new)
+PageRecord-prop : (txn op page : ℕ) (image : Option (List ℕ)) (start : ℕ) (old new : List ℕ)
+    → IsProp (IsPageRecord txn op page image start old new)
 PageRecord-prop txn op page image start old new = hlevel (props, Image-prop, Alone-prop, Change-prop)
 
 Record-prop : (r : Record) → IsProp (IsRecord r)

@@ -3,7 +3,7 @@ use Rattle.std.specs.Prelude.{◌≡◌, ◌≢◌, set, ℕ, ◌+◌, List, [],
 use Rattle.std.specs.List.{AllByRecursion}
 use Rattle.mt_base.specs.declared.refusal.Refusal.{Refusal}
 use Rattle.mt_frame.specs.declared.records.Record.{Record}
-use Rattle.mt_frame.specs.History.{MayFollow, some_record, ends_txn, ends_op}
+use Rattle.mt_area_rules.specs.History.{MayFollow, some_record, ends_txn, ends_op}
 use Rattle.mt_frame.specs.Lengths.{record_length}
 use Rattle.mt_frame.specs.PageRecords.{change_records, lent_image}
 use Rattle.mt_log.specs.Holds.{HasItsPage}
@@ -13,6 +13,7 @@ use Rattle.mt_log.specs.Words as words
 use Rattle.mt_log.specs.Words.{seen_of, appended}
 use Rattle.mt_log.specs.declared.log.Log.{Log}
 use Rattle.mt_base.specs.Edits.{patched}
+use Rattle.mt_base.specs.Ranges.{part}
 use Rattle.mt_base.specs.declared.edits.Edit.{Edit}
 use Rattle.mt_space.specs.declared.changes.PageChange.{PageChange}
 use Rattle.mt_pool.specs.declared.page_changes.Change.{Change}
@@ -28,9 +29,13 @@ abbrev pub due_records : Pool → ℕ → ℕ → PageChange → List ℕ → Li
 due_records pool txn op change page = let edits = change.edits.items in
     change_records txn op change.page (due_image pool change.page page) page (patched edits page) edits
 
+-- the edit's bytes are those that its range has in the page as a change leaves it
+abbrev pub IsAsLeft : List ℕ → Edit → Type 0
+IsAsLeft new e = e.bytes ≡ part new e.start (length e.bytes)
+
 -- the records of a change with lent bytes, one for each of these edits
 abbrev pub lent_records : Change → List Edit → List Record
-lent_records c edits = change_records c.txn c.op c.page (lent_image c.image) c.old.now c.new.now edits
+lent_records c edits = change_records c.txn c.op c.page (lent_image c.image) c.old.now (patched edits c.old.now) edits
 
 -- what the records take of an area, each with a head of its own
 abbrev pub records_size : List Record → ℕ
@@ -51,7 +56,8 @@ pub record AppendsAll (log new : Log) (records : List Record) (r : Result ℕ Re
   pub longer : OnOk r (IsLonger log new records)
   pub used : OnOk r (words.used new ≡ words.used log + records_size records)
   pub place : IfOk r (λ place. place ≡ length (appended new))
-  pub sound : (pages : ℕ) → IsSound pages log → AllByRecursion (HasItsPage pages) records → MayFollow false (appended log) records → IsSound pages new
+  pub sound : (pages : ℕ) → IsSound pages log → AllByRecursion (HasItsPage pages) records
+      → MayFollow false (appended log) records → IsSound pages new
   pub err : OnErr r (seen_of new ≡ seen_of log)
   pub only_memory : IfErr r (λ why. why ≡ Refusal.NoMemory)
 

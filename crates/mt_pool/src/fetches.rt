@@ -21,7 +21,8 @@ pub enum Fetched {
 
 impl Pool {
     ghost use Rattle.mt_pool.specs.Moves.{Installs};
-    ghost use Rattle.mt_pool.specs.Views.{IsPool, Shows, IsFull, IsThere, view, pages, frames};
+    ghost use Rattle.mt_pool.specs.FetchSteps.{FetchSteps, OnlyMoves};
+    ghost use Rattle.mt_pool.specs.Views.{IsPool, Shows, view, pages, frames};
     ghost use Rattle.mt_pool.specs.declared.fetches.Fetched.TheVariants as fetched;
 
     /// The page, whose bytes are in this free frame, is in it from now on.
@@ -49,15 +50,9 @@ impl Pool {
         ensures pool { IsPool self.new }
         ensures shows { Shows self.new (D.seen device.new) }
         ensures views { (q : ℕ) → view self.new (D.seen device.new) q ≡ view self.old (D.seen device.old) q }
-        ensures waits { self.new.waits ≡ self.old.waits }
-        ensures pages { pages self.new ≡ pages self.old }
-        ensures flush { self.new.dirty ≡ self.old.dirty }
-        ensures place { self.new.place ≡ self.old.place }
-        ensures there { result ≡ Ok fetched.There → IsThere self.new page }
-        ensures full { result ≡ Ok fetched.Flush → (IsFull self.old)
-            × (get_or self.old.of_page.items page None ≡ None) }
-        ensures nothing { result ≡ Ok fetched.Flush → (self.new ≡ self.old) × (device.new ≡ device.old) }
-        ensures exact { IsFull self.old → get_or self.old.of_page.items page None ≡ None → result ≡ Ok fetched.Flush }
+        ensures steps { FetchSteps page self.old self.new result }
+        ensures moves { OnlyMoves self.old self.new }
+        ensures nothing { result ≡ Ok fetched.Flush → device.new ≡ device.old }
         ensures seen { D.seen device.new ≡ D.seen device.old }
         ensures crash { (c : List ℕ) → D.may_leave device.new c → D.may_leave device.old c }
         ensures time { MakesOneCall D.Device device.old device.new }

@@ -1,6 +1,6 @@
 // Pages are written into their slots under the write-ahead rule: each after all of its records are durable.
 // A call writes one page at most. Who calls says how many records are durable.
-ghost use Rattle.std.specs.Prelude.{◌≡◌, ◌⊎◌, ◌<◌, ◌≤◌, ◌+◌, ◌*◌, ℕ, length, get_or, set, IsErr, Ok, Some, None, true, false};
+ghost use Rattle.std.specs.Prelude.{◌≡◌, ◌⊎◌, ◌<◌, ◌≤◌, ◌+◌, ◌*◌, ℕ, Ok};
 ghost use Rattle.mt_base.specs.declared.limits.TheConstants.{PAGE_BYTES};
 ghost use Rattle.mt_disk.specs.Disk.{Torn, Follows, HasCause};
 ghost use Rattle.mt_disk.specs.Calls.{MakesOneCall};
@@ -31,7 +31,8 @@ enum ToFlush {
 }
 
 impl Pool {
-    ghost use Rattle.mt_pool.specs.Views.{IsPool, Shows, IsReady, IsWaiting, Cleans, view, pages, waits_for, to_flush};
+    ghost use Rattle.mt_pool.specs.FlushSteps.{FlushSteps};
+    ghost use Rattle.mt_pool.specs.Views.{AreClean, IsPool, Shows, view, pages, waits_for};
     ghost use Rattle.mt_pool.specs.declared.flushes.Flushed.TheVariants as flushed;
     ghost use Rattle.mt_pool.specs.Finds.{IsFound};
 
@@ -72,8 +73,7 @@ impl Pool {
         ensures pool { IsPool self.new }
         ensures shows { Shows self.new (D.seen device.new) }
         ensures views { (q : ℕ) → view self.new (D.seen device.new) q ≡ view self.old (D.seen device.old) q }
-        ensures waits { self.new.waits ≡ self.old.waits }
-        ensures there { self.new.of_page ≡ self.old.of_page }
+        ensures steps { FlushSteps durable self.old self.new result }
         ensures place { self.new.place ≡ self.old.place }
         // A page is written in place only after every record of its changes is durable.
         ensures crash { (device.new ≡ device.old) ⊎ ((p : ℕ) × (p < pages self.old) × (0 < waits_for self.old p)
@@ -82,13 +82,8 @@ impl Pool {
             × Follows (Torn (self.old.place + PAGE_BYTES * p) PAGE_BYTES)
             (D.may_leave device.old) (D.may_leave device.new)) }
         ensures time { MakesOneCall D.Device device.old device.new }
-        ensures page { (p : ℕ) → result ≡ Ok (flushed.Page p) → Cleans self.old self.new durable p }
-        ensures fewer { (p : ℕ) → result ≡ Ok (flushed.Page p) → to_flush self.new + 1 ≡ to_flush self.old }
-        ensures forced { result ≡ Ok flushed.Force → IsWaiting self.old durable }
-        ensures waiting { result ≡ Ok flushed.Force → (self.new ≡ self.old) × (device.new ≡ device.old) }
-        ensures fault { IsErr result → self.new ≡ self.old }
-        ensures exact { ((f : ℕ) → get_or self.old.dirty.items f false ≡ false) → result ≡ Ok flushed.Clean }
-        ensures nothing { result ≡ Ok flushed.Clean → (f : ℕ) → get_or self.new.dirty.items f false ≡ false }
+        ensures waiting { result ≡ Ok flushed.Force → device.new ≡ device.old }
+        ensures exact { AreClean self.old → result ≡ Ok flushed.Clean }
         ensures cause { HasCause (D.faults device.old) (D.faults device.new) result }
     {
         match self.find(durable) {

@@ -7,25 +7,25 @@ use mt_disk::Device;
 /// content that a crash may leave gives every page as at the opening. It does so together with the durable records
 /// and any part of those after them. A slot whose page has a durable image may be torn.
 pub fn a_crash_gives_the_pages<D: Device>()
-    ensures { CrashGivesPages D.may_leave }
+    ensures { CrashGivesPages D.Device }
 {}
 
 /// Laws: what keeps it so that a crash gives the pages. It is so when an area begins. It stays so with a write
 /// outside of the slots, and with a write of a slot whose page has a durable image. A read or a sync changes nothing
 /// of it. It stays so with a record whose image, if it is its page's first, has the page as at the opening.
 pub fn steps_keep_the_pages<D: Device>()
-    ensures begin { BeginsSafe D.may_leave }
-    ensures elsewhere { ElsewhereKeepsSafe D.may_leave }
-    ensures slot { SlotKeepsSafe D.may_leave }
-    ensures less { LessKeepsSafe D.may_leave }
-    ensures append { AppendKeepsSafe D.may_leave }
+    ensures begin { BeginsSafe D.Device }
+    ensures elsewhere { ElsewhereKeepsSafe D.Device }
+    ensures slot { SlotKeepsSafe D.Device }
+    ensures less { LessKeepsSafe D.Device }
+    ensures append { AppendKeepsSafe D.Device }
 {}
 
 /// Laws of a change whose record carries the image that the pool asks for, and of a flush step. They keep it so that
 /// a crash gives the pages, by what the pool knows of the log.
 pub fn the_pool_keeps_the_pages<D: Device>()
-    ensures change { ChangeKeepsSafe D.seen D.may_leave }
-    ensures flush { FlushKeepsSafe D.seen D.may_leave }
+    ensures change { ChangeKeepsSafe D.Device }
+    ensures flush { FlushKeepsSafe D.Device }
 {}
 
 /// A law: what follows of a step of a flush, in the words of those who ask for one fact. If a page is written, all its

@@ -6,12 +6,11 @@ ghost use Rattle.mt_frame.specs.declared.records.Record.{Record};
 ghost use Rattle.mt_log.specs.Masters.{IsRuling};
 ghost use Rattle.mt_log.specs.Sound.{IsSound};
 ghost use Rattle.mt_log.specs.Words.{durable, in_flight, waiting, area_start, IsOn};
-ghost use Rattle.mt_pool.specs.Begun.{store_frames};
 ghost use Rattle.mt_pool.specs.Images.{IsSafe};
-ghost use Rattle.mt_pool.specs.Kept.{IsKept, Names, carried};
+ghost use Rattle.mt_pool.specs.Kept.{IsKept, Names, carried, store_frames};
 ghost use Rattle.mt_pool.specs.Turns.{IsImageOnly};
-ghost use Rattle.mt_pool.specs.Views.{IsPool, Shows, view, waits_for, frames, pages as pages_of};
-ghost use Rattle.mt_pool.specs.Moves.{NotesImages};
+ghost use Rattle.mt_pool.specs.Views.{IsPool, Shows, view, waits_for, pages as pages_of};
+ghost use Rattle.mt_pool.specs.Moves.{IsStoreOver, NotesImages};
 
 use crate::{Pool, Store};
 use mt_base::LogPos;
@@ -46,7 +45,7 @@ impl<D: Device> Store<D> {
         ruling: MasterSlot,
         images: &[Record],
     ) -> Store<D>
-        requires on { IsOn D.seen D.may_leave log device }
+        requires on { IsOn D.Device log device }
         requires sound { IsSound (pages_of pool) log }
         requires durable { (durable log ≡ images.now) × (in_flight log ≡ []) × (waiting log ≡ []) }
         requires images { AllByRecursion (IsImageOnly (pages_of pool)) images.now }
@@ -58,14 +57,8 @@ impl<D: Device> Store<D> {
         ensures kept { (opening : ℕ → List ℕ)
             → IsSafe pool.place (pages_of pool) opening (carried images.now) (length images.now) (D.may_leave device)
             → ((q : ℕ) → q < pages_of pool → view pool (D.seen device) q ≡ opening q)
-            → IsKept D.seen D.may_leave opening result }
-        ensures views { (q : ℕ) → view result.pool (D.seen result.device) q ≡ view pool (D.seen device) q }
-        ensures pages { pages_of result.pool ≡ pages_of pool }
-        ensures frames { store_frames result ≡ frames pool }
-        ensures place { result.pool.place ≡ pool.place }
-        ensures log { result.log ≡ log }
-        ensures ruling { result.ruling ≡ ruling }
-        ensures device { result.device ≡ device }
+            → IsKept D.Device opening result }
+        ensures over { IsStoreOver device log pool ruling result }
     {
         let mut pool = pool;
         note_images(&mut pool, images);

@@ -2,10 +2,11 @@
 ghost use Rattle.std.specs.Prelude.{◌≡◌, ◌≤◌, ◌<◌, ◌+◌, ℕ, List, length, All};
 ghost use Rattle.std.specs.List.{AllByRecursion};
 ghost use Rattle.mt_base.specs.declared.limits.TheConstants.{BATCH_HEAD_BYTES, LARGEST_PAGE_RECORD, PAGE_BYTES};
+ghost use Rattle.mt_base.specs.Edits.{patched};
 ghost use Rattle.mt_frame.specs.Grammar.{IsRecord};
 ghost use Rattle.mt_frame.specs.PageRecords.{lent_image, range_record, represented};
 ghost use Rattle.mt_log.specs.Words.{used, area_size};
-ghost use Rattle.mt_pool.specs.Writes.{AppendsAll, lent_records, records_size};
+ghost use Rattle.mt_pool.specs.Writes.{AppendsAll, IsAsLeft, lent_records, records_size};
 
 use crate::Pool;
 use mt_base::limits::LARGEST_PAGE_RECORD;
@@ -13,10 +14,10 @@ use mt_base::ranges::part_of;
 use mt_base::{Edit, LogPos, OpNo, PageNo, Refusal, TxnNo};
 use mt_frame::PageRecord;
 use mt_log::Log;
-use mt_space::{PageChange, patch};
+use mt_space::PageChange;
 
 /// What is logged of a change of a page: whose it is, the image that its first record carries, and the page's bytes
-/// before it and after it.
+/// before it. Those after it are in its edits.
 #[derive(Clone, Copy)]
 pub(crate) struct Change<'a> {
     pub(crate) txn: TxnNo,
@@ -24,37 +25,34 @@ pub(crate) struct Change<'a> {
     pub(crate) page: PageNo,
     pub(crate) image: Option<&'a [u8]>,
     pub(crate) old: &'a [u8; 4096],
-    pub(crate) new: &'a [u8; 4096],
 }
 
 impl<'a> Change<'a> {
-    /// The record of an edit's range, with this image.
-    fn record_of(&self, image: Option<&'a [u8]>, edit: &Edit) -> PageRecord<'a>
+    /// The record of an edit's range, with this image. The edit's bytes are those of the page once the change is made.
+    fn record_of(&self, image: Option<&'a [u8]>, edit: &'a Edit) -> PageRecord<'a>
         requires { edit.now.start + length edit.now.bytes ≤ PAGE_BYTES }
-        ensures { represented result ≡ range_record self.now.txn self.now.op self.now.page (lent_image image.entry)
-            self.now.old.now self.now.new.now edit.now }
+        ensures { (new : List ℕ) → IsAsLeft new edit.now → represented result ≡ range_record self.now.txn self.now.op
+            self.now.page (lent_image image.entry) self.now.old.now new edit.now }
     {
-        let start = usize::from(edit.start);
-        let bytes = edit.bytes.len();
         let old = self.old;
-        let new = self.new;
         PageRecord {
             txn: self.txn,
             op: self.op,
             page: self.page,
             image,
             start: edit.start,
-            old: part_of(old, start, bytes),
-            new: part_of(new, start, bytes),
+            old: part_of(old, usize::from(edit.start), edit.bytes.len()),
+            new: edit.bytes.as_slice(),
         }
     }
 }
 
 /// Appends a record for each edit in order, the first one with the image: all of them or none. Answers the place of the
 /// last one. The only refusal is [`Refusal::NoMemory`].
-fn append_all(log: &mut Log, change: &Change<'_>, edits: &[Edit]) -> Result<LogPos, Refusal>
+fn append_all<'a>(log: &mut Log, change: &Change<'a>, edits: &'a [Edit]) -> Result<LogPos, Refusal>
     requires some { 0 < length edits.now }
     requires within { All (λ e. e.start + length e.bytes ≤ PAGE_BYTES) edits.now }
+    requires left { All (IsAsLeft (patched edits.now change.now.old.now)) edits.now }
     requires grammar { AllByRecursion IsRecord (lent_records change.now edits.now) }
     requires fits { used log.old + records_size (lent_records change.now edits.now) < area_size log.old }
     requires short { records_size (lent_records change.now edits.now) ≤ BATCH_HEAD_BYTES + LARGEST_PAGE_RECORD }
@@ -72,6 +70,7 @@ fn append_all(log: &mut Log, change: &Change<'_>, edits: &[Edit]) -> Result<LogP
 }
 
 impl Pool {
+    ghost use Rattle.mt_space.specs.Changes.{IsShort};
     ghost use Rattle.mt_pool.specs.Views.{IsPool, IsThere, view, pages};
     ghost use Rattle.mt_pool.specs.Writes.{due_image, due_records, IsEdited};
 
@@ -89,7 +88,8 @@ impl Pool {
     }
 
     /// Appends what is to be logged of a change of a page in a frame, as [`append_all`] does. The first record has the
-    /// page's image if the area has none yet. The page is copied once, to know its bytes after the change.
+    /// page's image if the area has none yet. Each record's old bytes are lent from the frame, and its new ones from the
+    /// edit.
     pub(crate) fn append_change(
         &self,
         log: &mut Log,
@@ -100,8 +100,7 @@ impl Pool {
         requires pool { IsPool self.now }
         requires there { IsThere self.now change.now.page }
         requires inside { change.now.page < pages self.now }
-        requires some { 0 < length change.now.edits.items }
-        requires within { All (λ e. e.start + length e.bytes ≤ PAGE_BYTES) change.now.edits.items }
+        requires edits { (seen : List ℕ) → IsShort (view self.now seen change.now.page) change.now }
         requires grammar { (seen : List ℕ) → AllByRecursion IsRecord
             (due_records self.now txn op change.now (view self.now seen change.now.page)) }
         requires fits { (seen : List ℕ) → used log.old + records_size
@@ -113,15 +112,12 @@ impl Pool {
     {
         let page = change.page;
         let old = self.view(page);
-        let mut new = *old;
-        patch(&mut new, &change.edits);
         let logged = Change {
             txn,
             op,
             page,
             image: self.due_image(page),
             old,
-            new: &new,
         };
         append_all(log, &logged, &change.edits)
     }

@@ -30,7 +30,7 @@ pub(crate) fn write_slot<D: Device>(
 ) -> Result<(), DeviceFault>
     requires fits { place + PAGE_BYTES * page < 2 ^ 64 }
     requires inside { place + PAGE_BYTES * page + PAGE_BYTES ≤ length (D.seen device.old) }
-    ensures { WritesSlot D.seen D.may_leave D.moment D.left_since D.faults
+    ensures { WritesSlot D.Device
         place page bytes.now device.old device.new result }
 {
     device.write_at(slot_at(place, page), bytes)
@@ -45,7 +45,7 @@ pub fn read_slot<D: Device>(
 ) -> Result<(), DeviceFault>
     requires fits { place + PAGE_BYTES * page < 2 ^ 64 }
     requires inside { place + PAGE_BYTES * page + PAGE_BYTES ≤ length (D.seen device.old) }
-    ensures { ReadsSlot D.seen D.may_leave D.moment D.left_since D.faults
+    ensures { ReadsSlot D.Device
         place page bytes.new device.old device.new result }
 {
     device.read(slot_at(place, page), bytes)

@@ -1,18 +1,17 @@
 // A device, the log of its area and the pool of its pages, each of which keeps to the others' rules.
-ghost use Rattle.std.specs.Prelude.{◌≡◌, ◌≢◌, ◌⊎◌, ◌<◌, ◌≤◌, ◌+◌, ◌-◌, ◌*◌, ◌++◌, ◌∷◌, [], ℕ, List, length, take, drop, set, get_or, None, false, true, IsOk, IsErr, OnOk, OnErr, IfOk, IfErr, Ok};
+ghost use Rattle.std.specs.Prelude.{◌≡◌, ◌≢◌, ◌⊎◌, ◌<◌, ◌≤◌, ◌+◌, ◌++◌, [], ℕ, List, length, take, drop, false, true, OnOk, OnErr, IfOk, IfErr, Ok};
 ghost use Rattle.mt_base.specs.declared.limits.TheConstants.{MASTER_BYTES, PAGE_BYTES};
-ghost use Rattle.mt_base.specs.Edits.{patched, log_size};
+ghost use Rattle.mt_base.specs.Edits.{log_size};
 ghost use Rattle.mt_base.specs.declared.refusal.Refusal.{Refusal};
 ghost use Rattle.mt_disk.specs.Disk.{Torn, LeavesOnly, HasCause};
 ghost use Rattle.mt_log.specs.Area.{TornFrom};
 ghost use Rattle.mt_log.specs.Masters.{IsRuling, area_size as size_of, area_start as start_of};
-ghost use Rattle.mt_pool.specs.Begun.{MakesParts, device_after};
 ghost use Rattle.mt_frame.specs.Grammar.{IsRecord, IsOfPage, IsTxn, IsOp};
-ghost use Rattle.mt_frame.specs.History.{may_stand};
+ghost use Rattle.mt_area_rules.specs.History.{may_stand};
 ghost use Rattle.mt_frame.specs.Lengths.{record_length};
 ghost use Rattle.mt_disk.specs.Calls.{MakesOneCall};
 ghost use Rattle.mt_log.specs.Forcing.{ReportsFault};
-ghost use Rattle.mt_log.specs.Seen.{with_record, with_records};
+ghost use Rattle.mt_log.specs.Seen.{with_record};
 ghost use Rattle.mt_log.specs.Steps.{ForceSteps};
 ghost use Rattle.mt_log.specs.Words.{seen_of, durable, appended, used, area_size};
 ghost use Rattle.mt_pool.specs.FlushSteps.{FlushSteps};
@@ -23,7 +22,7 @@ use mt_base::limits::MASTER_BYTES;
 use mt_base::{LogPos, OpNo, PageNo, Refusal, TxnNo};
 use mt_disk::{Device, DeviceFault};
 use mt_frame::{MasterSlot, Record};
-use mt_log::{AreaPlace, Forced, Log, begin_area};
+use mt_log::{Forced, Log};
 use mt_space::PageChange;
 use std::alloc::Global;
 
@@ -43,93 +42,13 @@ pub struct Store<D: Device> {
     pub settled: LogPos,
 }
 
-/// A store that could not begin: why not, and the device that it was to have.
-#[derive(Drop)]
-pub struct NotBegun<D: Device> {
-    pub refusal: Refusal,
-    pub device: D,
-}
-
-/// The device is dropped.
-impl<D: Device + Drop> From<NotBegun<D>> for Refusal {
-    ghost from_gives = { λ gone refusal. refusal ≡ gone.refusal };
-
-    fn from(gone: NotBegun<D>) -> Refusal {
-        let NotBegun { refusal, .. } = gone;
-        refusal
-    }
-}
-
-impl<D: Device> Store<D> {
-    ghost use Rattle.mt_pool.specs.Kept.{IsKept};
-    ghost use Rattle.mt_pool.specs.Views.{view, pages as pages_of, frames as frames_of};
-
-    /// A store over a device that this master slot rules, with so many pages in frames. What is on the device is
-    /// synced, and then the log's area begins anew without images. So the pages as they are now are those to be had
-    /// after a crash. Refusals are [`Refusal::NoMemory`] and, if the device failed in this call,
-    /// [`Refusal::DeviceFailed`]; each hands the device back. No byte outside of the area is touched in any case.
-    pub fn begin(
-        alloc: Global,
-        device: D,
-        frames: usize,
-        ruling: MasterSlot,
-    ) -> Result<Store<D>, NotBegun<D>>
-        requires rules { IsRuling (D.seen device) ruling }
-        ensures kept { IfOk result (λ store. IsKept D.seen D.may_leave (slot MASTER_BYTES (D.seen device)) store) }
-        ensures views { IfOk result (λ store. (q : ℕ) → q < ruling.pages
-            → view store.pool (D.seen store.device) q ≡ slot MASTER_BYTES (D.seen device) q) }
-        ensures appended { IfOk result (λ store. appended store.log ≡ []) }
-        ensures used { IfOk result (λ store. used store.log ≡ 5) }
-        ensures area { IfOk result (λ store. area_size store.log ≡ size_of ruling) }
-        ensures pages { IfOk result (λ store. pages_of store.pool ≡ ruling.pages) }
-        ensures frames { IfOk result (λ store. frames_of store.pool ≡ frames) }
-        ensures cause { IfErr result (λ gone. (gone.refusal ≡ Refusal.NoMemory)
-            ⊎ (gone.refusal ≡ Refusal.DeviceFailed) × (D.faults device < D.faults gone.device)) }
-        // If memory was wanting no byte has changed.
-        ensures memory { IfErr result (λ gone. gone.refusal ≡ Refusal.NoMemory → D.seen gone.device ≡ D.seen device) }
-        // Whenever a crash comes in this call, it leaves what it might have left before, but for the area.
-        ensures moments { LeavesOnly D.moment D.left_since device (device_after result)
-            (TornFrom (D.may_leave device) (start_of ruling) (size_of ruling)) }
-        ensures rest { Torn (start_of ruling) (size_of ruling) (D.seen device) (D.seen (device_after result)) }
-    {
-        let mut device = device;
-        match parts(alloc, &mut device, frames, &ruling) {
-            Ok((log, pool)) => Ok(Store {
-                device,
-                log,
-                pool,
-                ruling,
-                settled: LogPos::new(0),
-            }),
-            Err(refusal) => Err(NotBegun { refusal, device }),
-        }
-    }
-}
-
-// The log and the pool that a store begins with.
-fn parts<D: Device>(
-    alloc: Global,
-    device: &mut D,
-    frames: usize,
-    ruling: &MasterSlot,
-) -> Result<(Log, Pool), Refusal>
-    requires { IsRuling (D.seen device.old) ruling.now }
-    ensures { MakesParts D.seen D.may_leave D.moment D.left_since D.faults
-        ruling.now frames device.old device.new result }
-{
-    let area = AreaPlace::named_by(ruling);
-    let pool = Pool::new(alloc, frames, ruling.pages, MASTER_BYTES)?;
-    device.sync()?;
-    let log = begin_area(alloc, device, area)?;
-    Ok((log, pool))
-}
-
 impl<D: Device> Store<D> {
     ghost use Rattle.mt_space.specs.Changes.{IsShort};
     ghost use Rattle.mt_pool.specs.Kept.{IsOpen, Keeps};
-    ghost use Rattle.mt_frame.specs.PageRecords.{change_records, redone};
-    ghost use Rattle.mt_pool.specs.Writes.{due_image, IsUnfinished};
-    ghost use Rattle.mt_pool.specs.Views.{IsThere, IsFull, view, pages, waits_for};
+    ghost use Rattle.mt_pool.specs.FetchSteps.{FetchSteps, OnlyMoves};
+    ghost use Rattle.mt_pool.specs.Writes.{IsUnfinished};
+    ghost use Rattle.mt_pool.specs.WriteSteps.{WriteSteps};
+    ghost use Rattle.mt_pool.specs.Views.{AreClean, IsThere, SamePlaces, view, pages, waits_for};
     ghost use Rattle.mt_pool.specs.declared.fetches.Fetched.TheVariants as fetched;
     ghost use Rattle.mt_pool.specs.declared.flushes.Flushed.TheVariants as flushed;
 
@@ -167,7 +86,7 @@ impl<D: Device> Store<D> {
             (D.seen self.old.device) q }
         ensures log { self.new.log ≡ self.old.log }
         ensures steps { FlushSteps (length (durable self.old.log)) self.old.pool self.new.pool result }
-        ensures exact { ((f : ℕ) → get_or self.old.pool.dirty.items f false ≡ false) → result ≡ Ok flushed.Clean }
+        ensures exact { AreClean self.old.pool → result ≡ Ok flushed.Clean }
         // No call, and a force has something to do then.
         ensures forced { result ≡ Ok flushed.Force → (self.new ≡ self.old)
             × (length (durable self.old.log) < length (appended self.old.log)) }
@@ -185,17 +104,10 @@ impl<D: Device> Store<D> {
         ensures once { MakesOneCall D.Device self.old.device self.new.device }
         ensures views { (q : ℕ) → view self.new.pool (D.seen self.new.device) q ≡ view self.old.pool
             (D.seen self.old.device) q }
-        ensures there { result ≡ Ok fetched.There → IsThere self.new.pool page }
-        ensures full { result ≡ Ok fetched.Flush → IsFull self.old.pool }
-        ensures missing { result ≡ Ok fetched.Flush → get_or self.old.pool.of_page.items page None ≡ None }
+        ensures steps { FetchSteps page self.old.pool self.new.pool result }
+        ensures moves { OnlyMoves self.old.pool self.new.pool }
         ensures nothing { result ≡ Ok fetched.Flush → self.new ≡ self.old }
-        ensures exact { IsFull self.old.pool → get_or self.old.pool.of_page.items page None ≡ None
-            → result ≡ Ok fetched.Flush }
         ensures log { self.new.log ≡ self.old.log }
-        ensures place { self.new.pool.place ≡ self.old.pool.place }
-        ensures pages { pages self.new.pool ≡ pages self.old.pool }
-        ensures flush { self.new.pool.dirty ≡ self.old.pool.dirty }
-        ensures waits { self.new.pool.waits ≡ self.old.pool.waits }
         ensures cause { HasCause (D.faults self.old.device) (D.faults self.new.device) result }
     {
         self.pool.fetch(&mut self.device, page)
@@ -269,32 +181,15 @@ impl<D: Device> Store<D> {
         requires unfinished { IsUnfinished txn op (appended self.old.log) }
         requires fits { used self.old.log + log_size change.now.edits.items + PAGE_BYTES < area_size self.old.log }
         ensures keeps { Keeps D.Device self.old self.new self.old.device self.new.device }
-        ensures view { OnOk result ((seen : List ℕ)
-            → view self.new.pool seen change.now.page ≡ patched change.now.edits.items
-            (view self.old.pool seen change.now.page)) }
         ensures others { (seen : List ℕ) (q : ℕ) → q ≢ change.now.page
             → view self.new.pool seen q ≡ view self.old.pool seen q }
-        ensures log { OnOk result (let page = view self.old.pool
-            (D.seen self.old.device) change.now.page in seen_of self.new.log ≡ with_records (seen_of self.old.log)
-            (change_records txn op change.now.page (due_image self.old.pool change.now.page page) page
-            (patched change.now.edits.items page) change.now.edits.items)) }
-        // These records, made again over a page as it was, give it as it is.
-        ensures redone { OnOk result ((seen : List ℕ) (q : ℕ) → let page = view self.old.pool seen change.now.page in
-            view self.new.pool seen q ≡ redone q (change_records txn op change.now.page
-            (due_image self.old.pool change.now.page page) page
-            (patched change.now.edits.items page) change.now.edits.items) (view self.old.pool seen q)) }
-        ensures waits { OnOk result (self.new.pool.waits.items ≡ set self.old.pool.waits.items change.now.page
-            (length (appended self.new.log))) }
+        ensures steps { WriteSteps (D.seen self.old.device) txn op change.now self.old.pool self.new.pool
+            self.old.log self.new.log result }
         // These records end neither a transaction nor an operation.
         ensures ends_none { (t o : ℕ) → IsUnfinished t o (appended self.old.log)
             → IsUnfinished t o (appended self.new.log) }
-        ensures used { OnOk result (used self.new.log
-            ≤ used self.old.log + log_size change.now.edits.items + PAGE_BYTES) }
-        ensures err_log { OnErr result (seen_of self.new.log ≡ seen_of self.old.log) }
-        ensures err_pool { OnErr result (self.new.pool ≡ self.old.pool) }
-        ensures there { self.new.pool.of_page ≡ self.old.pool.of_page }
+        ensures there { SamePlaces self.old.pool self.new.pool }
         ensures device { self.new.device ≡ self.old.device }
-        ensures only_memory { IfErr result (λ why. why ≡ Refusal.NoMemory) }
     {
         let place = self.pool.append_change(&mut self.log, txn, op, change)?;
         self.pool.change_all(change.page, &change.edits, place);

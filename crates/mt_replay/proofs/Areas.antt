@@ -19,7 +19,7 @@ use Rattle.mt_model.specs.Model.{Base, base_after}
 use Rattle.mt_model.specs.History.{run}
 use Rattle.mt_space.specs.Changes.{PageBytes}
 use Rattle.mt_steps.specs.Plans.{IsGood}
-use Rattle.mt_replay.specs.Checks.{AreBroken}
+use Rattle.mt_page_rules.specs.Checks.{AreBroken}
 use Rattle.mt_replay.specs.Laws.{EachInverseFinds, OnlyOwnPagesMatter, RestartFindsBase}
 use Rattle.mt_replay.specs.Losers.{all_finished, AreOfGrammar, finished_of, HasEnded, HasUndone, StopsAt}
 use Rattle.mt_log.specs.Masters.{area_size}

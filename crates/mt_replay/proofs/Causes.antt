@@ -14,7 +14,7 @@ use Rattle.mt_pool.specs.Images.{GivesPages}
 use Rattle.mt_pool.specs.Kept.{carried}
 use Rattle.mt_space.specs.Changes.{PageBytes}
 use Rattle.mt_steps.specs.Plans.{IsGood}
-use Rattle.mt_replay.specs.Checks.{AreChecked}
+use Rattle.mt_page_rules.specs.Checks.{AreChecked}
 use Rattle.mt_replay.specs.Laws.{OnlyOwnPagesMatter}
 use Rattle.mt_replay.specs.Losers.{all_finished, HasEnded, HasUndone, StopsAt}
 use Rattle.mt_log.specs.Masters.{IsRuling, area_end, area_start}

@@ -1,9 +1,8 @@
 -- The first images of a list of records, laid over pages from the last record on.
 use Rattle.std.proofs.Common.{◌≡◌, ◌+◌, ◌<◌, ℕ, cond, ◌==◌, List, [], ◌∷◌, ◌++◌, length, get_or, drop, None, Some, refl, sym, ap, ◌∙◌, arith}
-use Rattle.std.specs.Prelude.{Result, Ok, Err, OnOk}
 use Rattle.std.proofs.lemmas.List.{map-append, drop_more}
 use Rattle.mt_frame.specs.declared.records.Record.{Record}
-use Rattle.mt_replay.specs.Memory.{AreWhole}
+use Rattle.mt_page_rules.specs.Whole.{AreWhole}
 use Rattle.mt_replay.specs.Passes.{Lays}
 use Rattle.mt_pool.specs.Images.{Carried, page_in}
 use Rattle.mt_pool.specs.Kept.{carried, carried_of}
@@ -15,10 +14,6 @@ in_append (Some i ∷ xs) ys q d = ap (cond (i.0 == q) i.1) (in_append xs ys q d
 
 pub carried_append : (xs ys : List Record) (q : ℕ) (d : List ℕ) → page_in (carried (xs ++ ys)) q d ≡ page_in (carried xs) q (page_in (carried ys) q d)
 carried_append xs ys q d = ap (λ (es : List Carried). page_in es q d) (map-append carried_of xs ys) ∙ in_append (carried xs) (carried ys) q d
-
-pub on_ok : {T E A B : Type 0} (r : Result T E) → (A → B) → OnOk r A → OnOk r B
-on_ok (Ok x) f a = f a
-on_ok (Err e) f a = tt
 
 -- ---- images laid one behind another
 

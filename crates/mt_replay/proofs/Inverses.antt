@@ -25,6 +25,7 @@ use Rattle.mt_steps.specs.Counters.{AreCounters}
 use Rattle.mt_steps.specs.Overlays.{AreAtHand}
 use Rattle.mt_steps.specs.declared.counters.SchemaSizes.{SchemaSizes}
 use Rattle.mt_steps.specs.Plans.{IsGood, HasPages, InPages, IsPlanned, IsTight, TakesPages, free_pages, own_needs, record_bytes}
+use Rattle.mt_page_rules.proofs.Checked.{at_any}
 use Rattle.mt_replay.proofs.Making.{first_agrees, inside_all, same_but_both}
 use Rattle.std.specs.Prelude.{slice_get}
 use Rattle.mt_replay.specs.Losers.{HasUndone}
@@ -35,11 +36,6 @@ use Rattle.mt_replay.specs.Recorded.{op_of, reply_in, undo_of, reply_back}
 use Rattle.mt_replay.specs.Undoing.{IsRoom, IsUndoing, Misses, Undoes, UndoesOne}
 
 -- ---- good pages in memory
-
-pub at_any : {A : Type 0} (xs : List A) (i : ℕ) (d e : A) → i < length xs → get_or xs i d ≡ get_or xs i e
-at_any [] i d e lt = absurd (omega arith)
-at_any (x ∷ xs) zero d e lt = refl
-at_any (x ∷ xs) (suc i) d e lt = at_any xs i d e (omega arith)
 
 -- what is read of a page in memory is its bytes
 pub read_is : (items : List (List ℕ)) (f : PageBytes) (p : ℕ) (page : List ℕ) → AreFirst items f → p < length items → page ≡ get_or items p page → page ≡ f p

@@ -1,13 +1,16 @@
 -- What records leave unfinished, put back from the last record on.
-use Rattle.std.proofs.Common.{◌≡◌, ℕ, zero, suc, ◌+◌, ◌<◌, Bool, true, false, not, cond, ◌==◌, ◌&&◌, ◌||◌, List, [], ◌∷◌, ◌++◌, length, get_or, set, drop, Option, None, Some, is_some, Vec, Global, refl, sym, ap, ◌∙◌, subst, arith, append_assoc}
-use Rattle.std.specs.BTreeMap.{BTreeMap, get, UpdatesBy}
-use Rattle.std.specs.Ordering.{nat_cmp}
+use Rattle.std.proofs.Common.{◌≡◌, ℕ, zero, suc, ◌+◌, ◌<◌, Bool, true, false, not, cond, ◌==◌, ◌&&◌, ◌||◌, List, [], ◌∷◌, ◌++◌, length, get_or, set, drop, Option, None, Some, is_some, Vec, Global, map, refl, sym, ap, ◌∙◌, subst, arith, append_assoc}
+use Rattle.std.specs.BTreeMap.{get, is_at}
+use Rattle.std.specs.BTreeSet.{BTreeSet, contains, UpdatesBy}
+use Rattle.std.specs.Map.{keys_of, lookup}
+use Rattle.std.specs.Ordering.{eq_by_cmp, nat_cmp}
+use Rattle.std.specs.Set.{is_member}
 use Rattle.std.proofs.lemmas.Bool.{eq-eqb}
 use Rattle.std.proofs.lemmas.List.{append-nil}
 use Rattle.std.proofs.lemmas.List.Elements.{filter-append}
 use Rattle.mt_base.specs.Edits.{splice}
-use Rattle.mt_frame.specs.History.{some_record}
-use Rattle.mt_frame.proofs.RuleLaws.{is_at_number}
+use Rattle.mt_area_rules.specs.History.{some_record}
+use Rattle.mt_area_rules.proofs.RuleLaws.{is_at_number}
 use Rattle.mt_frame.specs.declared.records.Record.{Record}
 use Rattle.mt_frame.specs.declared.records.Record.TheVariants.{Page, OpEnd, OpDropped, Commit, AbortEnd}
 use Rattle.mt_log.specs.Batch.{joined}
@@ -15,8 +18,9 @@ use Rattle.mt_log.specs.Found.{records_of}
 use Rattle.mt_log.specs.declared.batch.Batch.{Batch}
 use Rattle.mt_space.specs.Changes.{PageBytes}
 use Rattle.mt_steps.specs.Repeated.{Change, Repeated, by, held, logged, put_back, repeat, repeated}
-use Rattle.mt_replay.specs.Memory.{AreWhole, AreFirst}
-use Rattle.mt_replay.specs.Passes.{AreKnown, Backs, IsBackTo, IsShown, change_by, changes_in, ends_it, left, stays}
+use Rattle.mt_page_rules.specs.Whole.{AreWhole}
+use Rattle.mt_replay.specs.Memory.{AreFirst}
+use Rattle.mt_replay.specs.Passes.{AreKnown, Backs, IsBackTo, IsShown, before, change_by, replaced_in, ends_it, left, stays}
 use Rattle.mt_replay.specs.declared.repeat.Repeating.{Repeating}
 use Rattle.mt_replay.specs.declared.repeat.TakingBack.{TakingBack}
 use Rattle.mt_replay.specs.declared.repeat.Unfinished.{Unfinished}
@@ -97,14 +101,18 @@ known_all known (c ∷ cs) none = (first (known c.op) refl, known_all known cs (
     rest o true is = absurd (some_items c (by o cs) is)
     rest o false is = is
 
-none_in : (v : Option (Vec Unfinished Global)) → is_some v ≡ false → changes_in v ≡ []
+none_in : (v : Option (Vec Unfinished Global)) → is_some v ≡ false → replaced_in v ≡ []
 none_in None is = refl
 none_in (Some list) is = let no : true ≡ false = is in cc
+
+none_before : (cs : List Change) → map before cs ≡ [] → cs ≡ []
+none_before [] is = refl
+none_before (c ∷ cs) is = absurd (let longer : length (map before (c ∷ cs)) ≡ 0 = ap length is in omega arith)
 
 -- what is in memory is known, and no more
 pub known_shown : (r : Repeating) (f : PageBytes) (rs : List Record) → IsShown r (logged f rs) → AreKnown (λ o. is_some (get nat_cmp r.unfinished o)) (left rs)
 known_shown r f rs shown = known_all (λ o. is_some (get nat_cmp r.unfinished o)) (left rs) (λ o other.
-    sym (ap (by o) (unfinished_is (record { pages = f; unfinished = [] }) rs)) ∙ sym (shown.unfinished o) ∙ none_in (get nat_cmp r.unfinished o) other)
+    sym (ap (by o) (unfinished_is (record { pages = f; unfinished = [] }) rs)) ∙ none_before (by o (logged f rs).unfinished) (sym (shown.unfinished o) ∙ none_in (get nat_cmp r.unfinished o) other))
 
 -- ---- one record before those that were passed
 
@@ -126,12 +134,17 @@ closed true true s = refl
 closed true false s = refl
 closed false k s = refl
 
-some_left : (m n : BTreeMap ℕ (Vec Unfinished Global)) (k : ℕ) → UpdatesBy nat_cmp (nat_cmp k) m n None → (o : ℕ) → is_some (get nat_cmp n o) ≡ cond (k == o) false (is_some (get nat_cmp m o))
-some_left m n k u o = ap is_some (u.0 o ∙ ap (λ (b : Bool). cond b None (get nat_cmp m o)) (is_at_number k o)) ∙ go (k == o) (get nat_cmp m o)
+some_left : (m n : BTreeSet ℕ) (k : ℕ) → UpdatesBy nat_cmp (nat_cmp k) m n false → (o : ℕ) → contains nat_cmp n o ≡ cond (k == o) false (contains nat_cmp m o)
+some_left m n k u o = u.0 o ∙ ap (λ (b : Bool). cond b false (contains nat_cmp m o)) (is_at_number k o)
+
+-- the keys of a map are what is in it
+pub keys_are : (es : List (ℕ × Vec Unfinished Global)) (q : ℕ) → is_member (eq_by_cmp nat_cmp) (keys_of es) q ≡ is_some (lookup (is_at (nat_cmp q)) es)
+keys_are [] q = refl
+keys_are (e ∷ es) q = ap (λ (b : Bool). is_at (nat_cmp q) e.0 || b) (keys_are es q) ∙ go (is_at (nat_cmp q) e.0) e.1 (lookup (is_at (nat_cmp q)) es)
   where
-    go : (b : Bool) (v : Option (Vec Unfinished Global)) → is_some (cond b None v) ≡ cond b false (is_some v)
-    go true v = refl
-    go false v = refl
+    go : (b : Bool) (v : Vec Unfinished Global) (w : Option (Vec Unfinished Global)) → (b || is_some w) ≡ is_some (cond b (Some v) w)
+    go true v w = refl
+    go false v w = refl
 
 pub backs_same : (r : Record) (t : TakingBack) → AreWhole t.pages.items → change_by r ≡ [] → ((o : ℕ) → ends_it o r ≡ false) → Backs (r ∷ []) t t
 backs_same r t whole gone ends = record {
@@ -144,7 +157,7 @@ backs_same r t whole gone ends = record {
 }
 
 pub backs_end : (r : Record) (op : ℕ) (old new : TakingBack) → AreWhole old.pages.items → change_by r ≡ [] → ((o : ℕ) → ends_it o r ≡ (op == o)) → new.pages ≡ old.pages
-    → UpdatesBy nat_cmp (nat_cmp op) old.«open» new.«open» None → Backs (r ∷ []) old new
+    → UpdatesBy nat_cmp (nat_cmp op) old.«open» new.«open» false → Backs (r ∷ []) old new
 backs_end r op old new whole gone ends same u = record {
   whole = subst (λ (pages : _). AreWhole pages.items) (sym same) whole;
   count = λ i. length (same i).items;
@@ -159,7 +172,7 @@ backs_end r op old new whole gone ends same u = record {
 }
 
 -- a change, whose operation ends behind it
-pub backs_over : (r : Record) (c : Change) (t : TakingBack) → AreWhole t.pages.items → change_by r ≡ c ∷ [] → ((o : ℕ) → ends_it o r ≡ false) → is_some (get nat_cmp t.«open» c.op) ≡ false → Backs (r ∷ []) t t
+pub backs_over : (r : Record) (c : Change) (t : TakingBack) → AreWhole t.pages.items → change_by r ≡ c ∷ [] → ((o : ℕ) → ends_it o r ≡ false) → contains nat_cmp t.«open» c.op ≡ false → Backs (r ∷ []) t t
 backs_over r c t whole own ends over = record {
   whole = whole;
   count = refl;
@@ -175,7 +188,7 @@ backs_over r c t whole own ends over = record {
 }
 
 -- another, which is put back
-pub backs_change : (r : Record) (c : Change) (old new : TakingBack) → change_by r ≡ c ∷ [] → ((o : ℕ) → ends_it o r ≡ false) → is_some (get nat_cmp old.«open» c.op) ≡ true
+pub backs_change : (r : Record) (c : Change) (old new : TakingBack) → change_by r ≡ c ∷ [] → ((o : ℕ) → ends_it o r ≡ false) → contains nat_cmp old.«open» c.op ≡ true
     → c.page < length old.pages.items → AreWhole new.pages.items → new.pages.items ≡ set old.pages.items c.page (splice c.start c.old (get_or old.pages.items c.page [])) → length new.pages.items ≡ length old.pages.items
     → new.«open» ≡ old.«open» → Backs (r ∷ []) old new
 backs_change r c old new own ends there inside whole is count same = record {
@@ -187,13 +200,13 @@ backs_change r c old new own ends there inside whole is count same = record {
         pages = subst (λ (cs : List Change). AreFirst new.pages.items (put_back (filter (stays behind) cs ++ left behind) f)) (sym own)
             (subst (λ (b : Bool). AreFirst new.pages.items (put_back (cond b (c ∷ []) [] ++ left behind) f)) (sym stay)
             (subst (λ (items : List (List ℕ)). AreFirst items (put_back (c ∷ left behind) f)) (sym is) (first_placed old.pages.items c.page c.start c.old (put_back (left behind) f) inside h.pages)));
-        open_ones = λ o. (λ i. is_some (get nat_cmp (same i) o)) ∙ h.open_ones o ∙ sym (ap (λ (a : Bool). known o && not (a || some_record (ends_it o) behind)) (ends o));
+        open_ones = λ o. (λ i. contains nat_cmp (same i) o) ∙ h.open_ones o ∙ sym (ap (λ (a : Bool). known o && not (a || some_record (ends_it o) behind)) (ends o));
       };
 }
 
 -- ---- one before the other
 
-pub back_none : (t : TakingBack) (known : ℕ → Bool) (f : PageBytes) → AreFirst t.pages.items f → ((o : ℕ) → is_some (get nat_cmp t.«open» o) ≡ known o) → IsBackTo known t [] f
+pub back_none : (t : TakingBack) (known : ℕ → Bool) (f : PageBytes) → AreFirst t.pages.items f → ((o : ℕ) → contains nat_cmp t.«open» o ≡ known o) → IsBackTo known t [] f
 back_none t known f first all = record { pages = first; open_ones = λ o. all o ∙ and_true (known o) }
 
 pub behind_all : (bs : List Batch) → joined (records_of (drop (length bs) bs)) ≡ []

@@ -9,8 +9,6 @@ pub mod Making
 pub mod Alike
 pub mod Losing
 pub mod Inverses
-pub mod Checked
 pub mod Areas
 pub mod Causes
-pub mod Naming
 pub mod Marks

@@ -8,8 +8,8 @@ use Rattle.std.proofs.lemmas.Bool.{ne_eqb}
 use Rattle.std.proofs.lemmas.List.{append-nil, reverse-append}
 use Rattle.std.proofs.lemmas.List.Elements.{filter-append}
 use Rattle.mt_frame.specs.Grammar.{IsOperation}
-use Rattle.mt_frame.specs.History.{some_record, ends_txn, undoes_op}
-use Rattle.mt_frame.specs.Known.{pair_cmp}
+use Rattle.mt_area_rules.specs.History.{some_record, ends_txn, undoes_op}
+use Rattle.mt_area_rules.specs.Known.{pair_cmp}
 use Rattle.mt_frame.specs.declared.records.LoggedOp.{LoggedOp}
 use Rattle.mt_frame.specs.declared.records.Record.{Record}
 use Rattle.mt_frame.specs.declared.records.Record.TheVariants.{Page, OpEnd, OpDropped, Commit, AbortEnd}

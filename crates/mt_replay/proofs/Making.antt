@@ -13,7 +13,8 @@ use Rattle.mt_base.specs.declared.edits.Edit.{Edit}
 use Rattle.mt_space.specs.Changes.{PageBytes, Agrees, replaced, after, IsShort, AreShort}
 use Rattle.mt_space.specs.declared.changes.PageChange.{PageChange}
 use Rattle.mt_space.proofs.Changing.{replaced_here, replaced_other}
-use Rattle.mt_replay.specs.Memory.{AreWhole, AreFirst, SameBut, Sets, Makes}
+use Rattle.mt_page_rules.specs.Whole.{AreWhole}
+use Rattle.mt_replay.specs.Memory.{AreFirst, SameBut, Sets, Makes}
 
 pub first_agrees : (items : List (List ℕ)) (f : PageBytes) → AreFirst items f → Agrees (λ p. slice_get items p) f
 first_agrees items f first p bytes there = elim (cases_lt p (length items)) [

@@ -8,11 +8,12 @@ use Rattle.std.proofs.lemmas.List.{append-nil, length-set, get_or-set_other, dro
 use Rattle.std.proofs.lemmas.List.Elements.{filter-append}
 use Rattle.std.proofs.lemmas.Grind.{get_or-set_at}
 use Rattle.mt_base.specs.Edits.{splice}
-use Rattle.mt_frame.proofs.RuleLaws.{is_at_number}
+use Rattle.mt_area_rules.proofs.RuleLaws.{is_at_number}
 use Rattle.mt_space.specs.Changes.{PageBytes}
-use Rattle.mt_steps.specs.Repeated.{Change, put_back, by, but, made, changed, finished, dropped, Repeated}
-use Rattle.mt_replay.specs.Memory.{AreFirst, AreWhole}
-use Rattle.mt_replay.specs.Passes.{change_of, changes_in, changes_at, AllFit, Fits, IsShown, IsWhole, Notes, PutsBack, Repeats, Takes}
+use Rattle.mt_steps.specs.Repeated.{Change, put_back, by, but, made, changed, finished, dropped, unmade, Repeated}
+use Rattle.mt_page_rules.specs.Whole.{AreWhole}
+use Rattle.mt_replay.specs.Memory.{AreFirst}
+use Rattle.mt_replay.specs.Passes.{Before, before, before_of, change_of, replaced_in, replaced_at, with_before, AllFit, Fits, IsShown, IsWhole, Notes, PutsBack, Repeats, Takes}
 use Rattle.mt_replay.specs.declared.repeat.Repeating.{Repeating}
 use Rattle.mt_replay.specs.declared.repeat.Unfinished.{Unfinished}
 use Rattle.mt_replay.proofs.Walking.{filter_alike, filter_both, filter_none}
@@ -45,18 +46,27 @@ fits_push : (n : ℕ) (us : List Unfinished) (u : Unfinished) → AllByRecursion
 fits_push n [] u all one = (one, tt)
 fits_push n (v ∷ vs) u all one = (all.0, fits_push n vs u all.1 one)
 
-pub back_more : (us : List Unfinished) (i : ℕ) (u : Unfinished) (f : PageBytes) → i < length us → u ≡ get_or us i u → put_back (map change_of (drop i us)) f ≡ placed u.page u.start u.old (put_back (map change_of (drop (i + 1) us)) f)
-back_more us i u f lt is = ap (λ (vs : List Unfinished). put_back (map change_of vs) f) (drop_more us i u lt ∙ ap (λ (v : Unfinished). v ∷ drop (i + 1) us) (sym is))
+pub back_more : (us : List Unfinished) (i : ℕ) (u : Unfinished) (f : PageBytes) → i < length us → u ≡ get_or us i u → with_before (map before_of (drop i us)) f ≡ placed u.page u.start u.old.now (with_before (map before_of (drop (i + 1) us)) f)
+back_more us i u f lt is = ap (λ (vs : List Unfinished). with_before (map before_of vs) f) (drop_more us i u lt ∙ ap (λ (v : Unfinished). v ∷ drop (i + 1) us) (sym is))
+
+-- changes are put back if the bytes are as they were before them
+restored_is : (cs : List Change) (f : PageBytes) → with_before (map before cs) f ≡ put_back cs f
+restored_is [] f = refl
+restored_is (c ∷ cs) f = ap (unmade c) (restored_is cs f)
+
+before_cond : (b : Bool) (cs ds : List Change) → map before (cond b cs ds) ≡ cond b (map before cs) (map before ds)
+before_cond true cs ds = refl
+before_cond false cs ds = refl
 
 -- ---- the changes of an operation
 
 abbrev Lists : Type 0
 Lists = BTreeMap ℕ (Vec Unfinished Global)
 
-pub taken_left : (m n : Lists) (k : ℕ) → UpdatesBy nat_cmp (nat_cmp k) m n None → (o : ℕ) → changes_in (get nat_cmp n o) ≡ cond (k == o) [] (changes_in (get nat_cmp m o))
-taken_left m n k u o = ap changes_in (u.0 o ∙ ap (λ (b : Bool). cond b None (get nat_cmp m o)) (is_at_number k o)) ∙ go (k == o) (get nat_cmp m o)
+pub taken_left : (m n : Lists) (k : ℕ) → UpdatesBy nat_cmp (nat_cmp k) m n None → (o : ℕ) → replaced_in (get nat_cmp n o) ≡ cond (k == o) [] (replaced_in (get nat_cmp m o))
+taken_left m n k u o = ap replaced_in (u.0 o ∙ ap (λ (b : Bool). cond b None (get nat_cmp m o)) (is_at_number k o)) ∙ go (k == o) (get nat_cmp m o)
   where
-    go : (b : Bool) (v : Option (Vec Unfinished Global)) → changes_in (cond b None v) ≡ cond b [] (changes_in v)
+    go : (b : Bool) (v : Option (Vec Unfinished Global)) → replaced_in (cond b None v) ≡ cond b [] (replaced_in v)
     go true v = refl
     go false v = refl
 
@@ -74,18 +84,18 @@ put_fits total m n k list u one all o = subst (AllFit total) (sym (u.0 o)) (go (
     go true v fits = one
     go false v fits = fits
 
-pub put_list : (m n : Lists) (k : ℕ) (list : Vec Unfinished Global) → Updates nat_cmp m n k (Some list) → (o : ℕ) → changes_in (get nat_cmp n o) ≡ cond (k == o) (map change_of list.items) (changes_in (get nat_cmp m o))
-put_list m n k list u o = ap changes_in (u.0 o ∙ ap (λ (b : Bool). cond b (Some list) (get nat_cmp m o)) (is_at_number k o)) ∙ go (k == o) (get nat_cmp m o)
+pub put_list : (m n : Lists) (k : ℕ) (list : Vec Unfinished Global) → Updates nat_cmp m n k (Some list) → (o : ℕ) → replaced_in (get nat_cmp n o) ≡ cond (k == o) (map before_of list.items) (replaced_in (get nat_cmp m o))
+put_list m n k list u o = ap replaced_in (u.0 o ∙ ap (λ (b : Bool). cond b (Some list) (get nat_cmp m o)) (is_at_number k o)) ∙ go (k == o) (get nat_cmp m o)
   where
-    go : (b : Bool) (v : Option (Vec Unfinished Global)) → changes_in (cond b (Some list) v) ≡ cond b (map change_of list.items) (changes_in v)
+    go : (b : Bool) (v : Option (Vec Unfinished Global)) → replaced_in (cond b (Some list) v) ≡ cond b (map before_of list.items) (replaced_in v)
     go true v = refl
     go false v = refl
 
 -- the changes of an operation were taken, one was put behind them, and all were put in again
-pub notes_one : (old mid new : Repeating) (u : Unfinished) (front : List Unfinished) (list : Vec Unfinished Global)
-    → Takes u.op front old mid → Fits (length old.pages.items) u → list.items ≡ front ++ u ∷ [] → new.pages ≡ mid.pages
-    → Updates nat_cmp mid.unfinished new.unfinished u.op (Some list) → Notes u old new
-notes_one old mid new u front list t fits is same put =
+pub notes_one : (old mid new : Repeating) (op : ℕ) (u : Unfinished) (front : List Unfinished) (list : Vec Unfinished Global)
+    → Takes op front old mid → Fits (length old.pages.items) u → list.items ≡ front ++ u ∷ [] → new.pages ≡ mid.pages
+    → Updates nat_cmp mid.unfinished new.unfinished op (Some list) → Notes op u old new
+notes_one old mid new op u front list t fits is same put =
     let total : length mid.pages.items ≡ length old.pages.items = λ i. length (t.pages i).items in
     let total_new : length mid.pages.items ≡ length new.pages.items = λ i. length (sym same i).items in
     let own : AllByRecursion (Fits (length mid.pages.items)) list.items =
@@ -94,22 +104,22 @@ notes_one old mid new u front list t fits is same put =
     record {
       whole = record {
         each = subst (λ (pages : _). AreWhole pages.items) (sym same) t.whole.each;
-        fits = λ o. subst (λ (n : ℕ). AllFit n (get nat_cmp new.unfinished o)) total_new (put_fits (length mid.pages.items) mid.unfinished new.unfinished u.op list put own t.whole.fits o);
+        fits = λ o. subst (λ (n : ℕ). AllFit n (get nat_cmp new.unfinished o)) total_new (put_fits (length mid.pages.items) mid.unfinished new.unfinished op list put own t.whole.fits o);
       };
       pages = same ∙ t.pages;
       noted = λ o.
-          put_list mid.unfinished new.unfinished u.op list put o
-          ∙ ap (λ (cs : List Change). cond (u.op == o) (map change_of list.items) cs) (t.left o)
-          ∙ elim (cases_eq u.op o) [
+          put_list mid.unfinished new.unfinished op list put o
+          ∙ ap (λ (cs : List Before). cond (op == o) (map before_of list.items) cs) (t.left o)
+          ∙ elim (cases_eq op o) [
             | inl own_op ↦
-                ap (λ (b : Bool). cond b (map change_of list.items) (cond b [] (changes_at old o))) (eq-eqb u.op o own_op)
-                ∙ ap (map change_of) is ∙ map-append change_of front (u ∷ [])
-                ∙ ap (λ (cs : List Change). cs ++ change_of u ∷ []) (t.own ∙ ap (changes_at old) own_op)
-                ∙ sym (ap (λ (b : Bool). changes_at old o ++ cond b (change_of u ∷ []) []) (eq-eqb u.op o own_op))
+                ap (λ (b : Bool). cond b (map before_of list.items) (cond b [] (replaced_at old o))) (eq-eqb op o own_op)
+                ∙ ap (map before_of) is ∙ map-append before_of front (u ∷ [])
+                ∙ ap (λ (cs : List Before). cs ++ before_of u ∷ []) (t.own ∙ ap (replaced_at old) own_op)
+                ∙ sym (ap (λ (b : Bool). replaced_at old o ++ cond b (before_of u ∷ []) []) (eq-eqb op o own_op))
             | inr other ↦
-                ap (λ (b : Bool). cond b (map change_of list.items) (cond b [] (changes_at old o))) (ne_eqb u.op o other)
-                ∙ sym (append-nil (changes_at old o))
-                ∙ sym (ap (λ (b : Bool). changes_at old o ++ cond b (change_of u ∷ []) []) (ne_eqb u.op o other))
+                ap (λ (b : Bool). cond b (map before_of list.items) (cond b [] (replaced_at old o))) (ne_eqb op o other)
+                ∙ sym (append-nil (replaced_at old o))
+                ∙ sym (ap (λ (b : Bool). replaced_at old o ++ cond b (before_of u ∷ []) []) (ne_eqb op o other))
           ];
     }
 
@@ -140,11 +150,13 @@ ends op list old new t = record {
   count = λ i. length (t.pages i).items;
   shown = λ x shown. record {
     pages = subst (λ (pages : _). AreFirst pages.items x.pages) (sym t.pages) shown.pages;
-    unfinished = λ o. t.left o ∙ ap (λ (cs : List Change). cond (op == o) [] cs) (shown.unfinished o) ∙ sym (by_but o op x.unfinished);
+    unfinished = λ o.
+        t.left o ∙ ap (λ (bs : List Before). cond (op == o) [] bs) (shown.unfinished o)
+        ∙ sym (before_cond (op == o) [] (by o x.unfinished)) ∙ sym (ap (map before) (by_but o op x.unfinished));
   };
 }
 
-pub drops : (op : ℕ) (list : List Unfinished) (old mid new : Repeating) → Takes op list old mid → PutsBack (map change_of list) mid.pages.items new.pages.items → new.unfinished ≡ mid.unfinished → Repeats (λ x. dropped x op) old new
+pub drops : (op : ℕ) (list : List Unfinished) (old mid new : Repeating) → Takes op list old mid → PutsBack (map before_of list) mid.pages.items new.pages.items → new.unfinished ≡ mid.unfinished → Repeats (λ x. dropped x op) old new
 drops op list old mid new t back same =
     record {
       whole = record {
@@ -153,24 +165,26 @@ drops op list old mid new t back same =
       };
       count = back.count ∙ (λ i. length (t.pages i).items);
       shown = λ x shown. record {
-        pages = subst (λ (cs : List Change). AreFirst new.pages.items (put_back cs x.pages)) (t.own ∙ shown.unfinished op)
+        pages = subst (λ (f : PageBytes). AreFirst new.pages.items f) (ap (λ (bs : List Before). with_before bs x.pages) (t.own ∙ shown.unfinished op) ∙ restored_is (by op x.unfinished) x.pages)
             (back.back x.pages (subst (λ (pages : _). AreFirst pages.items x.pages) (sym t.pages) shown.pages));
-        unfinished = λ o. (λ i. changes_in (get nat_cmp (same i) o)) ∙ ((ends op list old mid t).shown x shown).unfinished o;
+        unfinished = λ o. (λ i. replaced_in (get nat_cmp (same i) o)) ∙ ((ends op list old mid t).shown x shown).unfinished o;
       };
     }
 
-pub changes_one : (old mid new : Repeating) (u : Unfinished) → u.page < length old.pages.items
-    → mid.pages.items ≡ set old.pages.items u.page (splice u.start u.new (get_or old.pages.items u.page [])) → length mid.pages.items ≡ length old.pages.items → mid.unfinished ≡ old.unfinished
-    → Notes u mid new → Repeats (λ x. changed x (change_of u ∷ [])) old new
-changes_one old mid new u inside is count same n = record {
+pub changes_one : (old mid new : Repeating) (op : ℕ) (u : Unfinished) (bytes : List ℕ) → u.page < length old.pages.items
+    → mid.pages.items ≡ set old.pages.items u.page (splice u.start bytes (get_or old.pages.items u.page [])) → length mid.pages.items ≡ length old.pages.items → mid.unfinished ≡ old.unfinished
+    → Notes op u mid new → Repeats (λ x. changed x (change_of op u bytes ∷ [])) old new
+changes_one old mid new op u bytes inside is count same n = record {
   whole = n.whole;
   count = (λ i. length (n.pages i).items) ∙ count;
   shown = λ x shown. record {
-    pages = subst (λ (pages : _). AreFirst pages.items (made (change_of u) x.pages)) (sym n.pages)
-        (subst (λ (items : List (List ℕ)). AreFirst items (made (change_of u) x.pages)) (sym is) (first_placed old.pages.items u.page u.start u.new x.pages inside shown.pages));
+    pages = subst (λ (pages : _). AreFirst pages.items (made (change_of op u bytes) x.pages)) (sym n.pages)
+        (subst (λ (items : List (List ℕ)). AreFirst items (made (change_of op u bytes) x.pages)) (sym is) (first_placed old.pages.items u.page u.start bytes x.pages inside shown.pages));
     unfinished = λ o.
-        n.noted o ∙ ap (λ (cs : List Change). cs ++ by o (change_of u ∷ [])) ((λ i. changes_in (get nat_cmp (same i) o)) ∙ shown.unfinished o)
-        ∙ sym (filter-append (λ (c : Change). c.op == o) x.unfinished (change_of u ∷ []));
+        n.noted o
+        ∙ (λ i. ((λ j. replaced_in (get nat_cmp (same j) o)) ∙ shown.unfinished o) i ++ sym (before_cond (op == o) (change_of op u bytes ∷ []) []) i)
+        ∙ sym (map-append before (by o x.unfinished) (by o (change_of op u bytes ∷ [])))
+        ∙ sym (ap (map before) (filter-append (λ (c : Change). c.op == o) x.unfinished (change_of op u bytes ∷ [])));
   };
 }
 

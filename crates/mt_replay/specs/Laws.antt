@@ -31,5 +31,6 @@ EachInverseFinds =
 -- Pages that are the same below their number are equally good, and hold the same base.
 abbrev pub OnlyOwnPagesMatter : Type 0
 OnlyOwnPagesMatter =
-    (relations counters total : ℕ) (f g : PageBytes) → ((p : ℕ) → p < total → g p ≡ f p) → IsGood relations counters total f
+    (relations counters total : ℕ) (f g : PageBytes) → ((p : ℕ) → p < total → g p ≡ f p)
+    → IsGood relations counters total f
     → IsGood relations counters total g × ((b : Base) → Holds f b → Holds g b)

@@ -8,8 +8,5 @@ pub mod Passes
 pub mod Losers
 pub mod Stands
 pub mod Refused
-pub mod Checks
-pub mod Faults
-pub mod Naming
 pub mod Reads
 pub mod Marking

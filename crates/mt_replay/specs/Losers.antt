@@ -7,8 +7,8 @@ use Rattle.std.specs.Ordering.{nat_cmp}
 use Rattle.mt_frame.specs.declared.records.Record.{Record}
 use Rattle.mt_frame.specs.declared.records.Record.TheVariants.{OpEnd}
 use Rattle.mt_frame.specs.Grammar.{IsRecord, IsOperation}
-use Rattle.mt_frame.specs.History.{some_record, ends_txn, undoes_op}
-use Rattle.mt_frame.specs.Known.{pair_cmp}
+use Rattle.mt_area_rules.specs.History.{some_record, ends_txn, undoes_op}
+use Rattle.mt_area_rules.specs.Known.{pair_cmp}
 use Rattle.mt_log.specs.declared.batch.Batch.{Batch}
 use Rattle.mt_model.specs.Model.{Base}
 use Rattle.mt_space.specs.Changes.{PageBytes}
@@ -47,7 +47,8 @@ pub record HasRecorded (x : Telling) (records : List Record) : Type 0 where
 -- these records of a batch are reported too, before those after them
 pub record Tells (batch : Batch) (records : List Record) (old new : Telling) : Type 0 where
   pub outcome : (behind : List Record) → HasRecorded old behind → HasRecorded new (records ++ behind)
-  pub ended : (batches : List Batch) → Contains batches batch → AllByRecursion (HasEnded batches) old.losers.items → AllByRecursion (HasEnded batches) new.losers.items
+  pub ended : (batches : List Batch) → Contains batches batch → AllByRecursion (HasEnded batches) old.losers.items
+      → AllByRecursion (HasEnded batches) new.losers.items
 
 -- ---- undone one by one
 

@@ -1,11 +1,13 @@
 -- What the passes over records make of pages in memory.
-use Rattle.std.specs.Prelude.{◌≡◌, ◌==◌, if◌then◌else◌, ℕ, ◌+◌, ◌<◌, ◌≤◌, Bool, true, false, not, ◌&&◌, is_some, Option, None, Some, List, [], ◌∷◌, ◌++◌, length, map, filter, get_or, Vec}
+use Rattle.std.specs.Prelude.{◌≡◌, ◌==◌, if◌then◌else◌, ℕ, ◌+◌, ◌<◌, ◌≤◌, Bool, true, false, not, ◌&&◌, Option, None, Some, List, [], ◌∷◌, ◌++◌, length, map, filter, get_or, Vec}
 use Rattle.std.specs.BTreeMap.{get}
+use Rattle.std.specs.BTreeSet.{contains}
 use Rattle.std.specs.Global.{Global}
 use Rattle.std.specs.List.{AllByRecursion}
 use Rattle.std.specs.Ordering.{nat_cmp}
+use Rattle.mt_base.specs.Edits.{splice}
 use Rattle.mt_base.specs.declared.limits.TheConstants.{PAGE_BYTES}
-use Rattle.mt_frame.specs.History.{some_record}
+use Rattle.mt_area_rules.specs.History.{some_record}
 use Rattle.mt_frame.specs.declared.records.Record.{Record}
 use Rattle.mt_frame.specs.declared.records.Record.TheVariants.{Page, OpEnd, OpDropped, Commit, AbortEnd}
 use Rattle.mt_pool.specs.Images.{page_in}
@@ -15,7 +17,8 @@ use Rattle.mt_steps.specs.Repeated.{Change, Repeated, by, put_back}
 use Rattle.mt_replay.specs.declared.repeat.Unfinished.{Unfinished}
 use Rattle.mt_replay.specs.declared.repeat.Repeating.{Repeating}
 use Rattle.mt_replay.specs.declared.repeat.TakingBack.{TakingBack}
-use Rattle.mt_replay.specs.Memory.{AreWhole, AreFirst}
+use Rattle.mt_page_rules.specs.Whole.{AreWhole}
+use Rattle.mt_replay.specs.Memory.{AreFirst}
 
 -- ---- images
 
@@ -27,26 +30,45 @@ pub record Lays (records : List Record) (old new : List (List ℕ)) : Type 0 whe
 
 -- ---- history repeated
 
-abbrev pub change_of : Unfinished → Change
-change_of u = record { op = u.op; page = u.page; start = u.start; old = u.old; new = u.new }
+-- bytes of one page, as they were before a change
+pub record Before : Type 0 where
+  pub page : ℕ
+  pub start : ℕ
+  pub old : List ℕ
 
--- the changes in memory of an operation
-abbrev pub changes_in : Option (Vec Unfinished Global) → List Change
-changes_in None = []
-changes_in (Some list) = map change_of list.items
+abbrev pub before : Change → Before
+before c = record { page = c.page; start = c.start; old = c.old }
 
-abbrev pub changes_at : Repeating → ℕ → List Change
-changes_at r o = changes_in (get nat_cmp r.unfinished o)
+abbrev pub before_of : Unfinished → Before
+before_of u = record { page = u.page; start = u.start; old = u.old.now }
+
+-- the change of an operation that puts these bytes there
+abbrev pub change_of : ℕ → Unfinished → List ℕ → Change
+change_of op u new = record { op = op; page = u.page; start = u.start; old = u.old.now; new = new }
+
+-- pages with bytes as they were, the last ones put there first
+abbrev pub with_before : List Before → PageBytes → PageBytes
+with_before [] pages = pages
+with_before (b ∷ bs) pages =
+    λ p. if b.page == p then splice b.start b.old (with_before bs pages p) else with_before bs pages p
+
+-- what the changes in memory of an operation replaced
+abbrev pub replaced_in : Option (Vec Unfinished Global) → List Before
+replaced_in None = []
+replaced_in (Some list) = map before_of list.items
+
+abbrev pub replaced_at : Repeating → ℕ → List Before
+replaced_at r o = replaced_in (get nat_cmp r.unfinished o)
 
 -- what is in memory is this, as far as there are pages
 pub record IsShown (r : Repeating) (x : Repeated) : Type 0 where
   pub pages : AreFirst r.pages.items x.pages
-  pub unfinished : (o : ℕ) → changes_at r o ≡ by o x.unfinished
+  pub unfinished : (o : ℕ) → replaced_at r o ≡ map before (by o x.unfinished)
 
 -- a change lies within a page that is there
 pub record Fits (total : ℕ) (u : Unfinished) : Type 0 where
   pub inside : u.page < total
-  pub range : u.start + length u.old ≤ PAGE_BYTES
+  pub range : u.start + length u.old.now ≤ PAGE_BYTES
 
 abbrev pub AllFit : ℕ → Option (Vec Unfinished Global) → Type 0
 AllFit total None = Unit {0}
@@ -61,21 +83,21 @@ pub record IsWhole (r : Repeating) : Type 0 where
 pub record Takes (op : ℕ) (list : List Unfinished) (old new : Repeating) : Type 0 where
   pub whole : IsWhole new
   pub pages : new.pages ≡ old.pages
-  pub own : map change_of list ≡ changes_at old op
+  pub own : map before_of list ≡ replaced_at old op
   pub fits : AllByRecursion (Fits (length old.pages.items)) list
-  pub left : (o : ℕ) → changes_at new o ≡ (if op == o then [] else changes_at old o)
+  pub left : (o : ℕ) → replaced_at new o ≡ (if op == o then [] else replaced_at old o)
 
--- a change is in memory too, after those of its operation
-pub record Notes (change : Unfinished) (old new : Repeating) : Type 0 where
+-- a change of an operation is in memory too, after its others
+pub record Notes (op : ℕ) (change : Unfinished) (old new : Repeating) : Type 0 where
   pub whole : IsWhole new
   pub pages : new.pages ≡ old.pages
-  pub noted : (o : ℕ) → changes_at new o ≡ changes_at old o ++ by o (change_of change ∷ [])
+  pub noted : (o : ℕ) → replaced_at new o ≡ replaced_at old o ++ (if op == o then before_of change ∷ [] else [])
 
--- changes are put back, the last one first
-pub record PutsBack (changes : List Change) (old new : List (List ℕ)) : Type 0 where
+-- the bytes are as they were, the last ones put there first
+pub record PutsBack (bytes : List Before) (old new : List (List ℕ)) : Type 0 where
   pub whole : AreWhole new
   pub count : length new ≡ length old
-  pub back : (f : PageBytes) → AreFirst old f → AreFirst new (put_back changes f)
+  pub back : (f : PageBytes) → AreFirst old f → AreFirst new (with_before bytes f)
 
 -- whatever was in memory, it is in memory as this step leaves it
 pub record Repeats (step : Repeated → Repeated) (old new : Repeating) : Type 0 where
@@ -95,7 +117,8 @@ ends_it o (AbortEnd txn) = false
 
 -- the change that a record is
 abbrev pub change_by : Record → List Change
-change_by (Page txn op page image start old new) = if txn == 0 then [] else record { op = op; page = page; start = start; old = old; new = new } ∷ []
+change_by (Page txn op page image start old new) =
+    if txn == 0 then [] else record { op = op; page = page; start = start; old = old; new = new } ∷ []
 change_by (OpEnd txn op undoes done) = []
 change_by (OpDropped txn op) = []
 change_by (Commit txn) = []
@@ -118,10 +141,11 @@ AreKnown known cs = AllByRecursion (λ (c : Change). known c.op ≡ true) cs
 -- end there
 pub record IsBackTo (known : ℕ → Bool) (t : TakingBack) (records : List Record) (f : PageBytes) : Type 0 where
   pub pages : AreFirst t.pages.items (put_back (left records) f)
-  pub open_ones : (o : ℕ) → is_some (get nat_cmp t.«open» o) ≡ (known o && not (some_record (ends_it o) records))
+  pub open_ones : (o : ℕ) → contains nat_cmp t.«open» o ≡ (known o && not (some_record (ends_it o) records))
 
 -- so with these records before the others, if the operations of what they leave unfinished are known
 pub record Backs (records : List Record) (old new : TakingBack) : Type 0 where
   pub whole : AreWhole new.pages.items
   pub count : length new.pages.items ≡ length old.pages.items
-  pub back : (known : ℕ → Bool) (behind : List Record) (f : PageBytes) → AreKnown known (left (records ++ behind)) → IsBackTo known old behind f → IsBackTo known new (records ++ behind) f
+  pub back : (known : ℕ → Bool) (behind : List Record) (f : PageBytes) → AreKnown known (left (records ++ behind))
+      → IsBackTo known old behind f → IsBackTo known new (records ++ behind) f

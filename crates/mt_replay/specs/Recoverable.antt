@@ -59,7 +59,8 @@ inverse_images = 8 * (24 + PAGE_BYTES)
 -- A restart over these records finds the base that they represent, after the first base of the opening pages. In an
 -- area of `bytes` bytes the images of all pages that the losers' inverses change fit into the first batch of another
 -- one.
-pub record IsRecoverable (relations counters total bytes : ℕ) (opening : PageBytes) (first : Base) (records : List Record) : Type 0 where
+pub record IsRecoverable (relations counters total bytes : ℕ) (opening : PageBytes) (first : Base)
+    (records : List Record) : Type 0 where
   pub leads : LeadsOn relations counters total opening records
   pub serial : IsSerial first records
   pub within : AllByRecursion (λ (f : Finished). IsOf relations counters f.done) (losers records)

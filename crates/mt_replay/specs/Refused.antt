@@ -13,8 +13,8 @@ use Rattle.mt_log.specs.declared.batch.Batch.{Batch}
 use Rattle.mt_pool.specs.Images.{GivesPages}
 use Rattle.mt_pool.specs.Kept.{carried}
 use Rattle.mt_space.specs.Changes.{PageBytes}
-use Rattle.mt_replay.specs.Checks.{AreChecked}
-use Rattle.mt_replay.specs.Faults.{IsFaulty}
+use Rattle.mt_page_rules.specs.Checks.{AreChecked}
+use Rattle.mt_page_rules.specs.Faults.{IsFaulty}
 use Rattle.mt_replay.specs.Figures.{AreFigures}
 use Rattle.mt_replay.specs.Losers.{all_finished, HasEnded, HasUndone, StopsAt}
 use Rattle.mt_log.specs.Masters.{BreaksMaster, IsRuling, IsUnformatted, area_end, area_start}
@@ -26,11 +26,13 @@ use Rattle.mt_replay.specs.declared.figures.Figures.{Figures}
 use Rattle.mt_replay.specs.declared.losers.Loser.{Loser}
 
 -- these batches of the area that the slot names lead to these pages held, and leave these losers
-pub record AreRepeated (c : List ℕ) (slot : MasterSlot) (batches : List Batch) (held : List (List ℕ)) (list : List Loser) : Type 0 where
+pub record AreRepeated (c : List ℕ) (slot : MasterSlot) (batches : List Batch) (held : List (List ℕ))
+    (list : List Loser) : Type 0 where
   pub area : HasArea c slot (records_of batches)
   pub places : places_of batches ≡ places_from (area_start slot) (records_of batches)
   pub count : length held ≡ slot.pages
-  pub pages : (opening : PageBytes) → GivesPages MASTER_BYTES slot.pages opening (carried (joined (records_of batches))) c
+  pub pages : (opening : PageBytes) → GivesPages MASTER_BYTES slot.pages opening (carried (joined (records_of batches)))
+      c
       → AreFirst held (pages_held opening (joined (records_of batches)))
   pub losers : all_finished list ≡ losers (joined (records_of batches))
   pub ended : AllByRecursion (HasEnded batches) list
@@ -68,12 +70,14 @@ StopsUndoing held list at = IsFaultAt held at ⊎ (AreChecked held × StopsAt he
 -- the bytes break a rule at this place: of the master slots, or of the batches of the area that the ruling slot names
 pub data BreaksLog (c : List ℕ) (at : ℕ) : Type 0 where
   in_master : BreaksMaster c at → BreaksLog c at
-  in_area : (slot : MasterSlot) → IsRuling c slot → BreaksAt c (area_start slot) (area_end slot) slot.pages at → BreaksLog c at
+  in_area : (slot : MasterSlot) → IsRuling c slot → BreaksAt c (area_start slot) (area_end slot) slot.pages at
+      → BreaksLog c at
 
 -- or after these
 pub data BreaksFormat (c : List ℕ) (at : ℕ) : Type 0 where
   in_log : BreaksLog c at → BreaksFormat c at
-  behind : (slot : MasterSlot) (batches : List Batch) (held : List (List ℕ)) (list : List Loser) → AreRepeated c slot batches held list → StopsUndoing held list at → BreaksFormat c at
+  behind : (slot : MasterSlot) (batches : List Batch) (held : List (List ℕ)) (list : List Loser)
+      → AreRepeated c slot batches held list → StopsUndoing held list at → BreaksFormat c at
 
 -- the cause of a refusal of these bytes, in a call in which the device failed or did not, if rules are broken so
 abbrev pub IsCause : (List ℕ → ℕ → Type 0) → List ℕ → Type 0 → Refusal → Type 0

@@ -42,7 +42,8 @@ pub record StandsFor (c : List ℕ) (b : Base) : Type 0 where
 pub record CanRestart (relations counters : ℕ) (c : List ℕ) (b : Base) : Type 0 where
   pub stands : StandsFor c b
   pub fits : IsRelationCount relations
-  pub recoverable : IsRecoverable relations counters stands.slot.pages (area_size stands.slot) stands.opening stands.first (joined stands.batches)
+  pub recoverable : IsRecoverable relations counters stands.slot.pages (area_size stands.slot) stands.opening
+      stands.first (joined stands.batches)
 
 -- pages in memory that are good and hold this base
 pub record ShowsBase (relations counters : ℕ) (items : List (List ℕ)) (b : Base) : Type 0 where

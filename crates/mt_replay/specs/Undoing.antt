@@ -30,7 +30,8 @@ IsRoom total bytes pages None = 1 ≤ bytes → (p : ℕ) → Takes total bytes 
 -- The inverse of what is logged is one act on these pages, which finds there what the record says. Its record goes
 -- into a page of records with room, and into a new one only if no page has room. It splits no bucket, and gives the
 -- page back that it leaves without a record.
-pub record UndoesOne (relations counters total : ℕ) (before : PageBytes) (done : LoggedOp) (after : PageBytes) : Type 0 where
+pub record UndoesOne (relations counters total : ℕ) (before : PageBytes) (done : LoggedOp)
+    (after : PageBytes) : Type 0 where
   pub replies : (b : Base) → Holds before b → reply_of b (undo_of done) ≡ reply_back done
   pub base : (b : Base) → Holds before b → Holds after (base_after b (undo_of done))
   pub good : IsGood relations counters total after
@@ -60,13 +61,15 @@ pub record Finds (relations counters total : ℕ) (pages : PageBytes) (b : Base)
 pub record IsUndoing (items : List (List ℕ)) (done : LoggedOp) (changes : List PageChange) : Type 0 where
   pub inside : AllByRecursion (λ (c : PageChange). c.page < length items) changes
   pub few : length changes ≤ MAX_WRITTEN_PAGES
-  pub short : (relations counters : ℕ) (f : PageBytes) → AreFirst items f → IsGood relations counters (length items) f → AreShort changes f
+  pub short : (relations counters : ℕ) (f : PageBytes) → AreFirst items f → IsGood relations counters (length items) f
+      → AreShort changes f
   pub undoes : (relations counters : ℕ) (f : PageBytes) → AreFirst items f → IsGood relations counters (length items) f
       → UndoesOne relations counters (length items) f done (after changes f)
 
 -- the inverse of what is logged does not find what the record says
 abbrev pub Misses : List (List ℕ) → LoggedOp → Type 0
-Misses items done = (relations counters : ℕ) (f : PageBytes) → AreFirst items f → IsGood relations counters (length items) f
+Misses items done =
+    (relations counters : ℕ) (f : PageBytes) → AreFirst items f → IsGood relations counters (length items) f
     → (b : Base) → Finds relations counters (length items) f b done → ⊥
 
 abbrev pub IsUndoPlan : List (List ℕ) → LoggedOp → Option Changes → Type 0

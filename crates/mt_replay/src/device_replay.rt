@@ -3,7 +3,7 @@
 ghost use Rattle.std.specs.Prelude.{◌≡◌, ◌⊎◌, ◌<◌, ◌≤◌, ℕ, List, ◌^◌, length, IfOk, IfErr, Err};
 ghost use Rattle.mt_base.specs.declared.limits.TheConstants.{MAX_PAGES};
 ghost use Rattle.mt_base.specs.declared.refusal.Refusal.{Refusal};
-ghost use Rattle.mt_disk.specs.Disk.{LeavesOnly};
+ghost use Rattle.mt_disk.specs.Disk.{LeavesOnly, LeavesTheSame};
 ghost use Rattle.mt_frame.specs.declared.records.Record.{Record};
 ghost use Rattle.mt_frame.specs.declared.slots.MasterSlot.{MasterSlot};
 ghost use Rattle.mt_log.specs.Batch.{joined};
@@ -14,7 +14,7 @@ ghost use Rattle.mt_model.specs.Model.{Base};
 ghost use Rattle.std.specs.List.{AllByRecursion};
 ghost use Rattle.mt_frame.specs.Grammar.{IsOperation};
 ghost use Rattle.mt_replay.specs.Marking.{IsMarked};
-ghost use Rattle.mt_replay.specs.Memory.{AreWhole};
+ghost use Rattle.mt_page_rules.specs.Whole.{AreWhole};
 ghost use Rattle.mt_log.specs.Masters.{IsRuling, IsUnformatted, area_end, area_start};
 ghost use Rattle.mt_replay.specs.Refused.{AreUndone, BreaksFormat, BreaksLog, IsCause, IsLog, IsReplayed, StopsUndoing};
 ghost use Rattle.mt_replay.specs.Stands.{AreHeld, CanRestart, HasArea, ShowsBase};
@@ -92,7 +92,7 @@ pub fn read_area<D: Device>(
     ensures no_other_refusal { (batches : List (List Record)) → HasArea (D.seen device.old) ruling.now batches
         → IfErr result (λ why. (why ≡ Refusal.NoMemory) ⊎ (why ≡ Refusal.DeviceFailed)) }
     ensures few { IfOk result (λ batches. length (joined (records_of batches.items)) < 2 ^ 32) }
-    ensures reads { OnlyReads D.seen D.may_leave D.moment D.left_since device.old device.new }
+    ensures reads { OnlyReads D.Device device.old device.new }
     ensures quiet { (result ≡ Err Refusal.DeviceFailed → ⊥) → D.faults device.new ≡ D.faults device.old }
     ensures cause { IfErr result (λ why. (why ≡ Refusal.NoMemory)
         ⊎ (((why ≡ Refusal.DeviceFailed) × (D.faults device.old < D.faults device.new))
@@ -160,7 +160,7 @@ pub fn replay<D: Device>(alloc: Global, device: &mut D) -> Result<Replayed, Refu
         → CanRestart relations counters (D.seen device.old) b
         → IfErr result (λ why. (why ≡ Refusal.NoMemory) ⊎ (why ≡ Refusal.DeviceFailed)) }
     ensures seen { D.seen device.new ≡ D.seen device.old }
-    ensures crash { (c : List ℕ) → D.may_leave device.new c → D.may_leave device.old c }
+    ensures crash { LeavesTheSame (D.may_leave device.old) (D.may_leave device.new) }
     ensures moments { LeavesOnly D.moment D.left_since device.old device.new (D.may_leave device.old) }
     ensures quiet { (result ≡ Err Refusal.DeviceFailed → ⊥) → D.faults device.new ≡ D.faults device.old }
 {
@@ -200,7 +200,7 @@ pub fn read_log<D: Device>(alloc: Global, device: &mut D) -> Result<(MasterSlot,
     ensures unformatted { IsUnformatted (D.seen device.old)
         → IfErr result (λ why. (why ≡ Refusal.NotFormatted) ⊎ (why ≡ Refusal.DeviceFailed)) }
     ensures seen { D.seen device.new ≡ D.seen device.old }
-    ensures crash { (c : List ℕ) → D.may_leave device.new c → D.may_leave device.old c }
+    ensures crash { LeavesTheSame (D.may_leave device.old) (D.may_leave device.new) }
     ensures moments { LeavesOnly D.moment D.left_since device.old device.new (D.may_leave device.old) }
     ensures quiet { (result ≡ Err Refusal.DeviceFailed → ⊥) → D.faults device.new ≡ D.faults device.old }
 {

@@ -5,7 +5,7 @@ ghost use Rattle.std.specs.List.{AllByRecursion};
 ghost use Rattle.std.specs.Ordering.{nat_cmp};
 ghost use Rattle.mt_base.specs.declared.refusal.Refusal.{Refusal};
 ghost use Rattle.mt_frame.specs.Grammar.{IsOperation, IsRecord};
-ghost use Rattle.mt_frame.specs.Known.{pair_cmp};
+ghost use Rattle.mt_area_rules.specs.Known.{pair_cmp};
 ghost use Rattle.mt_frame.specs.declared.records.Record.TheVariants.{OpEnd};
 ghost use Rattle.mt_log.specs.Batch.{joined};
 ghost use Rattle.mt_log.specs.Found.{records_of};

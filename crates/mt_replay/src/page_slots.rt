@@ -24,7 +24,7 @@ fn read_unless<D: Device>(
     requires { MASTER_BYTES + PAGE_BYTES * page + PAGE_BYTES ≤ length (D.seen device.old) }
     ensures size { length bytes.new ≡ PAGE_BYTES }
     ensures read { OnOk result (imaged ≡ false → bytes.new ≡ slot MASTER_BYTES (D.seen device.old) page) }
-    ensures reads { OnlyReads D.seen D.may_leave D.moment D.left_since device.old device.new }
+    ensures reads { OnlyReads D.Device device.old device.new }
     ensures cause { HasCause (D.faults device.old) (D.faults device.new) result }
 {
     if imaged {
@@ -42,7 +42,7 @@ pub(crate) fn read_slots<D: Device>(
 ) -> Result<Vec<[u8; 4096]>, Refusal>
     requires marks { length imaged.now ≡ count }
     requires slots { MASTER_BYTES + PAGE_BYTES * count ≤ length (D.seen device.old) }
-    ensures { ReadsPages D.seen D.may_leave D.moment D.left_since D.faults count
+    ensures { ReadsPages D.Device count
         (AreOfSlots count imaged.now (D.seen device.old)) device.old device.new result }
 {
     let mut slots = Vec::with_capacity(alloc, usize::from(count))?;

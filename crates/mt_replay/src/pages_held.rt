@@ -6,7 +6,7 @@ ghost use Rattle.mt_base.specs.declared.refusal.Refusal.{Refusal};
 ghost use Rattle.mt_log.specs.Batch.{joined};
 ghost use Rattle.mt_log.specs.Found.{records_of};
 ghost use Rattle.mt_log.specs.Holds.{AreBatches};
-ghost use Rattle.mt_replay.specs.Memory.{AreWhole};
+ghost use Rattle.mt_page_rules.specs.Whole.{AreWhole};
 ghost use Rattle.mt_replay.specs.Reads.{AreLedOn, FindsHeld};
 
 use crate::image_marks::imaged_in;
@@ -47,7 +47,7 @@ fn led_on(
     lay_images(&mut pages, batches);
     let mut repeating = Repeating::over(alloc, pages);
     repeating.repeat_all(batches)?;
-    Ok(repeating.take_back(batches))
+    Ok(repeating.take_back(batches)?)
 }
 
 /// The pages held, of so many pages of a device, with the batches that a scan of its ruling area found. History is
@@ -67,7 +67,7 @@ pub(crate) fn held_pages<D: Device>(
 ) -> Result<HeldPages, Refusal>
     requires slots { MASTER_BYTES + PAGE_BYTES * count ≤ length (D.seen device.old) }
     requires each { AreBatches count (records_of batches.now) }
-    ensures { FindsHeld D.seen D.may_leave D.moment D.left_since D.faults count
+    ensures { FindsHeld D.Device count
         (joined (records_of batches.now)) device.old device.new result }
 {
     let imaged = imaged_in(alloc, count, batches)?;

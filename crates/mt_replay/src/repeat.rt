@@ -1,5 +1,5 @@
 // History repeated in memory: the records of a log's area over the pages that the area found.
-ghost use Rattle.std.specs.Prelude.{◌≡◌, ◌+◌, ◌<◌, ◌≤◌, ◌∷◌, [], length, get_or, map, OnOk, IfErr};
+ghost use Rattle.std.specs.Prelude.{◌≡◌, ◌+◌, ◌<◌, ◌≤◌, ◌∷◌, [], length, get_or, map, OnOk, IfErr, IfOk};
 ghost use Rattle.std.specs.List.{AllByRecursion};
 ghost use Rattle.mt_base.specs.declared.limits.TheConstants.{PAGE_BYTES};
 ghost use Rattle.mt_base.specs.Edits.{splice};
@@ -10,40 +10,40 @@ ghost use Rattle.mt_log.specs.Found.{records_of};
 ghost use Rattle.mt_log.specs.Holds.{HasItsPage, AreRecords, AreBatches};
 ghost use Rattle.mt_space.specs.Changes.{PageBytes};
 ghost use Rattle.mt_steps.specs.Repeated.{changed, dropped, finished, held, logged, repeat, repeated};
-ghost use Rattle.mt_replay.specs.Memory.{AreWhole, AreFirst, Sets};
-ghost use Rattle.mt_replay.specs.Passes.{Backs, Fits, IsBackTo, IsShown, IsWhole, Notes, PutsBack, Repeats, Takes, change_of};
+ghost use Rattle.mt_page_rules.specs.Whole.{AreWhole};
+ghost use Rattle.mt_replay.specs.Memory.{AreFirst, Sets};
+ghost use Rattle.mt_replay.specs.Passes.{Backs, Fits, IsBackTo, IsShown, IsWhole, Notes, PutsBack, Repeats, Takes, before_of, change_of};
 
-use mt_base::{Bytes, OpNo, PageNo, Refusal};
+use mt_base::{OpNo, PageNo, Refusal};
 use mt_frame::Record;
 use mt_log::Batch;
-use std::alloc::Global;
-use std::collections::BTreeMap;
+use std::alloc::{AllocError, Global};
+use std::collections::{BTreeMap, BTreeSet};
 
-/// A change that an operation has made and not ended.
-#[derive(Drop)]
-pub(crate) struct Unfinished {
-    pub(crate) op: OpNo,
-    pub(crate) page: PageNo,
+/// What a change replaced that an operation has made and not ended. The bytes are those of its record.
+#[derive(Clone, Copy)]
+pub(crate) struct Unfinished<'a> {
+    // the number alone: a list takes no value that has both a model and lent bytes
+    pub(crate) page: u16,
     pub(crate) start: u16,
-    pub(crate) old: Bytes,
-    pub(crate) new: Bytes,
+    pub(crate) old: &'a [u8],
 }
 
 /// All pages, as the records so far make them, and by its number the changes of each operation that has not ended, in
 /// their order.
 #[derive(Drop)]
-pub(crate) struct Repeating {
+pub(crate) struct Repeating<'a> {
     pub(crate) alloc: Global,
     pub(crate) pages: Vec<[u8; 4096]>,
-    pub(crate) unfinished: BTreeMap<u64, Vec<Unfinished>>,
+    pub(crate) unfinished: BTreeMap<u64, Vec<Unfinished<'a>>>,
 }
 
-/// All pages with what records from a place on leave unfinished put back. With them are, by its number, the changes
-/// of each operation that is unfinished and does not end there.
+/// All pages with what records from a place on leave unfinished put back. With them are the numbers of the operations
+/// that are unfinished and do not end there.
 #[derive(Drop)]
 pub(crate) struct TakingBack {
     pub(crate) pages: Vec<[u8; 4096]>,
-    pub(crate) open: BTreeMap<u64, Vec<Unfinished>>,
+    pub(crate) open: BTreeSet<u64>,
 }
 
 // Puts bytes into a page at a place.
@@ -58,22 +58,22 @@ fn put(pages: &mut Vec<[u8; 4096]>, page: PageNo, start: u16, bytes: &[u8])
 }
 
 // Puts the old bytes of changes back, those of the last one first.
-fn put_all_back(pages: &mut Vec<[u8; 4096]>, list: &[Unfinished])
+fn put_all_back(pages: &mut Vec<[u8; 4096]>, list: &[Unfinished<'_>])
     requires whole { AreWhole pages.old.items }
     requires fits { AllByRecursion (Fits (length pages.old.items)) list.now }
-    ensures { PutsBack (map change_of list.now) pages.old.items pages.new.items }
+    ensures { PutsBack (map before_of list.now) pages.old.items pages.new.items }
 {
     let mut i = list.len();
     while i > 0 {
         i -= 1;
         let change = &list[i];
-        put(pages, change.page, change.start, change.old.as_slice());
+        put(pages, PageNo::new(change.page), change.start, change.old);
     }
 }
 
-impl Repeating {
+impl<'a> Repeating<'a> {
     // The pages that an area found, with nothing unfinished.
-    pub(crate) fn over(alloc: Global, pages: Vec<[u8; 4096]>) -> Repeating
+    pub(crate) fn over(alloc: Global, pages: Vec<[u8; 4096]>) -> Repeating<'a>
         requires whole { AreWhole pages.items }
         ensures whole { IsWhole result }
         ensures pages { result.pages ≡ pages }
@@ -88,7 +88,7 @@ impl Repeating {
     }
 
     // The changes of an operation, which are no longer among those that are unfinished.
-    fn taken(&mut self, op: OpNo) -> Vec<Unfinished>
+    fn taken(&mut self, op: OpNo) -> Vec<Unfinished<'a>>
         requires { IsWhole self.old }
         ensures { Takes op result.items self.old self.new }
     {
@@ -99,36 +99,28 @@ impl Repeating {
     }
 
     // A change of an operation is among those that are unfinished.
-    fn note(&mut self, change: Unfinished) -> Result<(), Refusal>
+    fn note(&mut self, op: OpNo, change: Unfinished<'a>) -> Result<(), AllocError>
         requires whole { IsWhole self.old }
         requires fits { Fits (length self.old.pages.items) change }
-        ensures noted { OnOk result (Notes change self.old self.new) }
-        ensures only_memory { IfErr result (λ why. why ≡ Refusal.NoMemory) }
+        ensures { OnOk result (Notes op change.entry self.old self.new) }
     {
-        let op = change.op;
         let mut list = self.taken(op);
         list.push(change)?;
-        match self.unfinished.insert(op.get(), list) {
-            Ok(_) => Ok(()),
-            Err(_) => Err(Refusal::NoMemory),
-        }
+        self.unfinished.insert(op.get(), list)?;
+        Ok(())
     }
 
-    // A change of an operation is made.
-    fn change(&mut self, change: Unfinished) -> Result<(), Refusal>
+    // An operation changes bytes of a page to these.
+    fn change(&mut self, op: OpNo, change: Unfinished<'a>, new: &[u8]) -> Result<(), AllocError>
         requires whole { IsWhole self.old }
         requires fits { Fits (length self.old.pages.items) change }
-        requires same { length change.new ≡ length change.old }
-        ensures made { OnOk result (Repeats (λ x. changed x (change_of change ∷ [])) self.old self.new) }
-        ensures only_memory { IfErr result (λ why. why ≡ Refusal.NoMemory) }
+        requires same { length new.now ≡ length change.old.now }
+        ensures { OnOk result (Repeats (λ x. changed x (change_of op change.entry new.now ∷ [])) self.old self.new) }
     {
-        put(
-            &mut self.pages,
-            change.page,
-            change.start,
-            change.new.as_slice(),
-        );
-        self.note(change)
+        let page = PageNo::new(change.page);
+        let start = change.start;
+        put(&mut self.pages, page, start, new);
+        self.note(op, change)
     }
 
     // An operation has ended.
@@ -149,7 +141,7 @@ impl Repeating {
     }
 
     // The next record.
-    fn repeat_one(&mut self, entry: &Record) -> Result<(), Refusal>
+    fn repeat_one(&mut self, entry: &'a Record) -> Result<(), Refusal>
         requires whole { IsWhole self.old }
         requires grammar { IsRecord entry.now }
         requires inside { HasItsPage (length self.old.pages.items) entry.now }
@@ -165,13 +157,15 @@ impl Repeating {
                 old,
                 new,
                 ..
-            } => self.change(Unfinished {
-                op: *op,
-                page: *page,
-                start: *start,
-                old: old.try_clone()?,
-                new: new.try_clone()?,
-            }),
+            } => {
+                let change = Unfinished {
+                    page: page.get(),
+                    start: *start,
+                    old: old.as_slice(),
+                };
+                self.change(*op, change, new.as_slice())?;
+                Ok(())
+            }
             Record::OpEnd { op, .. } => {
                 self.finish(*op);
                 Ok(())
@@ -185,7 +179,7 @@ impl Repeating {
     }
 
     // The records of a batch.
-    fn repeat_records(&mut self, records: &[Record]) -> Result<(), Refusal>
+    fn repeat_records(&mut self, records: &'a [Record]) -> Result<(), Refusal>
         requires whole { IsWhole self.old }
         requires each { AreRecords (length self.old.pages.items) records.now }
         ensures repeated { OnOk result (Repeats (λ x. repeat x records.now) self.old self.new) }
@@ -198,7 +192,7 @@ impl Repeating {
     }
 
     // The records of an area's batches, in their order.
-    pub(crate) fn repeat_all(&mut self, batches: &[Batch]) -> Result<(), Refusal>
+    pub(crate) fn repeat_all(&mut self, batches: &'a [Batch]) -> Result<(), Refusal>
         requires whole { IsWhole self.old }
         requires each { AreBatches (length self.old.pages.items) (records_of batches.now) }
         ensures repeated { OnOk result (Repeats (λ x. repeat x (joined (records_of batches.now))) self.old self.new) }
@@ -212,30 +206,29 @@ impl Repeating {
 
     // The pages held, after all records of the batches: the changes that are unfinished are put back, the last one
     // first.
-    pub(crate) fn take_back(self, batches: &[Batch]) -> Vec<[u8; 4096]>
+    pub(crate) fn take_back(self, batches: &[Batch]) -> Result<Vec<[u8; 4096]>, AllocError>
         requires whole { AreWhole self.pages.items }
         requires each { AreBatches (length self.pages.items) (records_of batches.now) }
-        ensures whole { AreWhole result.items }
-        ensures count { length result.items ≡ length self.pages.items }
-        ensures held { (opening : PageBytes) → IsShown self (logged opening (joined (records_of batches.now)))
-            → AreFirst result.items (held (logged opening (joined (records_of batches.now)))) }
+        ensures whole { IfOk result (λ pages. AreWhole pages.items) }
+        ensures count { IfOk result (λ pages. length pages.items ≡ length self.entry.pages.items) }
+        ensures held { IfOk result (λ pages. (opening : PageBytes)
+            → IsShown self.entry (logged opening (joined (records_of batches.now)))
+            → AreFirst pages.items (held (logged opening (joined (records_of batches.now))))) }
     {
         let Repeating {
-            alloc: _,
+            alloc,
             pages,
             unfinished,
         } = self;
-        let mut back = TakingBack {
-            pages,
-            open: unfinished,
-        };
+        let open = unfinished.into_keys().collect(alloc)?;
+        let mut back = TakingBack { pages, open };
         let mut i = batches.len();
         while i > 0 {
             i -= 1;
             back.pass_records(&batches[i].records);
         }
         let TakingBack { pages, open: _ } = back;
-        pages
+        Ok(pages)
     }
 }
 
@@ -257,12 +250,16 @@ impl TakingBack {
                 old,
                 ..
             } => {
-                if self.open.contains_key(&op.get()) {
+                if self.open.contains(&op.get()) {
                     put(&mut self.pages, *page, *start, old.as_slice());
                 }
             }
-            Record::OpEnd { op, .. } => drop(self.open.remove(&op.get())),
-            Record::OpDropped { op, .. } => drop(self.open.remove(&op.get())),
+            Record::OpEnd { op, .. } => {
+                self.open.remove(&op.get());
+            }
+            Record::OpDropped { op, .. } => {
+                self.open.remove(&op.get());
+            }
             _ => {}
         }
     }

@@ -8,15 +8,15 @@ ghost use Rattle.mt_frame.specs.Grammar.{IsOperation};
 ghost use Rattle.mt_inverse.specs.Effects.{op_with, reply_with, reply_back as back};
 ghost use Rattle.mt_space.specs.Changes.{PageBytes, AreShort};
 ghost use Rattle.mt_steps.specs.Plans.{record_bytes};
-ghost use Rattle.mt_replay.specs.Memory.{AreWhole, AreFirst, AreGood, Sets, Makes};
-ghost use Rattle.mt_replay.specs.Checks.{AreBroken, AreChecked};
-ghost use Rattle.mt_replay.specs.Faults.{IsFaulty};
+ghost use Rattle.mt_page_rules.specs.Whole.{AreWhole};
+ghost use Rattle.mt_replay.specs.Memory.{AreFirst, AreGood, Sets, Makes};
+ghost use Rattle.mt_page_rules.specs.Checks.{AreBroken, AreChecked};
+ghost use Rattle.mt_page_rules.specs.Faults.{IsFaulty};
 ghost use Rattle.mt_replay.specs.Recoverable.{IsOf};
 ghost use Rattle.mt_replay.specs.Recorded.{op_of, reply_in, reply_back};
 ghost use Rattle.mt_replay.specs.Undoing.{IsRoom, IsUndoPlan, Misses, Undoes};
 
 use crate::losers::Loser;
-use crate::page_rules::AllPages;
 use mt_base::limits::MASTER_BYTES;
 use mt_base::{Edit, PageNo, Refusal};
 use mt_file::fits;
@@ -24,6 +24,7 @@ use mt_frame::LoggedOp;
 use mt_index::Search;
 use mt_inverse::Effect;
 use mt_model::Op;
+use mt_page_rules::AllPages;
 use mt_pool::slot_at;
 use mt_slots::ROW_HEAD_BYTES;
 use mt_space::pages::{COUNTERS, MAP, RECORDS};
@@ -63,8 +64,8 @@ impl Pages for Restored {
     }
 }
 
-// What an operation did, by what is logged of it.
-fn effect_of(done: &LoggedOp) -> Effect<'_>
+/// What an operation did, by what is logged of it.
+pub fn effect_of(done: &LoggedOp) -> Effect<'_>
     ensures op { op_with result ≡ op_of done.now }
     ensures reply { reply_with result ≡ reply_in done.now }
     ensures back { back result ≡ reply_back done.now }

@@ -33,7 +33,8 @@ fault_line (Unscheduled why) = answer_text (RefusedLine (refusal_in why)) ++ 10 
 
 -- what to do about bytes that break the format at a place: below 8192 it is a master slot, which holds the length
 abbrev pub advice_at : ℕ → List ℕ
-advice_at place = cond (nat_lt place MASTER_BYTES) (codes "the file is shorter than its first bytes tell, or these are damaged; take a copy that is whole")
+advice_at place = cond (nat_lt place MASTER_BYTES) (codes
+    "the file is shorter than its first bytes tell, or these are damaged; take a copy that is whole")
     (codes "the bytes at that place are none that a device can have; keep a copy of the file")
 
 -- what to do if memory was wanting: frames are what `run` takes
@@ -43,7 +44,8 @@ memory_advice _ = codes "there is not enough memory"
 
 -- why a file is not had: the reason, if the folder knows it
 abbrev pub file_advice : Option Reason → List ℕ
-file_advice None = codes "see that it is there, can be read and written, is open in no other program, and that its disk has room"
+file_advice None =
+    codes "see that it is there, can be read and written, is open in no other program, and that its disk has room"
 file_advice (Some reason) = reason_text reason
 
 -- and why a script is not read
@@ -55,10 +57,12 @@ script_advice (Some reason) = reason_text reason
 abbrev pub advice_on : Command → Option Reason → Refusal → List ℕ
 advice_on command reason refusal.NoMemory = memory_advice command
 advice_on command reason refusal.DeviceFailed = file_advice reason
-advice_on command reason refusal.NotFormatted = codes "this is no device, or its format did not end; `mtk format` makes one"
+advice_on command reason refusal.NotFormatted =
+    codes "this is no device, or its format did not end; `mtk format` makes one"
 advice_on command reason (refusal.BadFormat place) = advice_at place
 advice_on command reason refusal.BadLength = excess_text (excess_in command)
-advice_on command reason refusal.LogFull = codes "its log cannot be turned over; keep the file, which `mtk check` still reads"
+advice_on command reason refusal.LogFull =
+    codes "its log cannot be turned over; keep the file, which `mtk check` still reads"
 advice_on command reason _ = codes "see docs/MANUAL.md"
 
 -- ---- a script or a schedule that was not read
@@ -77,7 +81,8 @@ module _ {W : Type 0} (form : W → List ℕ) (all_words : List ℕ) where
   line_advice TooLong = codes "that line has more than 4,096 bytes"
   line_advice Unended = codes "that line is the last, and no line feed ends it"
   line_advice Blank = codes "that line is blank"
-  line_advice CarriageReturn = codes "that line ends with a carriage return and a line feed; a line feed alone ends a line"
+  line_advice CarriageReturn =
+      codes "that line ends with a carriage return and a line feed; a line feed alone ends a line"
   line_advice Tab = codes "that line has a tab; one space stands between two words"
   line_advice Unprintable = codes "that line has a byte that is not printable ASCII (0x20 to 0x7E)"
   line_advice UnknownWord =
@@ -102,7 +107,8 @@ abbrev pub stop_advice : ℕ → List ℕ
 stop_advice line = codes "line " ++ (decimal line ++ codes " was refused so, and nothing after it ran")
 
 abbrev pub advice_of : Command → Option Reason → Fault → List ℕ
-advice_of command reason Output = codes "see that its disk has room and that its reader goes on; what was committed stands"
+advice_of command reason Output =
+    codes "see that its disk has room and that its reader goes on; what was committed stands"
 advice_of command reason (Refused why) = advice_on command reason why
 advice_of command reason (Stopped at) = stop_advice at.line
 advice_of command reason (Unread why at) = unread_advice script_form script_words command reason why

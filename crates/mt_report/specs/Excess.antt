@@ -14,7 +14,8 @@ lies_within low high number = nat_le low number && nat_le number high
 
 -- low <= start <= high, within 10^15 of zero
 abbrev pub is_counter : ℤ → ℤ → ℤ → Bool
-is_counter low high start = ((int_le (neg_ℤ MAX_BOUND) low && int_le low start) && int_le start high) && int_le high MAX_BOUND
+is_counter low high start =
+    ((int_le (neg_ℤ MAX_BOUND) low && int_le low start) && int_le start high) && int_le high MAX_BOUND
 
 -- the first counter that is none
 abbrev pub counter_excess : List (ℤ × ℤ × ℤ) → Excess
@@ -24,11 +25,14 @@ counter_excess (t ∷ more) = cond (is_counter t.0 t.1 t.2) (counter_excess more
 -- of the numbers of a format the first in the order of the command line, if the count of the counters stands before
 -- them
 abbrev pub counters_excess : List (ℤ × ℤ × ℤ) → Excess
-counters_excess counters = cond (nat_le (length counters) MAX_COUNTERS) (counter_excess counters) (Counters (length counters))
+counters_excess counters =
+    cond (nat_le (length counters) MAX_COUNTERS) (counter_excess counters) (Counters (length counters))
 
 abbrev pub excess_of : Numbers → Excess
 excess_of n =
-    cond (lies_within MIN_PAGES MAX_PAGES n.pages) (cond (lies_within MIN_AREA_MIB MAX_AREA_MIB n.area) (cond (lies_within 1 MAX_RELATIONS n.relations) (counters_excess n.counters.items) (Relations n.relations)) (Area n.area))
+    cond (lies_within MIN_PAGES MAX_PAGES n.pages) (cond (lies_within MIN_AREA_MIB MAX_AREA_MIB n.area)
+    (cond (lies_within 1 MAX_RELATIONS n.relations) (counters_excess n.counters.items) (Relations n.relations))
+    (Area n.area))
     (Pages n.pages)
 
 -- of a command: of `run` it is the number of its scripts
@@ -46,7 +50,8 @@ outside_text name number limits = concat (name ∷ codes " is " ∷ decimal numb
 
 abbrev pub counter_excess_text : ℤ → ℤ → ℤ → List ℕ
 counter_excess_text low high start =
-    concat (codes "COUNTER c" ∷ signed_decimal low ∷ codes ":" ∷ signed_decimal high ∷ codes ":" ∷ signed_decimal start ∷ codes ": it must be LOW <= START <= HIGH, from -1000000000000000 to 1000000000000000" ∷ [])
+    concat (codes "COUNTER c" ∷ signed_decimal low ∷ codes ":" ∷ signed_decimal high ∷ codes ":" ∷ signed_decimal start
+    ∷ codes ": it must be LOW <= START <= HIGH, from -1000000000000000 to 1000000000000000" ∷ [])
 
 abbrev pub excess_text : Excess → List ℕ
 excess_text (Pages number) = outside_text (codes "PAGES") number (codes "16 to 4000")

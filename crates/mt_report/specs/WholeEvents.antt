@@ -9,11 +9,14 @@ use Rattle.mt_world.specs.declared.events.Event.TheVariants.{Begin, Call, Step, 
 use Rattle.mt_report.specs.Events.{IsEvent, event_text}
 
 pub event_whole : (event : Event) → IsEvent event → IsWhole (event_text event)
-event_whole (Begin session) s = spaced (codes "begin") (decimal session) (is_without 10 (codes "begin") refl) (decimal_whole session (omega (arith, s)))
-event_whole (Call t op) s = spaced (codes "call" ++ 32 ∷ decimal t) (op_text op) (spaced (codes "call") (decimal t) (is_without 10 (codes "call") refl) (decimal_whole t s.0)) (op_whole op s.1)
+event_whole (Begin session) s = spaced (codes "begin") (decimal session) (is_without 10 (codes "begin") refl)
+    (decimal_whole session (omega (arith, s)))
+event_whole (Call t op) s = spaced (codes "call" ++ 32 ∷ decimal t) (op_text op)
+    (spaced (codes "call") (decimal t) (is_without 10 (codes "call") refl) (decimal_whole t s.0)) (op_whole op s.1)
 event_whole (Step t) s = spaced (codes "step") (decimal t) (is_without 10 (codes "step") refl) (decimal_whole t s)
 event_whole (Commit t) s = spaced (codes "commit") (decimal t) (is_without 10 (codes "commit") refl) (decimal_whole t s)
-event_whole (AbortBegin t) s = spaced (codes "abort") (decimal t) (is_without 10 (codes "abort") refl) (decimal_whole t s)
+event_whole (AbortBegin t) s =
+    spaced (codes "abort") (decimal t) (is_without 10 (codes "abort") refl) (decimal_whole t s)
 event_whole (AbortStep t) s = spaced (codes "undo") (decimal t) (is_without 10 (codes "undo") refl) (decimal_whole t s)
 event_whole Force s = is_without 10 (codes "force") refl
 event_whole Flush s = is_without 10 (codes "flush") refl

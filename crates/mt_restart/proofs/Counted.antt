@@ -17,13 +17,13 @@ holds_same pages b m holds same = record {
   counts = λ c lt. same.counts c lt ∙ holds.counts c lt;
 }
 
-module _ {D : Type 0} {g : Ghosts D} (seen : D → List ℕ) (may_leave : D → List ℕ → Type 0) (k : Kernel D g) where
+module _ {D : Type 0} {g : Ghosts D} (k : Kernel D g) where
   -- of itself
-  as_it_is : (relations counters : ℕ) (b : Base) → IsOpened seen may_leave relations counters b k → IsOpened seen may_leave k.relations k.counters b k
+  as_it_is : (relations counters : ℕ) (b : Base) → IsOpened relations counters b k → IsOpened k.relations k.counters b k
   as_it_is relations counters b o = record { relations_are = refl; counters_are = refl; shows = o.shows; restarts = o.restarts }
 
   pub begins_on : (pages : PageBytes) (relations counters : ℕ) (b : Base) → counters ≡ get_or (pages 2) 1 0 → Holds pages b → IsBase b
-      → ((m : Base) → Holds pages m → IsBase m → IsOpened seen may_leave relations counters m k) → BeginsOn seen may_leave b k
+      → ((m : Base) → Holds pages m → IsBase m → IsOpened relations counters m k) → BeginsOn b k
   begins_on pages relations counters b outcome holds bounds opens =
       let first = opens b holds bounds in
       record {

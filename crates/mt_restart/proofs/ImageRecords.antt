@@ -5,7 +5,7 @@ use Rattle.std.specs.List.{AllByRecursion}
 use Rattle.std.proofs.lemmas.Bool.{eq-eqb, ne_eqb}
 use Rattle.std.proofs.lemmas.List.{map-append}
 use Rattle.mt_frame.specs.Grammar.{IsRecord}
-use Rattle.mt_frame.specs.History.{MayFollow, may_stand, some_record, ends_txn, ends_op, is_of_page}
+use Rattle.mt_area_rules.specs.History.{MayFollow, may_stand, some_record, ends_txn, ends_op, is_of_page}
 use Rattle.mt_frame.specs.declared.records.Record.{Record}
 use Rattle.mt_frame.specs.declared.records.Record.TheVariants.{Page, OpEnd, OpDropped, Commit, AbortEnd}
 use Rattle.mt_log.proofs.Prefix.{each_both, may_both}

@@ -31,18 +31,18 @@ empty : (ms : List Member) → length ms ≡ 0 → ms ≡ []
 empty [] is = refl
 empty (m ∷ ms) is = absurd cc
 
-module _ {D : Type 0} {g : Ghosts D} (seen : D → List ℕ) (may_leave : D → List ℕ → Type 0) where
+module _ {D : Type 0} {g : Ghosts D} where
   -- no transaction lives in a kernel that nothing has happened to
-  pub nobody_counts : (first : Base) (k : Kernel D g) → Shows seen may_leave first (start first) k → length k.core.live.members ≡ 0
+  pub nobody_counts : (first : Base) (k : Kernel D g) → Shows first (start first) k → length k.core.live.members ≡ 0
   nobody_counts first k shows = ∥∥₁_elim shows (hlevel props) (λ (origin, base, is, x). no_member k.core.live.members (λ t. sym (ap (λ (s : State). s.sessions t) x.state)))
 
-  pub nobody : (first : Base) (k : Kernel D g) → Shows seen may_leave first (start first) k → k.core.live.members ≡ []
+  pub nobody : (first : Base) (k : Kernel D g) → Shows first (start first) k → k.core.live.members ≡ []
   nobody first k shows = empty k.core.live.members (nobody_counts first k shows)
 
   -- where nobody lives, all commits of a kernel are those of its book
-  pub stands_book : (b : Base) (n : Kernel D g) (c : List ℕ) → HasNobody n → Restarts seen may_leave b n → ∥ FindsCommits n.relations n.counters b n.core c ∥₁
+  pub stands_book : (b : Base) (n : Kernel D g) (c : List ℕ) → HasNobody n → Restarts b n → ∥ FindsCommits n.relations n.counters b n.core c ∥₁
       → ∥ CanRestart n.relations n.counters c (after b n.core.book.items) ∥₁
-  stands_book b n c nobody restarts finds = ∥∥₁_elim (all_booked seen may_leave n.core n.relations n.counters b nobody restarts) (hlevel props) (λ all.
+  stands_book b n c nobody restarts finds = ∥∥₁_elim (all_booked g n.core n.relations n.counters b nobody restarts) (hlevel props) (λ all.
       ∥∥₁_map finds (λ f.
       let size : length (all_commits n.core) ≡ length n.core.book.items = ap (λ (cs : List Committed). length cs) all in
       let booked = f.acknowledged in
@@ -50,12 +50,12 @@ module _ {D : Type 0} {g : Ghosts D} (seen : D → List ℕ) (may_leave : D → 
       subst (CanRestart n.relations n.counters c) (f.is ∙ ap (after b) whole) f.found))
 
   -- a kernel that was opened on a base is found there until its device is this one, if nothing has happened to it
-  pub found_on : (moment : D → ℕ) (left_since : D → ℕ → List ℕ → Type 0) (relations counters : ℕ) (b : Base) (k : Kernel D g) (device : D) → IsOpened seen may_leave relations counters b k → k.core.book.items ≡ []
-      → ((t : ℕ) (c : List ℕ) → t ≤ moment device → may_leave device c → left_since device t c)
-      → ((first : Base) → Restarts seen may_leave first k → FindsMeanwhile moment left_since k.relations k.counters first k.core device)
-      → (c : List ℕ) → may_leave device c → ∥ CanRestart relations counters c b ∥₁
-  found_on moment left_since relations counters b k device opened none counts found c leaves =
+  pub found_on : (relations counters : ℕ) (b : Base) (k : Kernel D g) (device : D) → IsOpened relations counters b k → k.core.book.items ≡ []
+      → ((t : ℕ) (c : List ℕ) → t ≤ g.moment device → g.may_leave device c → g.left_since device t c)
+      → ((first : Base) → Restarts first k → FindsMeanwhile g k.relations k.counters first k.core device)
+      → (c : List ℕ) → g.may_leave device c → ∥ CanRestart relations counters c b ∥₁
+  found_on relations counters b k device opened none counts found c leaves =
       let f = found b opened.restarts in
-      let finds = f.each c (counts (moment k.core.operations.store.device) c f.later leaves) in
+      let finds = f.each c (counts (g.moment k.core.operations.store.device) c f.later leaves) in
       let stands = stands_book b k c (nobody_counts b k opened.shows) opened.restarts finds in
       subst (λ (X : Type 0). X) (λ i. ∥ CanRestart (opened.relations_are i) (opened.counters_are i) c (after b (none i)) ∥₁) stands

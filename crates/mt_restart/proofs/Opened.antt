@@ -52,15 +52,15 @@ end_of_log : (log : Log) (s n : ℕ) → log_start log ≡ s → area_size log �
 unfolding seen_of
 end_of_log log s n start size = let some = log.place.some_bytes in omega (arith, start, size, some)
 
-module _ {D : Type 0} (seen : D → List ℕ) (may : D → List ℕ → Type 0) (frames : ℕ) (device : D) (r : Recovered) (is : IsRecovered seen may frames device r) where
-  pub rules : IsRuling (seen device) (next_slot is.ruling)
+module _ {D : Type 0} (g : Ghosts D) (frames : ℕ) (device : D) (r : Recovered) (is : IsRecovered g frames device r) where
+  pub rules : IsRuling (g.seen device) (next_slot is.ruling)
   rules = is.turned.read.rules
 
   pub few : length r.restored.pages.items ≤ 4000
-  few = let fits = ruling_fits (seen device) (next_slot is.ruling) rules in let pages = fits.pages in let count = is.count in omega (arith, pages, count)
+  few = let fits = ruling_fits (g.seen device) (next_slot is.ruling) rules in let pages = fits.pages in let count = is.count in omega (arith, pages, count)
 
-  pub long : 8192 + 4096 * length r.restored.pages.items ≤ length (seen device)
-  long = let size = long_of (seen device) (next_slot is.ruling) rules in let count = is.count in omega (arith, size, count)
+  pub long : 8192 + 4096 * length r.restored.pages.items ≤ length (g.seen device)
+  long = let size = long_of (g.seen device) (next_slot is.ruling) rules in let count = is.count in omega (arith, size, count)
 
   pub apart : 8192 + 4096 * length r.restored.pages.items ≤ log_start r.log
   apart = let start = is.turned.next.start in let count = is.count in omega (arith, start, count)
@@ -74,14 +74,14 @@ module _ {D : Type 0} (seen : D → List ℕ) (may : D → List ℕ → Type 0) 
     end = ap end_of is.next ∙ sym (end_of_log r.log (start_of (next_slot is.ruling)) (size_of is.ruling) is.turned.next.start is.turned.next.size);
   }
 
-  pub rules_next : (c : List ℕ) → may device c → IsRuling c r.ruling
+  pub rules_next : (c : List ℕ) → g.may_leave device c → IsRuling c r.ruling
   rules_next c left = subst (λ (X : Type 0). X) (λ i. IsRuling (sym (is.turned.only c left) i) (sym is.next i)) rules
 
-  pub slots_are : (p : ℕ) → p < length r.restored.pages.items → slot 8192 (seen device) p ≡ bytes_of r.restored.pages.items p
+  pub slots_are : (p : ℕ) → p < length r.restored.pages.items → slot 8192 (g.seen device) p ≡ bytes_of r.restored.pages.items p
   slots_are p lt = is.turned.slots p (subst (λ (n : ℕ). p < n) is.count lt)
 
-  pub safe : (place n : ℕ) (rs : List Record) → place ≡ 8192 → n ≡ length r.restored.pages.items → rs ≡ r.images.items → IsSafe place n (bytes_of r.restored.pages.items) (carried rs) (length rs) (may device)
-  safe place n rs at many same = subst (λ (X : Type 0). X) (λ i. IsSafe (sym at i) (sym many i) (bytes_of r.restored.pages.items) (carried (sym same i)) (length (sym same i)) (may device)) (record {
+  pub safe : (place n : ℕ) (rs : List Record) → place ≡ 8192 → n ≡ length r.restored.pages.items → rs ≡ r.images.items → IsSafe place n (bytes_of r.restored.pages.items) (carried rs) (length rs) (g.may_leave device)
+  safe place n rs at many same = subst (λ (X : Type 0). X) (λ i. IsSafe (sym at i) (sym many i) (bytes_of r.restored.pages.items) (carried (sym same i)) (length (sym same i)) (g.may_leave device)) (record {
     within = omega (arith, length-map r.images.items carried_of);
     images = λ p lt some d. is.images.bytes p lt (sym (is.images.some p lt) ∙ some) d;
     slots = λ p lt none c left. ap (λ (x : List ℕ). slot 8192 x p) (is.turned.only c left) ∙ slots_are p lt;
@@ -94,16 +94,16 @@ module _ {D : Type 0} (seen : D → List ℕ) (may : D → List ℕ → Type 0) 
   images_of_pages n rs many same = subst (λ (X : Type 0). X) (λ i. AllByRecursion (IsImageOnly (sym many i)) (sym same i)) is.images.only
 
   -- each page is viewed as it was restored
-  pub viewed : (p n : ℕ) → n ≡ length r.restored.pages.items → p < n → view r.beside.pool (seen device) p ≡ bytes_of r.restored.pages.items p
-  viewed p n many lt = is.beside.views (seen device) p ∙ slots_are p (subst (λ (x : ℕ). p < x) many lt)
+  pub viewed : (p n : ℕ) → n ≡ length r.restored.pages.items → p < n → view r.beside.pool (g.seen device) p ≡ bytes_of r.restored.pages.items p
+  viewed p n many lt = is.beside.views (g.seen device) p ∙ slots_are p (subst (λ (x : ℕ). p < x) many lt)
 
   pub log_images : (log : Log) → log ≡ r.log → AreImages (appended log)
   log_images log same = subst (λ (l : Log). AreImages (appended l)) (sym same)
       (subst AreImages (sym (appended_of r.log r.images.items is.turned.next.durable_is is.turned.next.flying is.turned.next.waits)) (are_images (length r.restored.pages.items) r.images.items is.images.only))
 
-  module _ (s : Store D) (same_log : s.log ≡ r.log) (many : pages s.pool ≡ length r.restored.pages.items) (kept : IsKept seen may (bytes_of r.restored.pages.items) s) (shows : ShowsOpening seen (bytes_of r.restored.pages.items) s)
+  module _ (s : Store D) (same_log : s.log ≡ r.log) (many : pages s.pool ≡ length r.restored.pages.items) (kept : IsKept g (bytes_of r.restored.pages.items) s) (shows : ShowsOpening g (bytes_of r.restored.pages.items) s)
       (o : Operations D) (store : o.store ≡ s) (locks : o.locks ≡ r.beside.idle.locks) (claims : claimed o ≡ reserved_of r.beside.idle.map.space)
-      (right : (opening : PageBytes) (relations counters : ℕ) → IsKept seen may opening s → AreImages (appended s.log) → IsGood relations counters (pages s.pool) opening → ShowsOpening seen opening s → FitsPages (pages s.pool) opening r.beside.idle → IsRight seen may opening relations counters o) where
+      (right : (opening : PageBytes) (relations counters : ℕ) → IsKept g opening s → AreImages (appended s.log) → IsGood relations counters (pages s.pool) opening → ShowsOpening g opening s → FitsPages (pages s.pool) opening r.beside.idle → IsRight g opening relations counters o) where
     log_is : o.store.log ≡ r.log
     log_is = ap (λ (x : Store D). x.log) store ∙ same_log
 
@@ -116,7 +116,7 @@ module _ {D : Type 0} (seen : D → List ℕ) (may : D → List ℕ → Type 0) 
       pending = is.beside.pending;
     }
 
-    pub opens_again : (b : Base) → Holds (bytes_of r.restored.pages.items) b → IsBase b → Opens seen may o r.beside.escrow r.beside.relations r.beside.counters b
+    pub opens_again : (b : Base) → Holds (bytes_of r.restored.pages.items) b → IsBase b → Opens g o r.beside.escrow r.beside.relations r.beside.counters b
     opens_again b holds bounds =
         let good = is.checked.good in
         let outcome : r.beside.counters ≡ is.checked.counters = is.beside.counters ∙ good.counts.counters_reported in
@@ -138,9 +138,9 @@ module _ {D : Type 0} (seen : D → List ℕ) (may : D → List ℕ → Type 0) 
         ) ∣₁
 
 -- the counters page tells how many relations and counters the pages that show the base are good for
-pub opened_as : {D : Type 0} {g : Ghosts D} (seen : D → List ℕ) (may : D → List ℕ → Type 0) → OnlyOwnPagesMatter → (relations counters frames : ℕ) (b : Base) (items : List (List ℕ)) (x : Beside) (k : Kernel D g) → IsBeside items frames x
-    → ShowsBase relations counters items b → (Holds (bytes_of items) b → IsOpened seen may x.relations x.counters b k) → IsOpened seen may relations counters b k
-opened_as seen may own relations counters frames b items x k beside shows opened =
+pub opened_as : {D : Type 0} {g : Ghosts D} → OnlyOwnPagesMatter → (relations counters frames : ℕ) (b : Base) (items : List (List ℕ)) (x : Beside) (k : Kernel D g) → IsBeside items frames x
+    → ShowsBase relations counters items b → (Holds (bytes_of items) b → IsOpened x.relations x.counters b k) → IsOpened relations counters b k
+opened_as own relations counters frames b items x k beside shows opened =
     let alike = own relations counters (length items) shows.pages (bytes_of items) (λ p lt. shows.first p lt) shows.good in
     let o = opened (alike.1 b shows.holds) in
     record {

@@ -4,7 +4,7 @@ use Rattle.std.specs.List.{AllByRecursion}
 use Rattle.std.proofs.lemmas.List.Elements.{All-from_recursion}
 use Rattle.mt_base.specs.Limits.{IsRelationCount}
 use Rattle.mt_frame.specs.Grammar.{IsRecord}
-use Rattle.mt_frame.specs.History.{txn_of}
+use Rattle.mt_frame.specs.Grammar.{txn_of}
 use Rattle.mt_frame.specs.Laws.{OneSlot}
 use Rattle.mt_frame.specs.declared.records.Record.{Record}
 use Rattle.mt_frame.specs.declared.records.Record.TheVariants.{Page, OpEnd, OpDropped, Commit, AbortEnd}

@@ -17,7 +17,7 @@ use Rattle.mt_core.specs.declared.parts.Commit.{Commit}
 use Rattle.mt_core.specs.declared.parts.Core.{Core}
 use Rattle.mt_live.specs.Machine.{State}
 use Rattle.mt_log.specs.NextSlot.{next_slot}
-use Rattle.mt_log.specs.Quiet.{OnlyReads}
+use Rattle.mt_log.specs.Quiet.{OnlyReadsOrSyncs}
 use Rattle.mt_log.specs.Words.{appended, durable, has_failed, in_flight, waiting, IsStep}
 use Rattle.mt_log.specs.declared.log.Forced.TheVariants as log
 use Rattle.mt_log.specs.declared.log.Log.{Log}
@@ -108,22 +108,22 @@ idle_durable k l step = all_durable (durable l) (in_flight l ++ waiting l) (
 -- ---- the kernel
 
 -- why a step of a force was refused
-pub force_cause : {D : Type 0} {g : Ghosts D} (seen : D → List ℕ) (faults : D → ℕ) (m n : Kernel D g) (why : Refusal) → (why ≢ refusal.NoMemory → IsFailure faults (is_failed m) m.core n.core why)
-    → (◌≡◌ {A = Result KernelForced Refusal} (Err why) (Err refusal.DeviceFailed) → is_failed n ≡ true) → (◌≡◌ {A = Result KernelForced Refusal} (Err why) (Err refusal.NoMemory) → n ≡ m) → is_failed m ≡ false → IsKeptCause seen n why
-force_cause seen faults m n refusal.NoMemory cause fails memory well = ap (λ (k : Kernel _ _). is_failed k) (memory refl) ∙ well
-force_cause seen faults m n refusal.DeviceFailed cause fails memory well = fails refl
-force_cause seen faults m n _ cause fails memory well = ⊎_elim (λ x. absurd (let no = x.1 in cc)) (λ y. absurd (let no = y.0 in cc)) (cause (λ e. absurd cc))
+pub force_cause : {D : Type 0} {g : Ghosts D} (m n : Kernel D g) (why : Refusal) → (why ≢ refusal.NoMemory → IsFailure g (is_failed m) m.core n.core why)
+    → (◌≡◌ {A = Result KernelForced Refusal} (Err why) (Err refusal.DeviceFailed) → is_failed n ≡ true) → (◌≡◌ {A = Result KernelForced Refusal} (Err why) (Err refusal.NoMemory) → n ≡ m) → is_failed m ≡ false → IsKeptCause n why
+force_cause m n refusal.NoMemory cause fails memory well = ap (λ (k : Kernel _ _). is_failed k) (memory refl) ∙ well
+force_cause m n refusal.DeviceFailed cause fails memory well = fails refl
+force_cause m n _ cause fails memory well = ⊎_elim (λ x. absurd (let no = x.1 in cc)) (λ y. absurd (let no = y.0 in cc)) (cause (λ e. absurd cc))
 
-module _ {D : Type 0} {g : Ghosts D} (seen : D → List ℕ) (may_leave : D → List ℕ → Type 0) where
+module _ {D : Type 0} {g : Ghosts D} where
   -- a step of a force names nobody where nobody commits
-  shows_forced : (m n : Kernel D g) (r : Result KernelForced Refusal) (first : Base) (s : State) → m.core.commits.items ≡ [] → HasForced seen may_leave first s r n
-      → IfOk r (λ f. IsForcedBy m.core.operations.store.log m.core.commits.items f n.core.operations.store.log n.core.commits.items) → Shows seen may_leave first s n
+  shows_forced : (m n : Kernel D g) (r : Result KernelForced Refusal) (first : Base) (s : State) → m.core.commits.items ≡ [] → HasForced first s r n
+      → IfOk r (λ f. IsForcedBy m.core.operations.store.log m.core.commits.items f n.core.operations.store.log n.core.commits.items) → Shows first s n
   shows_forced m n (Ok forced.More) first s none shows by = shows
   shows_forced m n (Ok forced.Idle) first s none shows by = shows
   shows_forced m n (Err why) first s none shows by = shows
   shows_forced m n (Ok (forced.Durable names)) first s none shows by =
       let nobody : names.items ≡ [] = by.2 ∙ ap (λ (cs : List Commit). durable_txns cs by.0) none in
-      subst (λ (ts : List ℕ). Shows seen may_leave first (booked_each s ts) n) nobody shows
+      subst (λ (ts : List ℕ). Shows first (booked_each s ts) n) nobody shows
 
   -- what it leaves durable
   pub grows_forced : (k m n : Kernel D g) (f : KernelForced) → Grows k m → IsForcedBy m.core.operations.store.log m.core.commits.items f n.core.operations.store.log n.core.commits.items → Grows k n
@@ -138,59 +138,59 @@ module _ {D : Type 0} {g : Ghosts D} (seen : D → List ℕ) (may_leave : D → 
   near_forced steps m n forced.Idle by same near = inl (idle_durable m.core.operations.store.log n.core.operations.store.log by.0)
   near_forced steps m n (forced.Durable names) by same near = near_settled steps by.0 m.core.operations.store.log n.core.operations.store.log by.1 same near
 
-  module _ (moment : D → ℕ) (left_since : D → ℕ → List ℕ → Type 0) (only_now : (d : D) (c : List ℕ) → left_since d (moment d) c → may_leave d c) where
+  module _ (only_now : (d : D) (c : List ℕ) → g.left_since d (g.moment d) c → g.may_leave d c) where
     -- it is as it was
-    pub keeps_itself : (k : Kernel D g) → Keeps seen may_leave moment left_since k k
+    pub keeps_itself : (k : Kernel D g) → Keeps k k
     keeps_itself k = record {
       state = λ first s shows. shows;
       restarts = λ first r. r;
       schema = (refl, refl);
-      found = λ first r schema. no_call seen may_leave k.relations k.counters first moment left_since only_now k.core k.core.operations.store.device refl r schema;
+      found = λ first r schema. no_call g k.relations k.counters first only_now k.core k.core.operations.store.device refl r schema;
     }
 
-    pub keeps_forced : (k m n : Kernel D g) (r : Result KernelForced Refusal) → HasNobody k → HasNobody m → IsWell seen may_leave m.relations m.counters m.core → Keeps seen may_leave moment left_since k m → Grows k m
-        → ((first : Base) (s : State) → Shows seen may_leave first s m → HasForced seen may_leave first s r n) → IfOk r (λ f. IsForcedBy m.core.operations.store.log m.core.commits.items f n.core.operations.store.log n.core.commits.items)
-        → StaysRestarting seen may_leave m n → SameSchema m n → LeavesFound seen may_leave moment left_since m n → Keeps seen may_leave moment left_since k n
+    pub keeps_forced : (k m n : Kernel D g) (r : Result KernelForced Refusal) → HasNobody k → HasNobody m → IsWell g m.relations m.counters m.core → Keeps k m → Grows k m
+        → ((first : Base) (s : State) → Shows first s m → HasForced first s r n) → IfOk r (λ f. IsForcedBy m.core.operations.store.log m.core.commits.items f n.core.operations.store.log n.core.commits.items)
+        → StaysRestarting m n → SameSchema m n → LeavesFound m n → Keeps k n
     keeps_forced k m n r nobody still well keeps (more, grown) forced by restarts schema found = record {
-      state = λ first s shows. ∥∥₁_elim (nobody_commits seen may_leave m still well) ∥∥₁_prop (λ none. shows_forced m n r first s none (forced first s (keeps.state first s shows)) by);
+      state = λ first s shows. ∥∥₁_elim (nobody_commits m still well) ∥∥₁_prop (λ none. shows_forced m n r first s none (forced first s (keeps.state first s shows)) by);
       restarts = λ first starts. restarts first (keeps.restarts first starts);
       schema = (schema.0 ∙ keeps.schema.0, schema.1 ∙ keeps.schema.1);
       found = λ first starts count.
-          then_finds seen may_leave k.relations k.counters first moment left_since only_now k.core m.core n.core.operations.store.device
-          (λ c f. ∥∥₁_map (same_commits seen may_leave k m first nobody still starts keeps.state) (λ same. finds_back seen may_leave k.relations k.counters first k.core m.core same.0 same.1 more grown c f))
+          then_finds g k.relations k.counters first only_now k.core m.core n.core.operations.store.device
+          (λ c f. ∥∥₁_map (same_commits k m first nobody still starts keeps.state) (λ same. finds_back g k.relations k.counters first k.core m.core same.0 same.1 more grown c f))
           (keeps.found first starts count)
-          (subst (λ (X : Type 0). X) (λ i. FindsMeanwhile moment left_since (keeps.schema.0 i) (keeps.schema.1 i) first m.core n.core.operations.store.device) (found first (keeps.restarts first starts) (subst IsRelationCount (sym keeps.schema.0) count)));
+          (subst (λ (X : Type 0). X) (λ i. FindsMeanwhile g (keeps.schema.0 i) (keeps.schema.1 i) first m.core n.core.operations.store.device) (found first (keeps.restarts first starts) (subst IsRelationCount (sym keeps.schema.0) count)));
     }
 
     -- what a restart finds while the device of a forced kernel is made one for the next area
-    pub found_over : (k : Kernel D g) (first : Base) (old new : D) → old ≡ k.core.operations.store.device → may_leave k.core.operations.store.device (seen k.core.operations.store.device) → HasNobody k → Restarts seen may_leave first k → IsRelationCount k.relations
-        → ∥ LeavesOnly moment left_since old new (StandsStill may_leave k.relations k.counters (after first k.core.book.items) old) ∥₁ → FindsMeanwhile moment left_since k.relations k.counters first k.core new
+    pub found_over : (k : Kernel D g) (first : Base) (old new : D) → old ≡ k.core.operations.store.device → g.may_leave k.core.operations.store.device (g.seen k.core.operations.store.device) → HasNobody k → Restarts first k → IsRelationCount k.relations
+        → ∥ LeavesOnly g.moment g.left_since old new (StandsStill g k.relations k.counters (after first k.core.book.items) old) ∥₁ → FindsMeanwhile g k.relations k.counters first k.core new
     found_over k first old new same present nobody starts count some = record {
-      later = ∥∥₁_elim some (hlevel props) (λ leaves. let a = leaves.later in let b = ap moment same in omega (arith, a, b));
-      each = λ c left. ∥∥₁_elim some ∥∥₁_prop (λ leaves. found c (leaves.each c (subst (λ (d : D). left_since new (moment d) c) (sym same) left)));
+      later = ∥∥₁_elim some (hlevel props) (λ leaves. let a = leaves.later in let b = ap g.moment same in omega (arith, a, b));
+      each = λ c left. ∥∥₁_elim some ∥∥₁_prop (λ leaves. found c (leaves.each c (subst (λ (d : D). g.left_since new (g.moment d) c) (sym same) left)));
       before = λ t c le left. ∥∥₁_elim some ∥∥₁_prop (λ leaves. ⊎_elim
-          (λ was. ∣ inl (subst (λ (d : D). left_since d t c) same was) ∣₁)
+          (λ was. ∣ inl (subst (λ (d : D). g.left_since d t c) same was) ∣₁)
           (λ p. ∥∥₁_map (found c p) (λ f. inr f))
-          (leaves.before t c (let b = ap moment same in omega (arith, le, b)) left));
+          (leaves.before t c (let b = ap g.moment same in omega (arith, le, b)) left));
     }
       where
-        found : (c : List ℕ) → StandsStill may_leave k.relations k.counters (after first k.core.book.items) old c → ∥ FindsCommits k.relations k.counters first k.core c ∥₁
+        found : (c : List ℕ) → StandsStill g k.relations k.counters (after first k.core.book.items) old c → ∥ FindsCommits k.relations k.counters first k.core c ∥₁
         found c = ⊎_elim
-            (λ may. finds_commits seen may_leave k.relations k.counters first k.core c starts (subst (λ (d : D). may_leave d c) same may) count)
-            (λ can. ∥∥₁_elim (all_booked seen may_leave k.core k.relations k.counters first nobody starts) ∥∥₁_prop (λ whole. ∥∥₁_map (finds_commits seen may_leave k.relations k.counters first k.core (seen k.core.operations.store.device) starts present count)
-            (λ f. finds_all seen may_leave k.relations k.counters first k.core c (seen k.core.operations.store.device) (after first k.core.book.items) can (ap (after first) (sym whole)) f)))
+            (λ may. finds_commits g k.relations k.counters first k.core c starts (subst (λ (d : D). g.may_leave d c) same may) count)
+            (λ can. ∥∥₁_elim (all_booked g k.core k.relations k.counters first nobody starts) ∥∥₁_prop (λ whole. ∥∥₁_map (finds_commits g k.relations k.counters first k.core (g.seen k.core.operations.store.device) starts present count)
+            (λ f. finds_all g k.relations k.counters first k.core c (g.seen k.core.operations.store.device) (after first k.core.book.items) can (ap (after first) (sym whole)) f)))
 
     -- and so of the kernel before the force
-    pub found_behind : (k m : Kernel D g) (first : Base) (new : D) → HasNobody k → HasNobody m → Keeps seen may_leave moment left_since k m → Grows k m → Restarts seen may_leave first k → IsRelationCount k.relations
-        → FindsMeanwhile moment left_since m.relations m.counters first m.core new → FindsMeanwhile moment left_since k.relations k.counters first k.core new
+    pub found_behind : (k m : Kernel D g) (first : Base) (new : D) → HasNobody k → HasNobody m → Keeps k m → Grows k m → Restarts first k → IsRelationCount k.relations
+        → FindsMeanwhile g m.relations m.counters first m.core new → FindsMeanwhile g k.relations k.counters first k.core new
     found_behind k m first new nobody still keeps (more, grown) starts count found =
-        then_finds seen may_leave k.relations k.counters first moment left_since only_now k.core m.core new
-        (λ c f. ∥∥₁_map (same_commits seen may_leave k m first nobody still starts keeps.state) (λ same. finds_back seen may_leave k.relations k.counters first k.core m.core same.0 same.1 more grown c f))
+        then_finds g k.relations k.counters first only_now k.core m.core new
+        (λ c f. ∥∥₁_map (same_commits k m first nobody still starts keeps.state) (λ same. finds_back g k.relations k.counters first k.core m.core same.0 same.1 more grown c f))
         (keeps.found first starts count)
-        (subst (λ (X : Type 0). X) (λ i. FindsMeanwhile moment left_since (keeps.schema.0 i) (keeps.schema.1 i) first m.core new) found)
+        (subst (λ (X : Type 0). X) (λ i. FindsMeanwhile g (keeps.schema.0 i) (keeps.schema.1 i) first m.core new) found)
 
     -- and what keeps a forced kernel keeps that one
-    pub keeps_both : (k m n : Kernel D g) → HasNobody k → IsForcedOut k m → Keeps seen may_leave moment left_since k m → Keeps seen may_leave moment left_since m n → Keeps seen may_leave moment left_since k n
+    pub keeps_both : (k m n : Kernel D g) → HasNobody k → IsForcedOut k m → Keeps k m → Keeps m n → Keeps k n
     keeps_both k m n nobody out one two = record {
       state = λ first s shows. two.state first s (one.state first s shows);
       restarts = λ first starts. two.restarts first (one.restarts first starts);
@@ -200,10 +200,10 @@ module _ {D : Type 0} {g : Ghosts D} (seen : D → List ℕ) (may_leave : D → 
 
 -- ---- the kernel that goes on
 
-module _ {D : Type 0} {g : Ghosts D} (seen : D → List ℕ) (may_leave : D → List ℕ → Type 0) (own : OnlyOwnPagesMatter) where
+module _ {D : Type 0} {g : Ghosts D} (own : OnlyOwnPagesMatter) where
   -- the recovered pages hold what the book leads to
-  pub goes_on : (k : Kernel D g) (first : Base) (rest : KernelRest) (o : Operations D) (e : Escrowed) (frames : ℕ) (items : List (List ℕ)) (x : Beside) → IsRestOf k rest → HasNobody k → Restarts seen may_leave first k → IsBeside items frames x
-      → ShowsBase k.relations k.counters items (after first k.core.book.items) → IsBase (after first k.core.book.items) → ((b : Base) → Holds (bytes_of items) b → IsBase b → Opens seen may_leave o e x.relations x.counters b) → GoesOn seen may_leave first k.core rest o e
+  pub goes_on : (k : Kernel D g) (first : Base) (rest : KernelRest) (o : Operations D) (e : Escrowed) (frames : ℕ) (items : List (List ℕ)) (x : Beside) → IsRestOf k rest → HasNobody k → Restarts first k → IsBeside items frames x
+      → ShowsBase k.relations k.counters items (after first k.core.book.items) → IsBase (after first k.core.book.items) → ((b : Base) → Holds (bytes_of items) b → IsBase b → Opens g o e x.relations x.counters b) → GoesOn g first k.core rest o e
   goes_on k first rest o e frames items x is nobody starts beside shows bounds opens =
       let alike = own k.relations k.counters (length items) shows.pages (bytes_of items) (λ p lt. shows.first p lt) shows.good in
       let rels : x.relations ≡ rest.relations = beside.relations ∙ alike.0.counts.relations_reported ∙ sym is.relations in
@@ -211,29 +211,29 @@ module _ {D : Type 0} {g : Ghosts D} (seen : D → List ℕ) (may_leave : D → 
       record {
         is = is.parts;
         nobody = nobody;
-        restarts = subst (λ (X : Type 0). X) (λ i. RestartsFrom seen may_leave (sym is.relations i) (sym is.counters i) first k.core) starts;
-        opens = subst (λ (X : Type 0). X) (λ i. Opens seen may_leave o e (rels i) (counts i) (after first k.core.book.items)) (opens (after first k.core.book.items) (alike.1 (after first k.core.book.items) shows.holds) bounds);
+        restarts = subst (λ (X : Type 0). X) (λ i. RestartsFrom g (sym is.relations i) (sym is.counters i) first k.core) starts;
+        opens = subst (λ (X : Type 0). X) (λ i. Opens g o e (rels i) (counts i) (after first k.core.book.items)) (opens (after first k.core.book.items) (alike.1 (after first k.core.book.items) shows.holds) bounds);
       }
 
   -- and so the kernel is in the state in which it was
-  pub goes_over : (k n : Kernel D g) (rest : KernelRest) (o : Operations D) (e : Escrowed) → IsRestOf k rest → ((first : Base) → Restarts seen may_leave first k → ∥ GoesOn seen may_leave first k.core rest o e ∥₁) → Resumes seen may_leave rest o e n → (n.relations ≡ rest.relations) × (n.counters ≡ rest.counters) → GoesOver seen may_leave k n
+  pub goes_over : (k n : Kernel D g) (rest : KernelRest) (o : Operations D) (e : Escrowed) → IsRestOf k rest → ((first : Base) → Restarts first k → ∥ GoesOn g first k.core rest o e ∥₁) → Resumes rest o e n → (n.relations ≡ rest.relations) × (n.counters ≡ rest.counters) → GoesOver k n
   goes_over k n rest o e is goes resumes schema = record {
-    state = λ first s starts shows. ∥∥₁_elim (goes first starts) ∥∥₁_prop (λ on. (resumes first k.core on).0 s (subst (λ (X : Type 0). X) (λ i. ShowsIn seen may_leave (sym is.relations i) (sym is.counters i) first s k.core) shows));
+    state = λ first s starts shows. ∥∥₁_elim (goes first starts) ∥∥₁_prop (λ on. (resumes first k.core on).0 s (subst (λ (X : Type 0). X) (λ i. ShowsIn g (sym is.relations i) (sym is.counters i) first s k.core) shows));
     restarts = λ first starts. ∥∥₁_elim (goes first starts) ∥∥₁_prop (λ on. (resumes first k.core on).1);
     schema = (schema.0 ∙ is.relations, schema.1 ∙ is.counters);
   }
 
 -- why a recovery was refused, where the bytes can be restarted from and the device has not failed
-pub stop_cause : {D : Type 0} {g : Ghosts D} (seen : D → List ℕ) (faults : D → ℕ) (old new : D) (n : Kernel D g) (why : Refusal) → IsCauseToStop (seen old) (faults old < faults new) why → ∥ (why ≡ refusal.NoMemory) ⊎ ((why ≡ refusal.DeviceFailed) ⊎ (why ≡ refusal.LogFull)) ∥₁
-    → (why ≡ refusal.DeviceFailed → ⊥) → seen n.core.operations.store.device ≡ seen old → is_failed n ≡ false → IsKeptCause seen n why
-stop_cause seen faults old new n refusal.NoMemory cause some not same well = well
-stop_cause seen faults old new n refusal.DeviceFailed cause some not same well = absurd (not refl)
-stop_cause seen faults old new n refusal.LogFull cause some not same well = (well, subst CannotTurn (sym same) (⊎_elim (λ none. absurd none) (λ full. full.1) cause))
-stop_cause seen faults old new n _ cause some not same well = ∥∥₁_elim some (hlevel props) (⊎_elim (λ is. absurd cc) (⊎_elim (λ is. absurd cc) (λ is. absurd cc)))
+pub stop_cause : {D : Type 0} {g : Ghosts D} (old new : D) (n : Kernel D g) (why : Refusal) → IsCauseToStop (g.seen old) (g.faults old < g.faults new) why → ∥ (why ≡ refusal.NoMemory) ⊎ ((why ≡ refusal.DeviceFailed) ⊎ (why ≡ refusal.LogFull)) ∥₁
+    → (why ≡ refusal.DeviceFailed → ⊥) → g.seen n.core.operations.store.device ≡ g.seen old → is_failed n ≡ false → IsKeptCause n why
+stop_cause old new n refusal.NoMemory cause some not same well = well
+stop_cause old new n refusal.DeviceFailed cause some not same well = absurd (not refl)
+stop_cause old new n refusal.LogFull cause some not same well = (well, subst CannotTurn (sym same) (⊎_elim (λ none. absurd none) (λ full. full.1) cause))
+stop_cause old new n _ cause some not same well = ∥∥₁_elim some (hlevel props) (⊎_elim (λ is. absurd cc) (⊎_elim (λ is. absurd cc) (λ is. absurd cc)))
 
 -- and where it has
-pub fault_cause : {D : Type 0} (seen : D → List ℕ) (faults : D → ℕ) (old new : D) (why : Refusal) → why ≡ refusal.DeviceFailed → IsCauseToStop (seen old) (faults old < faults new) why → faults old < faults new
-fault_cause seen faults old new why is cause = ⊎_elim (λ failed. failed) (λ full. absurd (let no = full.0 in cc)) (subst (IsCauseToStop (seen old) (faults old < faults new)) is cause)
+pub fault_cause : {D : Type 0} (g : Ghosts D) (old new : D) (why : Refusal) → why ≡ refusal.DeviceFailed → IsCauseToStop (g.seen old) (g.faults old < g.faults new) why → g.faults old < g.faults new
+fault_cause g old new why is cause = ⊎_elim (λ failed. failed) (λ full. absurd (let no = full.0 in cc)) (subst (IsCauseToStop (g.seen old) (g.faults old < g.faults new)) is cause)
 
 -- ---- the kernel that is attached to its device again
 
@@ -242,10 +242,10 @@ module _ {D : Type 0} {g : Ghosts D} (k : Kernel D g) (rest : DetachedKernel) (d
   device_was = sym (ap (λ (c : Core D). c.operations.store.device) is.core)
 
   -- what it represents
-  pub represents : (seen : D → List ℕ) (may_leave : D → List ℕ → Type 0) → ((first : Base) (c : List ℕ) → Restarts seen may_leave first k → HasNobody k → IsForced k → may_leave k.core.operations.store.device c → ∥ CanRestart k.relations k.counters c (after first k.core.book.items) ∥₁)
-      → may_leave k.core.operations.store.device (seen k.core.operations.store.device) → HasNobody k → IsForced k → (first : Base) → Restarts seen may_leave first k → ∥ CanRestart k.relations k.counters (seen d) (after first k.core.book.items) ∥₁
-  represents seen may_leave rests present nobody forced first starts =
-      ∥∥₁_map (rests first (seen k.core.operations.store.device) starts nobody forced present) (λ can. subst (λ (e : D). CanRestart k.relations k.counters (seen e) (after first k.core.book.items)) (sym device_was) can)
+  pub represents : ((first : Base) (c : List ℕ) → Restarts first k → HasNobody k → IsForced k → g.may_leave k.core.operations.store.device c → ∥ CanRestart k.relations k.counters c (after first k.core.book.items) ∥₁)
+      → g.may_leave k.core.operations.store.device (g.seen k.core.operations.store.device) → HasNobody k → IsForced k → (first : Base) → Restarts first k → ∥ CanRestart k.relations k.counters (g.seen d) (after first k.core.book.items) ∥₁
+  represents rests present nobody forced first starts =
+      ∥∥₁_map (rests first (g.seen k.core.operations.store.device) starts nobody forced present) (λ can. subst (λ (e : D). CanRestart k.relations k.counters (g.seen e) (after first k.core.book.items)) (sym device_was) can)
 
   pub rest_of : (e : D) (r : KernelRest) → IsRestBeside rest e r → IsRestOf k r
   rest_of e r beside = record {
@@ -260,27 +260,27 @@ module _ {D : Type 0} {g : Ghosts D} (k : Kernel D g) (rest : DetachedKernel) (d
     counters = beside.counters ∙ is.counters;
   }
 
-  module _ (seen : D → List ℕ) (may_leave : D → List ℕ → Type 0) (moment : D → ℕ) (left_since : D → ℕ → List ℕ → Type 0) (e : D) (reads : OnlyReads seen may_leave moment left_since d e) where
-    pub can_attach : IsWell seen may_leave k.relations k.counters k.core → ∥ ((first : Base) × Restarts seen may_leave first k) ∥₁ → CanAttach seen may_leave moment left_since rest e
+  module _ (e : D) (reads : OnlyReadsOrSyncs g d e) where
+    pub can_attach : IsWell g k.relations k.counters k.core → ∥ ((first : Base) × Restarts first k) ∥₁ → CanAttach g rest e
     can_attach well starts = ∥∥₁_map starts (λ (first, r). (
       d,
       reads,
-      subst (λ (X : Type 0). X) (λ i. IsWell seen may_leave (sym is.relations i) (sym is.counters i) (is.core i)) well,
+      subst (λ (X : Type 0). X) (λ i. IsWell g (sym is.relations i) (sym is.counters i) (is.core i)) well,
       first,
-      subst (λ (X : Type 0). X) (λ i. RestartsFrom seen may_leave (sym is.relations i) (sym is.counters i) first (is.core i)) r,
+      subst (λ (X : Type 0). X) (λ i. RestartsFrom g (sym is.relations i) (sym is.counters i) first (is.core i)) r,
     ))
 
-    module _ (n : Kernel D g) (a : Attaches seen may_leave moment left_since rest e n) where
+    module _ (n : Kernel D g) (a : Attaches rest e n) where
       pub device_now : n.core.operations.store.device ≡ e
       device_now = ap (λ (c : Core D). c.operations.store.device) a.core
 
       pub fails_as : is_failed n ≡ is_failed k
       fails_as = λ i. (a.failed ∙ is.failed) i || has_failed ((ap (λ (c : Core D). c.operations.store.log) a.core ∙ sym (ap (λ (c : Core D). c.operations.store.log) is.core)) i)
 
-      pub keeps_attached : ((first : Base) → Restarts seen may_leave first k → FindsMeanwhile moment left_since k.relations k.counters first k.core n.core.operations.store.device) → Keeps seen may_leave moment left_since k n
+      pub keeps_attached : ((first : Base) → Restarts first k → FindsMeanwhile g k.relations k.counters first k.core n.core.operations.store.device) → Keeps k n
       keeps_attached found = record {
-        state = λ first s shows. a.state d reads first s (subst (λ (X : Type 0). X) (λ i. ShowsIn seen may_leave (sym is.relations i) (sym is.counters i) first s (is.core i)) shows);
-        restarts = λ first starts. a.restarts d reads first (subst (λ (X : Type 0). X) (λ i. RestartsFrom seen may_leave (sym is.relations i) (sym is.counters i) first (is.core i)) starts);
+        state = λ first s shows. a.state d reads first s (subst (λ (X : Type 0). X) (λ i. ShowsIn g (sym is.relations i) (sym is.counters i) first s (is.core i)) shows);
+        restarts = λ first starts. a.restarts d reads first (subst (λ (X : Type 0). X) (λ i. RestartsFrom g (sym is.relations i) (sym is.counters i) first (is.core i)) starts);
         schema = (a.relations ∙ is.relations, a.counters ∙ is.counters);
         found = λ first starts count. found first starts;
       }
@@ -288,9 +288,8 @@ module _ {D : Type 0} {g : Ghosts D} (k : Kernel D g) (rest : DetachedKernel) (d
 -- ---- the kernel before the force
 
 -- what comes of a forced kernel comes of the kernel before the force
-module _ {D : Type 0} {g : Ghosts D} (seen : D → List ℕ) (may_leave : D → List ℕ → Type 0) (moment : D → ℕ) (left_since : D → ℕ → List ℕ → Type 0) (only_now : (d : D) (c : List ℕ) → left_since d (moment d) c → may_leave d c) (faults : D → ℕ)
-    (k m : Kernel D g) (nobody : HasNobody k) (early : early_cause k ≡ None) (keeps : Keeps seen may_leave moment left_since k m) (out : IsForcedOut k m) (same : faults m.core.operations.store.device ≡ faults k.core.operations.store.device) where
-  pub rotates_behind : (standing : Standing D g) (r : Result (Unit {0}) Refusal) → Rotates seen may_leave moment left_since faults m standing r → Rotates seen may_leave moment left_since faults k standing r
+module _ {D : Type 0} {g : Ghosts D} (only_now : (d : D) (c : List ℕ) → g.left_since d (g.moment d) c → g.may_leave d c) (k m : Kernel D g) (nobody : HasNobody k) (early : early_cause k ≡ None) (keeps : Keeps k m) (out : IsForcedOut k m) (same : g.faults m.core.operations.store.device ≡ g.faults k.core.operations.store.device) where
+  pub rotates_behind : (standing : Standing D g) (r : Result (Unit {0}) Refusal) → Rotates m standing r → Rotates k standing r
   rotates_behind (Stands n) (Ok u) x = record {
     may = early;
     over = record {
@@ -304,7 +303,7 @@ module _ {D : Type 0} {g : Ghosts D} (seen : D → List ℕ) (may_leave : D → 
     quiet = x.quiet ∙ same;
   }
   rotates_behind (Stands n) (Err why) x = record {
-    keeps = keeps_both seen may_leave moment left_since only_now k m n nobody out keeps x.keeps;
+    keeps = keeps_both only_now k m n nobody out keeps x.keeps;
     cause = ⊎_elim (λ (is, same_kernel). absurd (not_early m why out.well out.nobody is)) (λ (none, cause). inr (early, cause)) x.cause;
     quiet = λ not. x.quiet not ∙ same;
   }

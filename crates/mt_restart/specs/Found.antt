@@ -1,5 +1,6 @@
 -- What a restart has at hand before its first write, and what the device is meanwhile.
 use Rattle.std.specs.Prelude.{◌≡◌, ◌⊎◌, ℕ, ◌+◌, ◌<◌, ◌^◌, false, List, [], ◌∷◌, length, get_or}
+use Rattle.mt_disk.specs.declared.device.Device.{Ghosts}
 use Rattle.mt_base.specs.declared.limits.TheConstants.{MASTER_BYTES}
 use Rattle.mt_disk.specs.Disk.{Only}
 use Rattle.mt_frame.specs.Grammar.{body_text}
@@ -26,7 +27,8 @@ use Rattle.mt_restart.specs.declared.restart_writes.Marks.{Marks}
 
 -- The ruling area holds these batches; marked are the pages with an image there, and those that are lost without one
 -- in the next area.
-pub record AreMarked (c : List ℕ) (ruling : MasterSlot) (items : List (List ℕ)) (batches : List (List Record)) (m : Marks) : Type 0 where
+pub record AreMarked (c : List ℕ) (ruling : MasterSlot) (items : List (List ℕ)) (batches : List (List Record))
+    (m : Marks) : Type 0 where
   pub rules : IsRuling c ruling
   pub held : HoldsBatches c (area_start ruling) (area_end ruling) ruling.pages batches
   pub count : length items ≡ ruling.pages
@@ -54,8 +56,9 @@ ReadsOldOrNext ruling opening batches items images c =
     IsReadAs c ruling opening batches ⊎ IsReadAs c (next_slot ruling) (bytes_of items) (images ∷ [])
 
 -- the log of the next area, with these images and no other record
-pub record IsNextLog {D : Type 0} (seen : D → List ℕ) (may_leave : D → List ℕ → Type 0) (ruling : MasterSlot) (images : List Record) (device : D) (log : Log) : Type 0 where
-  pub on : IsOn seen may_leave log device
+pub record IsNextLog {D : Type 0} (g : Ghosts D) (ruling : MasterSlot)
+    (images : List Record) (device : D) (log : Log) : Type 0 where
+  pub on : IsOn g log device
   pub start : log_start log ≡ area_start (next_slot ruling)
   pub size : log_size log ≡ area_size ruling
   pub durable_is : durable log ≡ images
@@ -67,16 +70,20 @@ pub record IsNextLog {D : Type 0} (seen : D → List ℕ) (may_leave : D → Lis
 
 -- The next area has begun with these images, beside the one that rules; the pages without an image there are in their
 -- slots.
-pub record HasBegun {D : Type 0} (seen : D → List ℕ) (may_leave : D → List ℕ → Type 0) (ruling : MasterSlot) (items : List (List ℕ)) (m : Marks) (device : D) (log : Log) : Type 0 where
-  pub next : IsNextLog seen may_leave ruling m.images.items device log
-  pub only : Only (seen device) (may_leave device)
-  pub rules : IsRuling (seen device) ruling
-  pub held : HoldsBatches (seen device) (area_start (next_slot ruling)) (area_end (next_slot ruling)) ruling.pages (m.images.items ∷ [])
-  pub slots : (p : ℕ) → p < ruling.pages → get_or m.lost.items p false ≡ false → slot MASTER_BYTES (seen device) p ≡ get_or items p []
+pub record HasBegun {D : Type 0} (g : Ghosts D) (ruling : MasterSlot)
+    (items : List (List ℕ)) (m : Marks) (device : D) (log : Log) : Type 0 where
+  pub next : IsNextLog g ruling m.images.items device log
+  pub only : Only (g.seen device) (g.may_leave device)
+  pub rules : IsRuling (g.seen device) ruling
+  pub held : HoldsBatches (g.seen device) (area_start (next_slot ruling)) (area_end (next_slot ruling)) ruling.pages
+      (m.images.items ∷ [])
+  pub slots : (p : ℕ) → p < ruling.pages → get_or m.lost.items p false ≡ false
+      → slot MASTER_BYTES (g.seen device) p ≡ get_or items p []
 
 -- The next area rules, with these images and no other record, and each page is in its slot.
-pub record HasTurned {D : Type 0} (seen : D → List ℕ) (may_leave : D → List ℕ → Type 0) (ruling : MasterSlot) (items : List (List ℕ)) (images : List Record) (device : D) (log : Log) : Type 0 where
-  pub next : IsNextLog seen may_leave ruling images device log
-  pub only : Only (seen device) (may_leave device)
-  pub slots : (p : ℕ) → p < ruling.pages → slot MASTER_BYTES (seen device) p ≡ get_or items p []
-  pub read : IsReadAs (seen device) (next_slot ruling) (bytes_of items) (images ∷ [])
+pub record HasTurned {D : Type 0} (g : Ghosts D) (ruling : MasterSlot)
+    (items : List (List ℕ)) (images : List Record) (device : D) (log : Log) : Type 0 where
+  pub next : IsNextLog g ruling images device log
+  pub only : Only (g.seen device) (g.may_leave device)
+  pub slots : (p : ℕ) → p < ruling.pages → slot MASTER_BYTES (g.seen device) p ≡ get_or items p []
+  pub read : IsReadAs (g.seen device) (next_slot ruling) (bytes_of items) (images ∷ [])

@@ -50,12 +50,14 @@ pub record IsSound (c : List ℕ) : Type 0 where
 
 -- it is the survey of these pages, of whatever schema they are good and whatever base they hold
 abbrev pub IsOfPages : List (List ℕ) → Survey → Type 0
-IsOfPages items survey = (relations counters : ℕ) (held : Base) → IsGood relations counters (length items) (bytes_of items) → Holds (bytes_of items) held
+IsOfPages items survey = (relations counters : ℕ) (held : Base)
+    → IsGood relations counters (length items) (bytes_of items) → Holds (bytes_of items) held
     → IsSurvey relations counters (length items) (bytes_of items) held survey
 
 -- the records of the pages from p on, up to q, are listed as rows; the counters and the number of relations stay
 pub record Lists (items : List (List ℕ)) (p q : ℕ) (old new : code.Base) : Type 0 where
-  pub listed : (held : Base) → Holds (bytes_of items) held → HasListed (bytes_of items) p (base_of old) → HasListed (bytes_of items) q (base_of new)
+  pub listed : (held : Base) → Holds (bytes_of items) held → HasListed (bytes_of items) p (base_of old)
+      → HasListed (bytes_of items) q (base_of new)
   pub counts : (base_of new).counts ≡ (base_of old).counts
   pub relations : relations_of new ≡ relations_of old
   pub counters : length (counters_of new) ≡ length (counters_of old)

@@ -1,5 +1,6 @@
 -- What a recovery makes of a device.
 use Rattle.std.specs.Prelude.{◌≡◌, ◌≢◌, ◌⊎◌, ◌<◌, ℕ, Bool, List, Result, Err, IfErr, IfOk, length}
+use Rattle.mt_disk.specs.declared.device.Device.{Ghosts}
 use Rattle.mt_base.specs.declared.refusal.Refusal.{Refusal}
 use Rattle.mt_base.specs.declared.refusal.Refusal.TheVariants.{LogFull}
 use Rattle.mt_frame.specs.declared.records.Record.{Record}
@@ -7,9 +8,9 @@ use Rattle.mt_frame.specs.declared.slots.MasterSlot.{MasterSlot}
 use Rattle.mt_disk.specs.Disk.{LeavesOnly}
 use Rattle.mt_log.specs.Masters.{IsRuling}
 use Rattle.mt_log.specs.NextSlot.{next_slot}
-use Rattle.mt_log.specs.Quiet.{OnlyReads}
+use Rattle.mt_log.specs.Quiet.{OnlyReads, OnlyReadsOrSyncs}
 use Rattle.mt_model.specs.Model.{Base}
-use Rattle.mt_replay.specs.Checks.{AreChecked}
+use Rattle.mt_page_rules.specs.Checks.{AreChecked}
 use Rattle.mt_replay.specs.Refused.{BreaksFormat, IsCause, IsReplayed}
 use Rattle.mt_replay.specs.Stands.{CanRestart, ShowsBase}
 use Rattle.mt_restart.specs.Beside.{IsBeside}
@@ -48,19 +49,19 @@ pub record CannotTurn (c : List ℕ) : Type 0 where
 
 -- The log has turned over: the next area rules, with images of some pages and no other record, and each page is in
 -- its slot.
-pub record IsRecovered {D : Type 0} (seen : D → List ℕ) (may_leave : D → List ℕ → Type 0) (frames : ℕ) (device : D) (r : Recovered) : Type 0 where
+pub record IsRecovered {D : Type 0} (g : Ghosts D) (frames : ℕ) (device : D) (r : Recovered) : Type 0 where
   pub ruling : MasterSlot
   pub next : r.ruling ≡ next_slot ruling
   pub lost : List Bool
   pub count : length r.restored.pages.items ≡ ruling.pages
   pub checked : AreChecked r.restored.pages.items
   pub images : AreImagesOf r.restored.pages.items lost r.images.items
-  pub turned : HasTurned seen may_leave ruling r.restored.pages.items r.images.items device r.log
+  pub turned : HasTurned g ruling r.restored.pages.items r.images.items device r.log
   pub beside : IsBeside r.restored.pages.items frames r.beside
 
 -- what a crash might have left before, or what represents this base
-abbrev pub StandsStill : {D : Type 0} → (D → List ℕ → Type 0) → ℕ → ℕ → Base → D → List ℕ → Type 0
-StandsStill may_leave relations counters b device c = may_leave device c ⊎ CanRestart relations counters c b
+abbrev pub StandsStill : {D : Type 0} → Ghosts D → ℕ → ℕ → Base → D → List ℕ → Type 0
+StandsStill g relations counters b device c = g.may_leave device c ⊎ CanRestart relations counters c b
 
 -- Why these bytes are refused, in a call in which the device failed or did not: that a rule of their formats is
 -- broken, that the log cannot turn over, or no reason of theirs.
@@ -69,26 +70,32 @@ IsCauseToStop c failed why = IsCause BreaksFormat c failed why ⊎ ((why ≡ Log
 
 -- What a recovery needs is found, with pages that show the base for which the bytes stand; or the cause is reported.
 -- The device is only read.
-pub record FindsAll {D : Type 0} (seen : D → List ℕ) (may_leave : D → List ℕ → Type 0) (moment : D → ℕ) (left_since : D → ℕ → List ℕ → Type 0) (failures : D → ℕ) (frames : ℕ) (d e : D) (r : Result Findings Refusal) : Type 0 where
-  pub found : IfOk r (IsFound (seen d) frames)
-  pub shows : (relations counters : ℕ) (b : Base) → CanRestart relations counters (seen d) b → IfOk r (λ found. ShowsBase relations counters found.restored.pages.items b)
-  pub no_other_refusal : (relations counters : ℕ) (b : Base) → CanRestart relations counters (seen d) b → IfErr r (λ why. (why ≡ Refusal.NoMemory) ⊎ ((why ≡ Refusal.DeviceFailed) ⊎ (why ≡ Refusal.LogFull)))
-  pub reads : OnlyReads seen may_leave moment left_since d e
-  pub cause : IfErr r (IsCauseToStop (seen d) (failures d < failures e))
-  pub quiet : (r ≡ Err Refusal.DeviceFailed → ⊥) → failures e ≡ failures d
+pub record FindsAll {D : Type 0} (g : Ghosts D) (frames : ℕ) (d e : D) (r : Result Findings Refusal) : Type 0 where
+  pub found : IfOk r (IsFound (g.seen d) frames)
+  pub shows : (relations counters : ℕ) (b : Base) → CanRestart relations counters (g.seen d) b
+      → IfOk r (λ found. ShowsBase relations counters found.restored.pages.items b)
+  pub no_other_refusal : (relations counters : ℕ) (b : Base) → CanRestart relations counters (g.seen d) b
+      → IfErr r (λ why. (why ≡ Refusal.NoMemory) ⊎ ((why ≡ Refusal.DeviceFailed) ⊎ (why ≡ Refusal.LogFull)))
+  pub reads : OnlyReads g d e
+  pub cause : IfErr r (IsCauseToStop (g.seen d) (g.faults d < g.faults e))
+  pub quiet : (r ≡ Err Refusal.DeviceFailed → ⊥) → g.faults e ≡ g.faults d
 
 -- The log has turned over once, with pages that show the base for which the bytes stood; or the cause is reported.
 -- All memory is taken before the first write. A crash leaves what represents that base.
-pub record Recovers {D : Type 0} (seen : D → List ℕ) (may_leave : D → List ℕ → Type 0) (moment : D → ℕ) (left_since : D → ℕ → List ℕ → Type 0) (failures : D → ℕ) (frames : ℕ) (d e : D) (r : Result Recovered Refusal) : Type 0 where
-  pub recovered : IfOk r (IsRecovered seen may_leave frames e)
-  pub restored : IfOk r (λ recovered. AreRestored (seen d) recovered.restored.pages.items)
-  pub shows : (relations counters : ℕ) (b : Base) → CanRestart relations counters (seen d) b → IfOk r (λ recovered. ShowsBase relations counters recovered.restored.pages.items b)
-  pub no_other_refusal : (relations counters : ℕ) (b : Base) → CanRestart relations counters (seen d) b → IfErr r (λ why. (why ≡ Refusal.NoMemory) ⊎ ((why ≡ Refusal.DeviceFailed) ⊎ (why ≡ Refusal.LogFull)))
-  pub next : (slot : MasterSlot) → IsRuling (seen d) slot → IfOk r (λ recovered. recovered.ruling ≡ next_slot slot)
+pub record Recovers {D : Type 0} (g : Ghosts D) (frames : ℕ) (d e : D) (r : Result Recovered Refusal) : Type 0 where
+  pub recovered : IfOk r (IsRecovered g frames e)
+  pub restored : IfOk r (λ recovered. AreRestored (g.seen d) recovered.restored.pages.items)
+  pub shows : (relations counters : ℕ) (b : Base) → CanRestart relations counters (g.seen d) b
+      → IfOk r (λ recovered. ShowsBase relations counters recovered.restored.pages.items b)
+  pub no_other_refusal : (relations counters : ℕ) (b : Base) → CanRestart relations counters (g.seen d) b
+      → IfErr r (λ why. (why ≡ Refusal.NoMemory) ⊎ ((why ≡ Refusal.DeviceFailed) ⊎ (why ≡ Refusal.LogFull)))
+  pub next : (slot : MasterSlot) → IsRuling (g.seen d) slot → IfOk r (λ recovered. recovered.ruling ≡ next_slot slot)
   -- whenever a crash comes meanwhile
-  pub moments : (relations counters : ℕ) (b : Base) → CanRestart relations counters (seen d) b → LeavesOnly moment left_since d e (StandsStill may_leave relations counters b d)
+  pub moments : (relations counters : ℕ) (b : Base) → CanRestart relations counters (g.seen d) b
+      → LeavesOnly g.moment g.left_since d e (StandsStill g relations counters b d)
   -- at the end, unless the device failed
-  pub settled : (relations counters : ℕ) (b : Base) → CanRestart relations counters (seen d) b → r ≢ Err Refusal.DeviceFailed → (c : List ℕ) → may_leave e c → CanRestart relations counters c b
-  pub reads : IfErr r (λ why. (why ≡ Refusal.DeviceFailed → ⊥) → OnlyReads seen may_leave moment left_since d e)
-  pub cause : IfErr r (IsCauseToStop (seen d) (failures d < failures e))
-  pub quiet : (r ≡ Err Refusal.DeviceFailed → ⊥) → failures e ≡ failures d
+  pub settled : (relations counters : ℕ) (b : Base) → CanRestart relations counters (g.seen d) b
+      → r ≢ Err Refusal.DeviceFailed → (c : List ℕ) → g.may_leave e c → CanRestart relations counters c b
+  pub reads : IfErr r (λ why. (why ≡ Refusal.DeviceFailed → ⊥) → OnlyReadsOrSyncs g d e)
+  pub cause : IfErr r (IsCauseToStop (g.seen d) (g.faults d < g.faults e))
+  pub quiet : (r ≡ Err Refusal.DeviceFailed → ⊥) → g.faults e ≡ g.faults d

@@ -12,25 +12,25 @@ use Rattle.mt_txn.specs.Shown.{Restarts, Shows, kernel_device}
 use Rattle.mt_txn.specs.declared.kernel.Kernel.{Kernel}
 
 -- It has so many relations and counters, and begins on this base: nothing has happened yet, and it can be restarted.
-pub record IsOpened {D : Type 0} {g : Ghosts D} (seen : D → List ℕ) (may_leave : D → List ℕ → Type 0) (relations counters : ℕ) (b : Base) (k : Kernel D g) : Type 0 where
+pub record IsOpened {D : Type 0} {g : Ghosts D} (relations counters : ℕ) (b : Base) (k : Kernel D g) : Type 0 where
   pub relations_are : k.relations ≡ relations
   pub counters_are : k.counters ≡ counters
-  pub shows : Shows seen may_leave b (start b) k
-  pub restarts : Restarts seen may_leave b k
+  pub shows : Shows b (start b) k
+  pub restarts : Restarts b k
 
 -- It begins on this base, and on each that has the same rows and the same counters, as many as it has.
-pub record BeginsOn {D : Type 0} {g : Ghosts D} (seen : D → List ℕ) (may_leave : D → List ℕ → Type 0) (b : Base) (k : Kernel D g) : Type 0 where
-  pub opened : IsOpened seen may_leave k.relations k.counters b k
-  pub same : (m : Base) → IsSame k.counters m b → IsBase m → IsOpened seen may_leave k.relations k.counters m k
+pub record BeginsOn {D : Type 0} {g : Ghosts D} (b : Base) (k : Kernel D g) : Type 0 where
+  pub opened : IsOpened k.relations k.counters b k
+  pub same : (m : Base) → IsSame k.counters m b → IsBase m → IsOpened k.relations k.counters m k
 
 -- It begins on the pages that a restart in memory makes of these bytes: on each base that they hold, with as many
 -- relations and counters as page 2 names.
-pub record BeginsOnRestored {D : Type 0} {g : Ghosts D} (seen : D → List ℕ) (may_leave : D → List ℕ → Type 0) (c : List ℕ) (k : Kernel D g) : Type 0 where
+pub record BeginsOnRestored {D : Type 0} {g : Ghosts D} (c : List ℕ) (k : Kernel D g) : Type 0 where
   pub items : List (List ℕ)
   pub restored : AreRestored c items
   pub relations : k.relations ≡ get_or (bytes_of items 2) 0 0
   pub counters : k.counters ≡ get_or (bytes_of items 2) 1 0
-  pub opened : (b : Base) → Holds (bytes_of items) b → IsBase b → IsOpened seen may_leave k.relations k.counters b k
+  pub opened : (b : Base) → Holds (bytes_of items) b → IsBase b → IsOpened k.relations k.counters b k
 
 -- the device, in the kernel or handed back
 abbrev pub device_of : {D : Type 0} → {g : Ghosts D} → Result (Kernel D g) (Refusal × D) → D

@@ -9,20 +9,20 @@ use Rattle.mt_log.specs.Words.{appended, durable}
 use Rattle.mt_live.specs.Machine.{State}
 use Rattle.mt_model.specs.Model.{Base}
 use Rattle.mt_op.specs.Begun.{AreImages}
-use Rattle.mt_txn.specs.Causes.{survey_cause}
 use Rattle.mt_txn.specs.Shown.{LeavesFound, Restarts, SameSchema, Stays, StaysRestarting, Shows, is_failed, kernel_device, kernel_log, kernel_ruling}
 use Rattle.mt_txn.specs.Turned.{HasNobody, IsForced}
 use Rattle.mt_txn.specs.declared.kernel.Kernel.{Kernel}
+use Rattle.mt_txn.specs.Words.{kernel_survey_cause}
 use Rattle.mt_restart.specs.Recovered.{CannotTurn}
 use Rattle.mt_restart.specs.declared.standing.Standing.{Standing}
 use Rattle.mt_restart.specs.declared.standing.Standing.TheVariants.{Stands, Ended}
 
 -- in the state in which it was, and found so by a restart whenever a crash came
-pub record Keeps {D : Type 0} {g : Ghosts D} (seen : D → List ℕ) (may_leave : D → List ℕ → Type 0) (moment : D → ℕ) (left_since : D → ℕ → List ℕ → Type 0) (k n : Kernel D g) : Type 0 where
-  pub state : Stays seen may_leave k n
-  pub restarts : StaysRestarting seen may_leave k n
+pub record Keeps {D : Type 0} {g : Ghosts D} (k n : Kernel D g) : Type 0 where
+  pub state : Stays k n
+  pub restarts : StaysRestarting k n
   pub schema : SameSchema k n
-  pub found : LeavesFound seen may_leave moment left_since k n
+  pub found : LeavesFound k n
 
 -- what was durable is so still, and more may be
 abbrev pub Grows : {D : Type 0} {g : Ghosts D} → Kernel D g → Kernel D g → Type 0
@@ -40,22 +40,22 @@ pub record IsForcedOut {D : Type 0} {g : Ghosts D} (k n : Kernel D g) : Type 0 w
 
 -- why nothing is done with a kernel: its device has failed, or a transaction lives
 abbrev pub early_cause : {D : Type 0} {g : Ghosts D} → Kernel D g → Option Refusal
-early_cause k = survey_cause (is_failed k) k.core
+early_cause k = kernel_survey_cause k
 
 -- Why the kernel is left after that: its device failed in the force, and each later call is refused with 2; or memory
 -- was wanting, or its log cannot turn over, and it goes on.
-abbrev pub IsKeptCause : {D : Type 0} {g : Ghosts D} → (D → List ℕ) → Kernel D g → Refusal → Type 0
-IsKeptCause seen n DeviceFailed = is_failed n ≡ true
-IsKeptCause seen n NoMemory = is_failed n ≡ false
-IsKeptCause seen n LogFull = (is_failed n ≡ false) × CannotTurn (seen (kernel_device n))
-IsKeptCause seen n _ = ⊥
+abbrev pub IsKeptCause : {D : Type 0} {g : Ghosts D} → Kernel D g → Refusal → Type 0
+IsKeptCause n DeviceFailed = is_failed n ≡ true
+IsKeptCause n NoMemory = is_failed n ≡ false
+IsKeptCause {g = g} n LogFull = (is_failed n ≡ false) × CannotTurn (g.seen (kernel_device n))
+IsKeptCause n _ = ⊥
 
 -- ---- what comes of a rotation
 
 -- whatever state the kernel was in, and whatever base it began on, the other goes on so
-pub record GoesOver {D : Type 0} {g : Ghosts D} (seen : D → List ℕ) (may_leave : D → List ℕ → Type 0) (k n : Kernel D g) : Type 0 where
-  pub state : (first : Base) (s : State) → Restarts seen may_leave first k → Shows seen may_leave first s k → Shows seen may_leave first s n
-  pub restarts : StaysRestarting seen may_leave k n
+pub record GoesOver {D : Type 0} {g : Ghosts D} (k n : Kernel D g) : Type 0 where
+  pub state : (first : Base) (s : State) → Restarts first k → Shows first s k → Shows first s n
+  pub restarts : StaysRestarting k n
   pub schema : SameSchema k n
 
 -- the slot that rules the device of n is the next one after that of k, with an epoch one higher
@@ -64,29 +64,29 @@ HasTurnedOnce k n = kernel_ruling n ≡ next_slot (kernel_ruling k)
 
 -- The log was turned over, once. The laws see nothing of it. The log has no record but the images that its area began
 -- with, and the device failed in no call.
-pub record IsRotated {D : Type 0} {g : Ghosts D} (seen : D → List ℕ) (may_leave : D → List ℕ → Type 0) (faults : D → ℕ) (k n : Kernel D g) : Type 0 where
+pub record IsRotated {D : Type 0} {g : Ghosts D} (k n : Kernel D g) : Type 0 where
   pub may : early_cause k ≡ None
-  pub over : GoesOver seen may_leave k n
+  pub over : GoesOver k n
   pub begun : AreImages (appended (kernel_log n))
   pub well : is_failed n ≡ false
   pub once : HasTurnedOnce k n
-  pub quiet : faults (kernel_device n) ≡ faults (kernel_device k)
+  pub quiet : g.faults (kernel_device n) ≡ g.faults (kernel_device k)
 
 -- It was not, for this cause, and the kernel is left in its state; as it was, if nothing was done. The device failed in
 -- no call unless the cause is 2.
-pub record IsLeft {D : Type 0} {g : Ghosts D} (seen : D → List ℕ) (may_leave : D → List ℕ → Type 0) (moment : D → ℕ) (left_since : D → ℕ → List ℕ → Type 0) (faults : D → ℕ) (k : Kernel D g) (why : Refusal) (n : Kernel D g) : Type 0 where
-  pub keeps : Keeps seen may_leave moment left_since k n
-  pub cause : (early_cause k ≡ Some why) × (n ≡ k) ⊎ ((early_cause k ≡ None) × IsKeptCause seen n why)
-  pub quiet : (why ≡ DeviceFailed → ⊥) → faults (kernel_device n) ≡ faults (kernel_device k)
+pub record IsLeft {D : Type 0} {g : Ghosts D} (k : Kernel D g) (why : Refusal) (n : Kernel D g) : Type 0 where
+  pub keeps : Keeps k n
+  pub cause : (early_cause k ≡ Some why) × (n ≡ k) ⊎ ((early_cause k ≡ None) × IsKeptCause n why)
+  pub quiet : (why ≡ DeviceFailed → ⊥) → g.faults (kernel_device n) ≡ g.faults (kernel_device k)
 
 -- The device failed while it was recovered, and is left alone.
-pub record IsEnded {D : Type 0} {g : Ghosts D} (faults : D → ℕ) (k : Kernel D g) (device : D) : Type 0 where
+pub record IsEnded {D : Type 0} {g : Ghosts D} (k : Kernel D g) (device : D) : Type 0 where
   pub may : early_cause k ≡ None
-  pub failed : faults (kernel_device k) < faults device
+  pub failed : g.faults (kernel_device k) < g.faults device
 
 -- what stands after a rotation, by its answer
-abbrev pub Rotates : {D : Type 0} {g : Ghosts D} → (D → List ℕ) → (D → List ℕ → Type 0) → (D → ℕ) → (D → ℕ → List ℕ → Type 0) → (D → ℕ) → Kernel D g → Standing D g → Result (Unit {0}) Refusal → Type 0
-Rotates seen may_leave moment left_since faults k (Stands n) (Ok u) = IsRotated seen may_leave faults k n
-Rotates seen may_leave moment left_since faults k (Stands n) (Err why) = IsLeft seen may_leave moment left_since faults k why n
-Rotates seen may_leave moment left_since faults k (Ended device) (Ok u) = ⊥
-Rotates seen may_leave moment left_since faults k (Ended device) (Err why) = (why ≡ DeviceFailed) × IsEnded faults k device
+abbrev pub Rotates : {D : Type 0} {g : Ghosts D} → Kernel D g → Standing D g → Result (Unit {0}) Refusal → Type 0
+Rotates k (Stands n) (Ok u) = IsRotated k n
+Rotates k (Stands n) (Err why) = IsLeft k why n
+Rotates k (Ended device) (Ok u) = ⊥
+Rotates k (Ended device) (Err why) = (why ≡ DeviceFailed) × IsEnded k device

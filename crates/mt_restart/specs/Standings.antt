@@ -16,6 +16,6 @@ HasFrames frames (Stands k) = kernel_frames k ≡ frames
 HasFrames frames (Ended device) = ⊤
 
 -- If a kernel stands, a restart finds what some of its first commits lead to, whatever a crash leaves of this device.
-abbrev pub IsFoundAfter : {D : Type 0} → {g : Ghosts D} → (D → List ℕ) → (D → List ℕ → Type 0) → Standing D g → D → Type 0
-IsFoundAfter seen may_leave (Stands k) device = IsFoundIn seen may_leave k device
-IsFoundAfter seen may_leave (Ended _) device = ⊤
+abbrev pub IsFoundAfter : {D : Type 0} → {g : Ghosts D} → Standing D g → D → Type 0
+IsFoundAfter (Stands k) device = IsFoundIn k device
+IsFoundAfter (Ended _) device = ⊤

@@ -47,7 +47,7 @@ fn begin_next<D: Device>(
     requires marked { (batches : List (List Record))
         × AreMarked (D.seen device.old) ruling.now pages.now batches marks.now }
     requires prepared { IsPrepared ruling.now marks.now.images.items prepared }
-    ensures begun { IfOk result (HasBegun D.seen D.may_leave ruling.now pages.now marks.now device.new) }
+    ensures begun { IfOk result (HasBegun D.Device ruling.now pages.now marks.now device.new) }
     ensures moments { (opening : PageBytes) (batches : List (List Record))
         → IsReadAs (D.seen device.old) ruling.now opening batches
         → LeavesOnly D.moment D.left_since device.old device.new (λ c. IsReadAs c ruling.now opening batches) }
@@ -74,7 +74,7 @@ pub(crate) fn turn<D: Device>(
         × AreMarked (D.seen device.old) ruling.now pages.now batches marks.now }
     requires turns { ruling.now.epoch < 2 ^ 63 }
     requires prepared { IsPrepared ruling.now marks.now.images.items prepared }
-    ensures turned { IfOk result (HasTurned D.seen D.may_leave ruling.now pages.now marks.now.images.items device.new) }
+    ensures turned { IfOk result (HasTurned D.Device ruling.now pages.now marks.now.images.items device.new) }
     ensures moments { (opening : PageBytes) (batches : List (List Record))
         → IsReadAs (D.seen device.old) ruling.now opening batches
         → LeavesOnly D.moment D.left_since device.old device.new

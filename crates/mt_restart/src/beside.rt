@@ -3,7 +3,7 @@
 ghost use Rattle.std.specs.Prelude.{◌≡◌, ◌≤◌, length, IfOk, IfErr};
 ghost use Rattle.mt_base.specs.declared.limits.TheConstants.{MAX_PAGES};
 ghost use Rattle.mt_base.specs.declared.refusal.Refusal.{Refusal};
-ghost use Rattle.mt_replay.specs.Checks.{AreChecked};
+ghost use Rattle.mt_page_rules.specs.Checks.{AreChecked};
 ghost use Rattle.mt_restart.specs.Beside.{IsBeside};
 
 use mt_base::Refusal;

@@ -3,12 +3,12 @@
 ghost use Rattle.std.specs.Prelude.{◌≡◌, ◌⊎◌, ◌<◌, ◌≤◌, ◌+◌, ℕ, List, length, IfErr, IfOk, OnOk, Err};
 ghost use Rattle.mt_base.specs.declared.limits.TheConstants.{MAX_PAGES};
 ghost use Rattle.mt_base.specs.declared.refusal.Refusal.{Refusal};
-ghost use Rattle.mt_disk.specs.Disk.{LeavesOnly};
+ghost use Rattle.mt_disk.specs.Disk.{LeavesOnly, LeavesTheSame};
 ghost use Rattle.mt_index.specs.Checks.{bytes_of};
 ghost use Rattle.mt_log.specs.Masters.{IsUnformatted};
 ghost use Rattle.mt_model.specs.Model.{Base as ModelBase};
 ghost use Rattle.mt_model.specs.Views.{relations_of};
-ghost use Rattle.mt_replay.specs.Checks.{AreChecked};
+ghost use Rattle.mt_page_rules.specs.Checks.{AreChecked};
 ghost use Rattle.mt_replay.specs.Refused.{BreaksFormat, IsCause};
 ghost use Rattle.mt_replay.specs.Stands.{CanRestart};
 ghost use Rattle.mt_steps.specs.Plans.{IsGood, free_pages};
@@ -113,7 +113,7 @@ pub fn inspect<D: Device>(alloc: Global, device: &mut D) -> Result<Survey, Refus
     ensures unformatted { IsUnformatted (D.seen device.old)
         → IfErr result (λ why. (why ≡ Refusal.NotFormatted) ⊎ (why ≡ Refusal.DeviceFailed)) }
     ensures seen { D.seen device.new ≡ D.seen device.old }
-    ensures crash { (c : List ℕ) → D.may_leave device.new c → D.may_leave device.old c }
+    ensures crash { LeavesTheSame (D.may_leave device.old) (D.may_leave device.new) }
     ensures moments { LeavesOnly D.moment D.left_since device.old device.new (D.may_leave device.old) }
     ensures quiet { (result ≡ Err Refusal.DeviceFailed → ⊥) → D.faults device.new ≡ D.faults device.old }
 {

@@ -1,7 +1,7 @@
 // The report on a device's log, by its bytes. If it is asked for, the same reading finds that the pages break no rule.
 ghost use Rattle.std.specs.Prelude.{◌≡◌, ◌⊎◌, ◌<◌, ℕ, List, IfOk, IfErr, Err};
 ghost use Rattle.mt_base.specs.declared.refusal.Refusal.{Refusal};
-ghost use Rattle.mt_disk.specs.Disk.{LeavesOnly};
+ghost use Rattle.mt_disk.specs.Disk.{LeavesOnly, LeavesTheSame};
 ghost use Rattle.mt_model.specs.Model.{Base};
 ghost use Rattle.mt_log.specs.Masters.{IsUnformatted};
 ghost use Rattle.mt_replay.specs.Refused.{BreaksFormat, BreaksLog, IsCause, IsLog};
@@ -45,7 +45,7 @@ pub fn report<D: Device>(alloc: Global, device: &mut D) -> Result<Report, Refusa
     ensures unformatted { IsUnformatted (D.seen device.old)
         → IfErr result (λ why. (why ≡ Refusal.NotFormatted) ⊎ (why ≡ Refusal.DeviceFailed)) }
     ensures seen { D.seen device.new ≡ D.seen device.old }
-    ensures crash { (c : List ℕ) → D.may_leave device.new c → D.may_leave device.old c }
+    ensures crash { LeavesTheSame (D.may_leave device.old) (D.may_leave device.new) }
     ensures moments { LeavesOnly D.moment D.left_since device.old device.new (D.may_leave device.old) }
     ensures quiet { (result ≡ Err Refusal.DeviceFailed → ⊥) → D.faults device.new ≡ D.faults device.old }
 {
@@ -73,7 +73,7 @@ pub fn check<D: Device>(alloc: Global, device: &mut D) -> Result<Report, Refusal
     ensures unformatted { IsUnformatted (D.seen device.old)
         → IfErr result (λ why. (why ≡ Refusal.NotFormatted) ⊎ (why ≡ Refusal.DeviceFailed)) }
     ensures seen { D.seen device.new ≡ D.seen device.old }
-    ensures crash { (c : List ℕ) → D.may_leave device.new c → D.may_leave device.old c }
+    ensures crash { LeavesTheSame (D.may_leave device.old) (D.may_leave device.new) }
     ensures moments { LeavesOnly D.moment D.left_since device.old device.new (D.may_leave device.old) }
     ensures quiet { (result ≡ Err Refusal.DeviceFailed → ⊥) → D.faults device.new ≡ D.faults device.old }
 {

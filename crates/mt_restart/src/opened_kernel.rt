@@ -17,7 +17,7 @@ ghost use Rattle.mt_format.specs.Formats.{IsFormattedAs};
 ghost use Rattle.mt_restart.specs.Recovered.{IsCauseToStop, IsRecovered, StandsStill};
 ghost use Rattle.mt_restart.specs.Resumed.{BeginsOn, BeginsOnRestored, IsOpened, device_of};
 ghost use Rattle.mt_format.specs.declared.schema.Schema.{Schema};
-ghost use Rattle.mt_op.specs.Operations.{operation_frames};
+ghost use Rattle.mt_op.specs.Operations.{operation_frames, operation_log, operation_device, operation_ruling};
 
 use crate::beside::Beside;
 use crate::recovery::{Recovered, recover};
@@ -36,14 +36,14 @@ pub(crate) fn parts_over<D: Device + Drop>(
     device: D,
     recovered: Recovered,
 ) -> (Operations<D>, Escrow)
-    requires recovered { (frames : ℕ) × IsRecovered D.seen D.may_leave frames device recovered }
+    requires recovered { (frames : ℕ) × IsRecovered D.Device frames device recovered }
     ensures fresh { IsFresh result.0 result.1 }
     ensures opens { (b : Base) → Holds (bytes_of recovered.restored.pages.items) b → IsBase b
-        → Opens D.seen D.may_leave result.0 result.1 recovered.beside.relations recovered.beside.counters b }
-    ensures device { result.0.store.device ≡ device }
-    ensures ruling { result.0.store.ruling ≡ recovered.ruling }
-    ensures frames { (n : ℕ) → IsRecovered D.seen D.may_leave n device recovered → operation_frames result.0 ≡ n }
-    ensures well { has_failed result.0.store.log ≡ false }
+        → Opens D.Device result.0 result.1 recovered.beside.relations recovered.beside.counters b }
+    ensures device { operation_device result.0 ≡ device }
+    ensures ruling { operation_ruling result.0 ≡ recovered.ruling }
+    ensures frames { (n : ℕ) → IsRecovered D.Device n device recovered → operation_frames result.0 ≡ n }
+    ensures well { has_failed (operation_log result.0) ≡ false }
 {
     let Recovered {
         log,
@@ -65,12 +65,12 @@ pub(crate) fn parts_over<D: Device + Drop>(
 
 // A kernel over a device that was recovered. It takes no memory.
 fn kernel_over<D: Device + Drop>(alloc: Global, device: D, recovered: Recovered) -> Kernel<D>
-    requires recovered { (frames : ℕ) × IsRecovered D.seen D.may_leave frames device recovered }
+    requires recovered { (frames : ℕ) × IsRecovered D.Device frames device recovered }
     ensures opened { (b : Base) → Holds (bytes_of recovered.restored.pages.items) b → IsBase b
-        → IsOpened D.seen D.may_leave recovered.beside.relations recovered.beside.counters b result }
+        → IsOpened recovered.beside.relations recovered.beside.counters b result }
     ensures device { kernel_device result ≡ device }
     ensures ruling { kernel_ruling result ≡ recovered.ruling }
-    ensures frames { (n : ℕ) → IsRecovered D.seen D.may_leave n device recovered → kernel_frames result ≡ n }
+    ensures frames { (n : ℕ) → IsRecovered D.Device n device recovered → kernel_frames result ≡ n }
     ensures well { is_failed result ≡ false }
 {
     let relations = recovered.beside.relations;
@@ -106,16 +106,16 @@ pub fn open<D: Device + Drop>(
     frames: usize,
 ) -> Result<Kernel<D>, (Refusal, D)>
     ensures opened { (relations counters : ℕ) (b : Base) → CanRestart relations counters (D.seen device) b
-        → IfOk result (IsOpened D.seen D.may_leave relations counters b) }
+        → IfOk result (IsOpened relations counters b) }
     // On any bytes it is a kernel on some base.
     ensures begins { IfOk result (λ kernel. (b : Base)
-        × IsOpened D.seen D.may_leave kernel.relations kernel.counters b kernel) }
+        × IsOpened kernel.relations kernel.counters b kernel) }
     // It is the base that the passes of a restart leave in memory.
-    ensures restored { IfOk result (BeginsOnRestored D.seen D.may_leave (D.seen device)) }
+    ensures restored { IfOk result (BeginsOnRestored (D.seen device)) }
     ensures well { IfOk result (λ kernel. is_failed kernel ≡ false) }
     ensures frames { IfOk result (λ kernel. kernel_frames kernel ≡ frames) }
     // What lies after its last counter is open.
-    ensures counted { IfOk result (λ kernel. (b : Base) × BeginsOn D.seen D.may_leave b kernel) }
+    ensures counted { IfOk result (λ kernel. (b : Base) × BeginsOn b kernel) }
     ensures no_other_refusal { (relations counters : ℕ) (b : Base) → CanRestart relations counters (D.seen device) b
         → IfErr result (λ gone. (gone.0 ≡ Refusal.NoMemory)
         ⊎ ((gone.0 ≡ Refusal.DeviceFailed) ⊎ (gone.0 ≡ Refusal.LogFull))) }
@@ -128,7 +128,7 @@ pub fn open<D: Device + Drop>(
     // Whenever a crash comes in this call.
     ensures moments { (relations counters : ℕ) (b : Base) → CanRestart relations counters (D.seen device) b
         → LeavesOnly D.moment D.left_since device (device_of result)
-        (StandsStill D.may_leave relations counters b device) }
+        (StandsStill D.Device relations counters b device) }
     // Once it has ended, unless the device failed.
     ensures stands { (relations counters : ℕ) (b : Base) → CanRestart relations counters (D.seen device) b
         → IfOk result (λ kernel. (c : List ℕ) → D.may_leave (kernel_device kernel) c

@@ -39,7 +39,7 @@ pub(crate) struct Recovered {
 
 // What a recovery finds on a device, and takes in memory for what it will write.
 fn find<D: Device>(alloc: Global, device: &mut D, frames: usize) -> Result<Findings, Refusal>
-    ensures { FindsAll D.seen D.may_leave D.moment D.left_since D.faults frames device.old device.new result }
+    ensures { FindsAll D.Device frames device.old device.new result }
 {
     let replayed = replay(alloc, device)?;
     let images = images_of(alloc, &replayed.restored.pages, replayed.changed())?;
@@ -84,7 +84,7 @@ pub(crate) fn recover<D: Device>(
     device: &mut D,
     frames: usize,
 ) -> Result<Recovered, Refusal>
-    ensures { Recovers D.seen D.may_leave D.moment D.left_since D.faults frames device.old device.new result }
+    ensures { Recovers D.Device frames device.old device.new result }
 {
     slots_are_read_back();
     only_own_pages_matter();

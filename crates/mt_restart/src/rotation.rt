@@ -2,9 +2,9 @@
 // with the same book goes on over the other area. mt_locked, mt_alone and mt_world call it.
 ghost use Rattle.std.specs.Prelude.{◌≡◌, false, IfErr, IsOk, OnOk};
 ghost use Rattle.mt_model.specs.Model.{Base};
-ghost use Rattle.mt_txn.specs.Restarted.{FindsMeanwhile};
 ghost use Rattle.mt_txn.specs.Shown.{Restarts, TellsEachFault, is_failed};
 ghost use Rattle.mt_txn.specs.Turned.{HasNobody, IsForced};
+ghost use Rattle.mt_txn.specs.Words.{FindsUntil};
 ghost use Rattle.mt_restart.specs.Rotated.{IsForcedOut, IsKeptCause, Keeps, Rotates};
 ghost use Rattle.mt_restart.specs.Standings.{HasFrames, device_at};
 
@@ -21,10 +21,10 @@ use std::alloc::Global;
 fn force_out<D: Device>(kernel: &mut Kernel<D>) -> Result<(), Refusal>
     requires nobody { HasNobody kernel.old }
     requires well { is_failed kernel.old ≡ false }
-    ensures keeps { Keeps D.seen D.may_leave D.moment D.left_since kernel.old kernel.new }
+    ensures keeps { Keeps kernel.old kernel.new }
     ensures forced { OnOk result (IsForcedOut kernel.old kernel.new) }
-    ensures cause { IfErr result (IsKeptCause D.seen kernel.new) }
-    ensures quiet { TellsEachFault D.faults kernel.old result kernel.new }
+    ensures cause { IfErr result (IsKeptCause kernel.new) }
+    ensures quiet { TellsEachFault kernel.old result kernel.new }
 {
     for _step in 0..FORCE_STEPS {
         if let KernelForced::Idle = kernel.force_step()? {
@@ -44,10 +44,10 @@ fn turn_over<D: Device + Drop>(
     requires nobody { HasNobody kernel }
     requires forced { IsForced kernel }
     requires well { is_failed kernel ≡ false }
-    ensures rotated { Rotates D.seen D.may_leave D.moment D.left_since D.faults kernel result.0 result.1 }
+    ensures rotated { Rotates kernel result.0 result.1 }
     ensures frames { IsOk result.1 → HasFrames frames result.0 }
-    ensures moments { (first : Base) → Restarts D.seen D.may_leave first kernel
-        → FindsMeanwhile D.moment D.left_since kernel.relations kernel.counters first kernel.core (device_at result.0) }
+    ensures moments { (first : Base) → Restarts first kernel
+        → FindsUntil first kernel (device_at result.0) }
 {
     only_own_pages_matter();
     kernel.rests_on_its_book();
@@ -93,11 +93,11 @@ pub fn rotate<D: Device + Drop>(
     kernel: Kernel<D>,
     frames: usize,
 ) -> (Standing<D>, Result<(), Refusal>)
-    ensures rotated { Rotates D.seen D.may_leave D.moment D.left_since D.faults kernel result.0 result.1 }
+    ensures rotated { Rotates kernel result.0 result.1 }
     ensures frames { IsOk result.1 → HasFrames frames result.0 }
     // Whenever a crash comes in this call.
-    ensures moments { (first : Base) → Restarts D.seen D.may_leave first kernel
-        → FindsMeanwhile D.moment D.left_since kernel.relations kernel.counters first kernel.core (device_at result.0) }
+    ensures moments { (first : Base) → Restarts first kernel
+        → FindsUntil first kernel (device_at result.0) }
 {
     if kernel.has_failed() {
         return (Standing::Stands(kernel), Err(Refusal::DeviceFailed));

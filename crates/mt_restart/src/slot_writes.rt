@@ -19,7 +19,7 @@ pub(crate) fn write_in_place<D: Device>(
     requires count { length marked.now ≡ length pages.now }
     requires slots { MASTER_BYTES + PAGE_BYTES * length pages.now ≤ length (D.seen device.old) }
     requires few { length pages.now ≤ MAX_PAGES }
-    ensures { PutsInPlace D.seen D.may_leave D.moment D.left_since D.faults marked.now pages.now
+    ensures { PutsInPlace D.Device marked.now pages.now
         device.old device.new result }
 {
     for page in 0..pages.len() {
@@ -42,7 +42,7 @@ pub(crate) fn write_and_sync<D: Device>(
     requires count { length marked.now ≡ length pages.now }
     requires slots { MASTER_BYTES + PAGE_BYTES * length pages.now ≤ length (D.seen device.old) }
     requires few { length pages.now ≤ MAX_PAGES }
-    ensures { PutsDurably D.seen D.may_leave D.moment D.left_since D.faults marked.now pages.now
+    ensures { PutsDurably D.Device marked.now pages.now
         device.old device.new result }
 {
     write_in_place(device, pages, marked)?;

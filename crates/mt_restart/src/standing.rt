@@ -19,7 +19,7 @@ impl<D: Device + Drop> Standing<D> {
     /// If a kernel stood, a restart finds what some of its first commits lead to, as after [`Kernel::into_device`].
     pub fn into_device(self) -> D
         ensures device { result ≡ device_at self }
-        ensures found { IsFoundAfter D.seen D.may_leave self result }
+        ensures found { IsFoundAfter self result }
     {
         match self {
             Standing::Stands(kernel) => kernel.into_device(),

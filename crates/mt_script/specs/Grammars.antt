@@ -44,7 +44,8 @@ module _ {L : Type 0} (text : L → List ℕ) (IsIn : L → Type 0) where
   -- The line of this number, counted from 1, is the first that is not in the grammar: those before it
   -- are, and what follows them begins with no line, or follows 100,000.
   pub record IsFirstBad (bytes : List ℕ) (number : ℕ) : Type 0 where
-    pub before : (lines : List L) × (rest : List ℕ) × (bytes ≡ lines_text text lines ++ rest) × All IsIn lines × All IsShort lines × (length lines ≤ MAX_LINES)
+    pub before : (lines : List L) × (rest : List ℕ) × (bytes ≡ lines_text text lines ++ rest) × All IsIn lines
+        × All IsShort lines × (length lines ≤ MAX_LINES)
         × (number ≡ length lines + 1) × (rest ≢ []) × ((BeginsWithLine rest → ⊥) ⊎ (length lines ≡ MAX_LINES))
 
   -- why the lines of these bytes are refused: for want of memory, or for the first bad one

@@ -2,10 +2,15 @@
 use Rattle.std.specs.Prelude.{ℕ, List, ⊤}
 use Rattle.mt_base.specs.declared.refusal.Refusal.{Refusal}
 use Rattle.mt_script.specs.declared.lines.Line.{Line}
+use Rattle.mt_script.specs.declared.reader.Script.{Script}
 use Rattle.mt_script.specs.declared.reader.ScriptFault.{ScriptFault}
 use Rattle.mt_script.specs.declared.reader.ScriptFault.TheVariants.{Input, Refused}
 use Rattle.mt_script.specs.Grammars.{AreLines, AreRefusedFor}
 use Rattle.mt_script.specs.Lines.{line_text, IsInGrammar}
+
+-- the lines of a script
+abbrev pub lines_in : Script → List Line
+lines_in script = script.lines.items
 
 -- the bytes are just these lines
 abbrev pub IsScript : List ℕ → List Line → Type 0

@@ -3,7 +3,7 @@ ghost use Rattle.std.specs.Prelude.{◌≡◌, ◌≢◌, ◌≤◌, ◌+◌, �
 ghost use Rattle.mt_base.specs.declared.limits.TheConstants.{MAX_LINES, MAX_LINE_BYTES};
 ghost use Rattle.mt_base.specs.declared.refusal.Refusal.{Refusal};
 ghost use Rattle.mt_script.specs.Grammars.{AreLines, AreRefusedFor, Gathered};
-ghost use Rattle.mt_script.specs.Scripts.{AreFaultyFor, IsScript, IsFaultOf};
+ghost use Rattle.mt_script.specs.Scripts.{AreFaultyFor, IsScript, IsFaultOf, lines_in};
 
 use crate::grammar::Grammar;
 use crate::lines::{Line, ScriptGrammar, split_at};
@@ -46,14 +46,14 @@ struct Reading<G: Grammar> {
 impl Script {
     /// The script of these lines.
     pub fn new(lines: Vec<Line>) -> Script
-        ensures { result.lines.items ≡ lines.items }
+        ensures { lines_in result ≡ lines.items }
     {
         Script { lines }
     }
 
     /// The lines in order.
     pub fn lines(&self) -> &[Line]
-        ensures { result.now ≡ self.now.lines.items }
+        ensures { result.now ≡ lines_in self.now }
     {
         self.lines.as_slice()
     }

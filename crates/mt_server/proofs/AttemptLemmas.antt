@@ -14,7 +14,7 @@ use Rattle.mt_script.specs.declared.answers.Answer.TheVariants.{Begun, Aborted, 
 use Rattle.mt_script.specs.declared.lines.Line.{Line}
 use Rattle.mt_script.specs.declared.lines.Line.TheVariants as line
 use Rattle.mt_alone.specs.Plays.{Runs, starts, goes_on}
-use Rattle.mt_server.specs.Heard.{Heard, Hears, IsRefusable, LetsGoOn, begins, refuses}
+use Rattle.mt_server.specs.Heard.{Heard, Hears, IsRefusable, begins, refuses}
 use Rattle.mt_server.specs.Hearing.{AreFew, Place, Ending, HasFailed, HasRan, HasServed, IsAt, IsStopped, IsTurned, Reached, Running, Served, Turning, Turns, and_begin, between, entry_of, within}
 use Rattle.mt_server.specs.declared.attempts.Ran.{Ran}
 use Rattle.mt_server.specs.declared.attempts.Ran.TheVariants as ran
@@ -143,7 +143,7 @@ module _ (b : Base) (session : ℕ) where
   }
   run_behind booked pass lines was mid now new (Err stop.Unheard) text u = tt
 
-  pub begin_refused : (booked : List (ℕ × List Call)) (pass new : PassSeen) (lines : List Line) (why : Refusal) (was now : List ℕ) → LetsGoOn why → new ≡ pass → now ≡ was ++ transcript_text (Refused why ∷ [])
+  pub begin_refused : (booked : List (ℕ × List Call)) (pass new : PassSeen) (lines : List Line) (why : Refusal) (was now : List ℕ) → IsRefusable None line.Begin why → new ≡ pass → now ≡ was ++ transcript_text (Refused why ∷ [])
       → HasRan b session (between booked pass) (line.Begin ∷ lines) was now new (ran.Ended 1)
   begin_refused booked pass new lines why was now lets same text =
       (between booked pass, sym same, refl, omega arith, one_served (between booked pass) (between booked pass) line.Begin (Refused why) was now (record { hears = refuses line.Begin why lets; grows = refl }) text)

@@ -162,7 +162,7 @@ some_same u v e = cc e
 
 turn_stood : (b : Base) (session : ℕ) (old : PassSeen) (p : Place) (l : Line) (a : Answer) (h : Heard) (pass : PassSeen) → Stood session old p → Hears p.heard l a h → Grows b session p a pass → Stood session old (record { heard = h; pass = pass })
 turn_stood b session old p _ _ _ pass s (begins none) same = same_stood session old p (Some []) pass same s
-turn_stood b session old p _ _ _ pass s (replies calls op reply live) same = same_stood session old p (Some (calls ++ (op, reply) ∷ [])) pass same s
+turn_stood b session old p _ _ _ pass s (replies calls op reply live sized) same = same_stood session old p (Some (calls ++ (op, reply) ∷ [])) pass same s
 turn_stood b session old p _ _ _ pass s (commits calls place live) (own, opened, x) =
     let same : own ≡ calls = some_same own calls (sym opened ∙ live) in
     more_stood b session old p place calls pass (subst (λ (cs : List Call). Extends b p.pass (entry_of p.pass.number session cs) place pass) same x) s

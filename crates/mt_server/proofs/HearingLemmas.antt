@@ -18,6 +18,7 @@ use Rattle.mt_server.specs.Hearing.{Place, Ending, entry_of, IsAt, IsStopped, Is
 use Rattle.mt_server.specs.declared.line_answers.Stop.{Stop}
 use Rattle.mt_server.specs.declared.line_answers.Stop.TheVariants as stop
 use Rattle.mt_locked.specs.Seen.{PassSeen, Extends, with_call}
+use Rattle.mt_txn.specs.Causes.{size_cause}
 
 -- what is neither 2 nor 14
 pub lets_live : (why : Refusal) → ((holder : ℕ) → why ≡ refusal.Die holder → ⊥) → (why ≡ refusal.DeviceFailed → ⊥) → LetsLive why
@@ -54,8 +55,8 @@ module _ (b : Base) (txn : Entry) (pass : PassSeen) (own : txn.pass ≡ pass.num
       }
   reported_refused l why was now new (Err s) may stopped = stopped
 
-  pub reported_reply : (op : Op) (reply : Reply) (was now : List ℕ) (new : PassSeen) (r : Result (Option Entry) Stop) → Telling (with_call txn op reply) pass was now new (Replied reply) r → Turning b txn pass (line.Call op) was now new r
-  reported_reply op reply was now new (Ok token) (same, stays, text) = λ booked.
+  pub reported_reply : (op : Op) (reply : Reply) (was now : List ℕ) (new : PassSeen) (r : Result (Option Entry) Stop) → size_cause op ≡ None → Telling (with_call txn op reply) pass was now new (Replied reply) r → Turning b txn pass (line.Call op) was now new r
+  reported_reply op reply was now new (Ok token) sized (same, stays, text) = λ booked.
       let calls : List Call = txn.done.calls ++ (op, reply) ∷ [] in
       let end : Place = within booked calls new in
       record {
@@ -64,10 +65,10 @@ module _ (b : Base) (txn : Entry) (pass : PassSeen) (own : txn.pass ≡ pass.num
         at = subst (λ (t : Option Entry). IsAt txn.done.session t end) (sym same) (refl, token_is (with_call txn op reply) new own stays);
         waits = subst (λ (t : Option Entry). Waits t pass new) (sym same) stays;
         answer = Replied reply;
-        turns = record { hears = replies txn.done.calls op reply refl; grows = stays };
+        turns = record { hears = replies txn.done.calls op reply refl sized; grows = stays };
         text = text;
       }
-  reported_reply op reply was now new (Err s) stopped = stopped
+  reported_reply op reply was now new (Err s) sized stopped = stopped
 
   pub reported_aborted : (was now : List ℕ) (new : PassSeen) → new ≡ pass → now ≡ was ++ transcript_text (Aborted ∷ []) → Turning b txn pass line.Abort was now new (Ok None)
   reported_aborted was now new same text = λ booked. record {

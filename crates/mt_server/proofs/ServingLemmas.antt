@@ -52,8 +52,8 @@ board_reported failed scripts board book count b full may many = record {
 -- ---- the kernel
 
 -- what was opened on the base of these bytes served them
-pub served_on : {D : Type 0} {g : Ghosts D} (seen : D → List ℕ) (may_leave : D → List ℕ → Type 0) (c : List ℕ) (first : Base) (k : Kernel D g) → IsBaseOf c first → BeganOn seen may_leave first k → IsServedOn seen may_leave c k
-served_on seen may_leave c first k is began = record { first = first; is = is; began = began; legal = legal_book seen may_leave first k began }
+pub served_on : {D : Type 0} {g : Ghosts D} (c : List ℕ) (first : Base) (k : Kernel D g) → IsBaseOf c first → BeganOn first k → IsServedOn c k
+served_on c first k is began = record { first = first; is = is; began = began; legal = legal_book first k began }
 
 -- ---- refusals
 

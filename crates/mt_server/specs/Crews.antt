@@ -12,7 +12,8 @@ use Rattle.mt_server.specs.declared.board.Reported.{Reported}
 use Rattle.mt_locked.specs.Seen.{PassSeen}
 
 -- the transcript of the script at its place, from 0, which reports these commits
-pub record IsReportedOf (scripts : List (List Line)) (book : List Committed) (t : Reported) (booked : List (ℕ × List Call)) : Type 0 where
+pub record IsReportedOf (scripts : List (List Line)) (book : List Committed) (t : Reported)
+    (booked : List (ℕ × List Call)) : Type 0 where
   pub lines : List Line
   pub within : t.at < length scripts
   pub lines_are : lines ≡ get_or scripts t.at lines
@@ -21,7 +22,8 @@ pub record IsReportedOf (scripts : List (List Line)) (book : List Committed) (t 
 -- each of these is one, and so many commits they tell together
 pub data AreReportedOf (scripts : List (List Line)) (book : List Committed) : List Reported → ℕ → Type 0 where
   nothing_reported : AreReportedOf scripts book [] 0
-  one_more : (outcome : List Reported) (count : ℕ) (t : Reported) (booked : List (ℕ × List Call)) → AreReportedOf scripts book outcome count → IsReportedOf scripts book t booked
+  one_more : (outcome : List Reported) (count : ℕ) (t : Reported) (booked : List (ℕ × List Call))
+      → AreReportedOf scripts book outcome count → IsReportedOf scripts book t booked
       → AreReportedOf scripts book (outcome ++ t ∷ []) (count + length booked)
 
 -- as far as the pass has seen, and they tell of each commit of its own
@@ -38,7 +40,8 @@ pub record IsBoard (scripts : List (List Line)) (board : Board) (book : List Com
   pub filled : length board.filled.items ≡ length scripts
   pub booked : List (List (ℕ × List Call))
   pub many : length booked ≡ length scripts
-  pub each : (i : ℕ) (lines : List Line) → i < length scripts → lines ≡ get_or scripts i lines → get_or board.filled.items i false ≡ true
+  pub each : (i : ℕ) (lines : List Line) → i < length scripts → lines ≡ get_or scripts i lines
+      → get_or board.filled.items i false ≡ true
       → IsReported board.has_failed (i + 1) lines (get_or board.texts.items i []) (get_or booked i []) book
   pub empty : (i : ℕ) → get_or board.filled.items i false ≡ false → get_or booked i [] ≡ []
   pub counted : all_booked booked ≡ count

@@ -12,6 +12,8 @@ use Rattle.mt_script.specs.declared.answers.Answer.TheVariants.{Begun, Replied, 
 use Rattle.mt_script.specs.declared.lines.Line.{Line}
 use Rattle.mt_script.specs.declared.lines.Line.TheVariants as line
 use Rattle.mt_alone.specs.Plays.{Runs}
+use Rattle.mt_locked.specs.Refusals.{IsBeginRefusal, IsCommitRefusal}
+use Rattle.mt_txn.specs.Causes.{IsCallRefusal, size_cause}
 use Rattle.mt_alone.specs.Runs.{last_line}
 
 -- ---- answers
@@ -35,22 +37,24 @@ LetsLive (refusal.Die holder) = ⊥
 LetsLive why = LetsGoOn why
 
 -- A line may be refused so, and the session goes on: by 15 what is not a begin, and by nothing else, if no
--- transaction is open; by 16 a begin if one is. An abort is not refused. Nor is anything by 2; and an operation by 14
--- only if its transaction is gone then.
+-- transaction is open; by 16 a begin if one is. Else a begin, an operation and a commit each have the refusals that
+-- a shared kernel has for it. An abort is not refused. Nor is anything by 2; and an operation by 14 only if its
+-- transaction is gone then.
 abbrev pub IsRefusable : Option (List Call) → Line → Refusal → Type 0
-IsRefusable None line.Begin why = LetsGoOn why
+IsRefusable None line.Begin why = LetsGoOn why × IsBeginRefusal why
 IsRefusable None (line.Call op) why = why ≡ refusal.Stranger
 IsRefusable None line.Commit why = why ≡ refusal.Stranger
 IsRefusable None line.Abort why = why ≡ refusal.Stranger
 IsRefusable (Some calls) line.Begin why = why ≡ refusal.Busy
-IsRefusable (Some calls) (line.Call op) why = LetsLive why
-IsRefusable (Some calls) line.Commit why = LetsGoOn why
+IsRefusable (Some calls) (line.Call op) why = LetsLive why × IsCallRefusal op why
+IsRefusable (Some calls) line.Commit why = LetsGoOn why × IsCommitRefusal why
 IsRefusable (Some calls) line.Abort why = ⊥
 
--- An answer to a line. A commit keeps the calls that were replied to since the begin; a transaction that dies is gone.
+-- An answer to a line. What is replied to lies within its limits. A commit keeps the calls that were replied to since
+-- the begin; a transaction that dies is gone.
 pub data Hears (h : Heard) : Line → Answer → Heard → Type 0 where
   begins : h.under_way ≡ None → Hears h line.Begin Begun (record h { under_way = Some [] })
-  replies : (calls : List Call) (op : Op) (reply : Reply) → h.under_way ≡ Some calls
+  replies : (calls : List Call) (op : Op) (reply : Reply) → h.under_way ≡ Some calls → size_cause op ≡ None
       → Hears h (line.Call op) (Replied reply) (record h { under_way = Some (calls ++ (op, reply) ∷ []) })
   commits : (calls : List Call) (place : ℕ) → h.under_way ≡ Some calls
       → Hears h line.Commit (CommittedAt place) (record { under_way = None; booked = h.booked ++ (place, calls) ∷ [] })
@@ -77,12 +81,14 @@ pub record StandsAt (session : ℕ) (book : List Committed) (place : ℕ) (calls
 -- the places rise, up to this one
 pub data Rise : List (ℕ × List Call) → ℕ → Type 0 where
   nowhere : Rise [] 0
-  higher : (booked : List (ℕ × List Call)) (last place : ℕ) (calls : List Call) → Rise booked last → last < place → Rise (booked ++ (place, calls) ∷ []) place
+  higher : (booked : List (ℕ × List Call)) (last place : ℕ) (calls : List Call) → Rise booked last → last < place
+      → Rise (booked ++ (place, calls) ∷ []) place
 
 -- The transcript of a session: the text of what its lines were answered. These are the commits that it reports, each
 -- with its place and the calls that were replied to; each has that place in this book, and the places rise. It ends
 -- with 2 only if the device has failed.
-pub record IsReported (failed : Bool) (session : ℕ) (lines : List Line) (text : List ℕ) (booked : List (ℕ × List Call)) (book : List Committed) : Type 0 where
+pub record IsReported (failed : Bool) (session : ℕ) (lines : List Line) (text : List ℕ) (booked : List (ℕ × List Call))
+    (book : List Committed) : Type 0 where
   pub before : List Line
   pub rest : List Line
   pub lines_are : lines ≡ before ++ rest
@@ -103,9 +109,11 @@ all_booked (booked ∷ more) = length booked + all_booked more
 
 -- There is one for each script, in their order, of which the first is session 1. The book has no commit but those
 -- that they tell.
-pub record AreReported (failed : Bool) (scripts : List (List Line)) (texts : List (List ℕ)) (book : List Committed) : Type 0 where
+pub record AreReported (failed : Bool) (scripts : List (List Line)) (texts : List (List ℕ))
+    (book : List Committed) : Type 0 where
   pub count : length texts ≡ length scripts
   pub booked : List (List (ℕ × List Call))
-  pub each : (i : ℕ) (lines : List Line) → i < length scripts → lines ≡ get_or scripts i lines → IsReported failed (i + 1) lines (get_or texts i []) (get_or booked i []) book
+  pub each : (i : ℕ) (lines : List Line) → i < length scripts → lines ≡ get_or scripts i lines
+      → IsReported failed (i + 1) lines (get_or texts i []) (get_or booked i []) book
   pub many : length booked ≡ length scripts
   pub whole : length book ≡ all_booked booked

@@ -29,7 +29,8 @@ entry_of pass session calls = record { pass = pass; done = record { session = se
 
 -- what its pass has seen grows by its commits, and by nothing else
 abbrev pub Grows : Base → ℕ → Place → Answer → PassSeen → Type 0
-Grows b session p (CommittedAt place) new = (calls : List Call) × (p.heard.under_way ≡ Some calls) × Extends b p.pass (entry_of p.pass.number session calls) place new
+Grows b session p (CommittedAt place) new = (calls : List Call) × (p.heard.under_way ≡ Some calls)
+    × Extends b p.pass (entry_of p.pass.number session calls) place new
 Grows b session p Begun new = new ≡ p.pass
 Grows b session p (Replied reply) new = new ≡ p.pass
 Grows b session p Aborted new = new ≡ p.pass
@@ -51,7 +52,8 @@ abbrev pub within : List (ℕ × List Call) → List Call → PassSeen → Place
 within booked calls pass = record { heard = record { under_way = Some calls; booked = booked }; pass = pass }
 
 -- lines had these answers, as text
-pub record HasServed (b : Base) (session : ℕ) (start : Place) (lines : List Line) (was now : List ℕ) (end : Place) : Type 0 where
+pub record HasServed (b : Base) (session : ℕ) (start : Place) (lines : List Line) (was now : List ℕ)
+    (end : Place) : Type 0 where
   pub answers : List Answer
   pub served : Served b session start lines answers end
   pub text : now ≡ was ++ transcript_text answers
@@ -69,7 +71,8 @@ Waits None old new = Unit {0}
 Waits (Some t) old new = new ≡ old
 
 -- A line within a transaction was answered. Its token is given back, unless it has ended.
-pub record IsTurned (b : Base) (session : ℕ) (start : Place) (line : Line) (was now : List ℕ) (token : Option Entry) (new : PassSeen) : Type 0 where
+pub record IsTurned (b : Base) (session : ℕ) (start : Place) (line : Line) (was now : List ℕ) (token : Option Entry)
+    (new : PassSeen) : Type 0 where
   pub end : Place
   pub pass_is : end.pass ≡ new
   pub at : IsAt session token end
@@ -82,22 +85,26 @@ pub record IsTurned (b : Base) (session : ℕ) (start : Place) (line : Line) (wa
 -- found no memory
 abbrev pub IsStopped : PassSeen → List ℕ → List ℕ → PassSeen → Stop → Type 0
 IsStopped pass was now new stop.Died = (new ≡ pass) × IsPrefix was now
-IsStopped pass was now new stop.Failed = (new ≡ pass) × (now ≡ was ++ transcript_text (Refused refusal.DeviceFailed ∷ []))
+IsStopped pass was now new stop.Failed =
+    (new ≡ pass) × (now ≡ was ++ transcript_text (Refused refusal.DeviceFailed ∷ []))
 IsStopped pass was now new stop.Unheard = Unit {0}
 
 abbrev pub Turning : Base → Entry → PassSeen → Line → List ℕ → List ℕ → PassSeen → Result (Option Entry) Stop → Type 0
-Turning b txn pass line was now new (Ok token) = (booked : List (ℕ × List Call)) → IsTurned b txn.done.session (within booked txn.done.calls pass) line was now token new
+Turning b txn pass line was now new (Ok token) = (booked : List (ℕ × List Call))
+    → IsTurned b txn.done.session (within booked txn.done.calls pass) line was now token new
 Turning b txn pass line was now new (Err stop) = IsStopped pass was now new stop
 
 -- what a line may come to if it only has an answer, and the transaction goes on
 abbrev pub Telling : Entry → PassSeen → List ℕ → List ℕ → PassSeen → Answer → Result (Option Entry) Stop → Type 0
-Telling txn pass was now new answer (Ok token) = (token ≡ Some txn) × (new ≡ pass) × (now ≡ was ++ transcript_text (answer ∷ []))
+Telling txn pass was now new answer (Ok token) =
+    (token ≡ Some txn) × (new ≡ pass) × (now ≡ was ++ transcript_text (answer ∷ []))
 Telling txn pass was now new answer (Err stop) = IsStopped pass was now new stop
 
 -- ---- a transaction
 
 -- lines had their answers, and this is the token of the transaction that is open then, if one is
-pub record Reached (b : Base) (session : ℕ) (start : Place) (lines : List Line) (was now : List ℕ) (token : Option Entry) (pass : PassSeen) : Type 0 where
+pub record Reached (b : Base) (session : ℕ) (start : Place) (lines : List Line) (was now : List ℕ)
+    (token : Option Entry) (pass : PassSeen) : Type 0 where
   pub end : Place
   pub pass_is : end.pass ≡ pass
   pub at : IsAt session token end
@@ -105,12 +112,15 @@ pub record Reached (b : Base) (session : ℕ) (start : Place) (lines : List Line
 
 -- the transaction has ended after so many lines; or it was open at the script's end, and was aborted
 abbrev pub HasRan : Base → ℕ → Place → List Line → List ℕ → List ℕ → PassSeen → Ran → Type 0
-HasRan b session start lines was now new (ran.Ended count) = (end : Place) × (end.pass ≡ new) × (end.heard.under_way ≡ None) × (count ≤ length lines) × HasServed b session start (take count lines) was now end
-HasRan b session start lines was now new ran.AtEnd = (end : Place) × (mid : List ℕ) × (end.pass ≡ new) × IsSome end.heard.under_way × HasServed b session start lines was mid end
+HasRan b session start lines was now new (ran.Ended count) = (end : Place) × (end.pass ≡ new)
+    × (end.heard.under_way ≡ None) × (count ≤ length lines) × HasServed b session start (take count lines) was now end
+HasRan b session start lines was now new ran.AtEnd = (end : Place) × (mid : List ℕ) × (end.pass ≡ new)
+    × IsSome end.heard.under_way × HasServed b session start lines was mid end
     × (now ≡ mid ++ transcript_text (Aborted ∷ []))
 
 -- or it stopped
-pub record HasFailed (b : Base) (session : ℕ) (start : Place) (lines : List Line) (was now : List ℕ) (new : PassSeen) : Type 0 where
+pub record HasFailed (b : Base) (session : ℕ) (start : Place) (lines : List Line) (was now : List ℕ)
+    (new : PassSeen) : Type 0 where
   pub before : List Line
   pub rest : List Line
   pub split : lines ≡ before ++ rest
@@ -142,13 +152,15 @@ abbrev pub Ending : PassSeen → List ℕ → List ℕ → PassSeen → Result R
 Ending pass was now new (Ok (ran.Ended count)) = ⊥
 Ending pass was now new (Ok ran.AtEnd) = (new ≡ pass) × (now ≡ was ++ transcript_text (Aborted ∷ []))
 Ending pass was now new (Err stop.Died) = ⊥
-Ending pass was now new (Err stop.Failed) = (new ≡ pass) × (now ≡ was ++ transcript_text (Refused refusal.DeviceFailed ∷ []))
+Ending pass was now new (Err stop.Failed) =
+    (new ≡ pass) × (now ≡ was ++ transcript_text (Refused refusal.DeviceFailed ∷ []))
 Ending pass was now new (Err stop.Unheard) = Unit {0}
 
 -- ---- a session
 
 -- A script was answered from its first line on, beside this pass. Its device has failed, or it has not.
-pub record IsSession (failed : Bool) (b : Base) (session : ℕ) (lines : List Line) (text : List ℕ) (old new : PassSeen) : Type 0 where
+pub record IsSession (failed : Bool) (b : Base) (session : ℕ) (lines : List Line) (text : List ℕ)
+    (old new : PassSeen) : Type 0 where
   pub before : List Line
   pub rest : List Line
   pub lines_are : lines ≡ before ++ rest

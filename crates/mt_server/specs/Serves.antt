@@ -9,16 +9,21 @@ use Rattle.mt_model.specs.Views.{base_of}
 use Rattle.mt_model.specs.declared.tables.Base.{Base}
 use Rattle.mt_restart.specs.Recovered.{IsCauseToStop}
 use Rattle.mt_locked.specs.Began.{BeganOn}
-use Rattle.mt_shared.specs.Opens.{IsBaseOf}
+use Rattle.mt_shared.specs.Opens.{HasBegunWith, IsBaseOf}
 use Rattle.mt_txn.specs.declared.kernel.Kernel.{Kernel}
+use Rattle.mt_txn.specs.Words.{kernel_book}
 
 -- It was opened on the base of these bytes; of its book each commit replied what it replies alone, in the order of
 -- the book.
-pub record IsServedOn {D : Type 0} {g : Ghosts D} (seen : D → List ℕ) (may_leave : D → List ℕ → Type 0) (c : List ℕ) (k : Kernel D g) : Type 0 where
+pub record IsServedOn {D : Type 0} {g : Ghosts D} (c : List ℕ) (k : Kernel D g) : Type 0 where
   pub first : Base
   pub is : IsBaseOf c first
-  pub began : BeganOn seen may_leave first k
-  pub legal : IsLegal (base_of first) k.core.book.items
+  pub began : BeganOn first k
+  pub legal : IsLegal (base_of first) (kernel_book k)
+
+-- a kernel with so many pages in frames began on the base of these bytes
+abbrev pub IsOpenedWith : {D : Type 0} → Ghosts D → ℕ → List ℕ → Type 0
+IsOpenedWith g frames c = (first : Base) × IsBaseOf c first × HasBegunWith g frames first
 
 -- ---- refusals
 

@@ -6,6 +6,7 @@ ghost use Rattle.mt_script.specs.declared.lines.Line.{Line};
 ghost use Rattle.mt_script.specs.declared.lines.Line.TheVariants as line;
 ghost use Rattle.mt_server.specs.Hearing.{AreFew, Ending, Running, and_begin, between, within};
 ghost use Rattle.mt_server.specs.declared.line_answers.Stop.TheVariants as stop;
+ghost use Rattle.mt_locked.specs.Refusals.{IsBeginRefusal};
 ghost use Rattle.mt_locked.specs.Seen.{PassSeen};
 
 use crate::line_answers::{Stop, fail, refuse, take_back, tell_aborted, tell_begun, turn};
@@ -87,6 +88,7 @@ fn and_begin(outcome: Result<Ran, Stop>) -> Result<Ran, Stop>
 
 /// Answers a begin that was refused. The session goes on after it, unless the device failed.
 fn unbegun(out: &mut Vec<u8>, why: Refusal) -> Result<Ran, Stop>
+    requires { IsBeginRefusal why }
     ensures runs { (b : Base) (session : ℕ) (booked : List (ℕ × List Call)) (pass : PassSeen) (lines : List Line)
         → Running b session (between booked pass) (line.Begin ∷ lines) out.old.items out.new.items pass result }
     ensures lives { IfErr result (λ outcome. outcome ≢ stop.Died) }

@@ -8,6 +8,7 @@ ghost use Rattle.mt_script.specs.Answers.{transcript_text};
 ghost use Rattle.mt_script.specs.declared.answers.Answer.TheVariants as answer;
 ghost use Rattle.mt_script.specs.declared.lines.Line.TheVariants as line;
 ghost use Rattle.mt_server.specs.Hearing.{IsStopped, Telling, Turning};
+ghost use Rattle.mt_txn.specs.Causes.{IsCallRefusal};
 ghost use Rattle.mt_server.specs.declared.line_answers.Stop.TheVariants as stop;
 
 use mt_base::Refusal;
@@ -190,7 +191,8 @@ fn stopped<D: Device, G: Gate + Drop, J: Naming, R: Wait>(
     out: &mut Vec<u8>,
 ) -> Result<Option<Txn<J>>, Stop>
     requires own { txn.pass ≡ pass.old.number }
-    ensures turns { (op : Op) → Turning J.base txn pass.old (line.Call op) out.old.items out.new.items pass.new result }
+    ensures turns { (op : Op) → IsCallRefusal op why
+        → Turning J.base txn pass.old (line.Call op) out.old.items out.new.items pass.new result }
     ensures lives { may_die ≡ false → IfErr result (λ outcome. outcome ≢ stop.Died) }
 {
     match why {

@@ -1,17 +1,19 @@
 // Scripts, served to a device by threads that share a kernel.
-ghost use Rattle.std.specs.Prelude.{◌≡◌, ◌<◌, ◌≤◌, ◌^◌, [], ℕ, List, All, IfErr, IfOk, length, map};
+ghost use Rattle.std.specs.Prelude.{◌≡◌, ◌<◌, ◌≤◌, ◌^◌, [], false, ℕ, List, All, IfErr, IfOk, length, map};
 ghost use Rattle.mt_base.specs.declared.limits.TheConstants.{MAX_SESSIONS};
 ghost use mathlib.Core.List.{IsPrefix};
 ghost use Rattle.mt_mark.specs.Rule.{dones};
 ghost use Rattle.mt_model.specs.declared.history.Committed.{Committed};
 ghost use Rattle.mt_server.specs.Crews.{IsBlank, IsBoard};
 ghost use Rattle.mt_server.specs.Heard.{AreReported};
-ghost use Rattle.mt_server.specs.Serves.{IsLate, IsServedOn, IsUnserved};
-ghost use Rattle.mt_alone.specs.Sessions.{lines_in};
-ghost use Rattle.mt_locked.specs.Began.{BeganOn};
+ghost use Rattle.mt_server.specs.Serves.{IsLate, IsOpenedWith, IsServedOn, IsUnserved};
+ghost use Rattle.mt_shared.specs.Opens.{HasBegunWith};
+ghost use Rattle.mt_script.specs.Scripts.{lines_in};
+ghost use Rattle.mt_locked.specs.Began.{BeganOn, IsIdle};
 ghost use Rattle.mt_locked.specs.Seen.{PassSeen};
 ghost use Rattle.mt_locked.specs.Whole.{all_own};
 ghost use Rattle.mt_txn.specs.Shown.{is_failed};
+ghost use Rattle.mt_txn.specs.Words.{kernel_book};
 
 use crate::board::{Board, blank};
 use crate::crew::{crew, gather};
@@ -49,8 +51,9 @@ fn close<D: Device + Drop, G: Gate + Drop, J: Naming>(
     requires placed { (book : List Committed) → All (λ (p : PassSeen). IsPrefix (dones p.seen) book) passes.items
         → IsBoard (map lines_in scripts.now) board book (all_own passes.items) }
     ensures outcome { IfOk result (λ s.
-        AreReported (is_failed s.kernel) (map lines_in scripts.now) s.transcripts.items s.kernel.core.book.items) }
-    ensures began { IfOk result (λ s. BeganOn D.seen D.may_leave J.base s.kernel) }
+        AreReported (is_failed s.kernel) (map lines_in scripts.now) s.transcripts.items (kernel_book s.kernel)) }
+    ensures began { IfOk result (λ s. BeganOn J.base s.kernel) }
+    ensures idle { IfOk result (λ s. is_failed s.kernel ≡ false → IsIdle s.kernel) }
     ensures late { IfErr result IsLate }
 {
     match shared.close(passes) {
@@ -106,8 +109,10 @@ fn serve_named<
     requires few { length scripts.now ≤ MAX_SESSIONS }
     requires blank { IsBlank (length scripts.now) board }
     ensures outcome { IfOk result (λ s.
-        AreReported (is_failed s.kernel) (map lines_in scripts.now) s.transcripts.items s.kernel.core.book.items) }
-    ensures began { IfOk result (λ s. BeganOn D.seen D.may_leave opened.base s.kernel) }
+        AreReported (is_failed s.kernel) (map lines_in scripts.now) s.transcripts.items (kernel_book s.kernel)) }
+    ensures began { IfOk result (λ s. BeganOn opened.base s.kernel) }
+    ensures frames { IfOk result (λ _. HasBegunWith ⟦<D as Device>⟧ opened.frames opened.base) }
+    ensures idle { IfOk result (λ s. is_failed s.kernel ≡ false → IsIdle s.kernel) }
     ensures late { IfErr result IsLate }
 {
     let (shared, passes) = match opened.named::<G, J>(alloc, gate) {
@@ -162,8 +167,10 @@ pub fn serve<D: Device + Drop + Send, G: Gate + Drop + Send + Sync, R: Threads +
     gate: G,
 ) -> Result<Served<D>, Refusal>
     ensures outcome { IfOk result (λ s.
-        AreReported (is_failed s.kernel) (map lines_in scripts.items) s.transcripts.items s.kernel.core.book.items) }
-    ensures began { IfOk result (λ s. IsServedOn D.seen D.may_leave (D.seen device) s.kernel) }
+        AreReported (is_failed s.kernel) (map lines_in scripts.items) s.transcripts.items (kernel_book s.kernel)) }
+    ensures began { IfOk result (λ s. IsServedOn (D.seen device) s.kernel) }
+    ensures frames { IfOk result (λ _. IsOpenedWith ⟦<D as Device>⟧ frames (D.seen device)) }
+    ensures idle { IfOk result (λ s. is_failed s.kernel ≡ false → IsIdle s.kernel) }
     ensures few { IfOk result (λ _. length scripts.items ≤ MAX_SESSIONS) }
     ensures refused { IfErr result (IsUnserved (D.seen device) (length scripts.items)) }
 {

@@ -3,7 +3,7 @@ ghost use Rattle.std.specs.Prelude.{◌≡◌, ◌≢◌, ◌↔◌, ◌<◌, �
 ghost use Rattle.mt_model.specs.History.{Call};
 ghost use Rattle.mt_script.specs.declared.lines.Line.TheVariants.{Begin};
 ghost use Rattle.mt_server.specs.Hearing.{IsSession, Running, between};
-ghost use Rattle.mt_alone.specs.Sessions.{lines_in};
+ghost use Rattle.mt_script.specs.Scripts.{lines_in};
 ghost use Rattle.mt_server.specs.declared.line_answers.Stop.TheVariants as stop;
 
 use crate::attempts::{Ran, run_surely};

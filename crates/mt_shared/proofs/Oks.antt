@@ -1,7 +1,12 @@
 -- Of a result that is no error, several facts at once.
 use Rattle.std.proofs.Common.{Result, Ok, Err}
-use Rattle.std.specs.Prelude.{IfOk}
+use Rattle.std.specs.Prelude.{IfOk, OnOk}
 
 pub three_ok : {T E : Type 0} (P Q S R : T → Type 0) (r : Result T E) → IfOk r P → IfOk r Q → IfOk r S → ((x : T) → P x → Q x → S x → R x) → IfOk r R
 three_ok P Q S R (Ok x) p q s go = go x p q s
 three_ok P Q S R (Err why) p q s go = tt
+
+-- what holds in any case holds if it is no error
+pub given_ok : {T E P : Type 0} → (r : Result T E) → P → OnOk r P
+given_ok (Ok x) p = p
+given_ok (Err why) p = tt

@@ -24,27 +24,27 @@ use Rattle.mt_txn.specs.Shown.{Shows, Stays, StaysRestarting}
 use Rattle.mt_txn.specs.Surveyed.{TellsBase}
 use Rattle.mt_txn.specs.declared.kernel.Kernel.{Kernel}
 
-module _ {D : Type 0} {g : Ghosts D} (seen : D → List ℕ) (may_leave : D → List ℕ → Type 0) where
+module _ {D : Type 0} {g : Ghosts D} where
   -- it begins on the base that a survey tells
-  pub began_on_survey : (b : model.Base) (base : Base) (survey : Survey) (k n : Kernel D g) → BeginsOn seen may_leave b k → survey.base ≡ base
-      → ((first : model.Base) (s : State) → Shows seen may_leave first s k → TellsBase k.relations k.counters s.base survey)
-      → model.IsBase (base_of base) → Stays seen may_leave k n → StaysRestarting seen may_leave k n → BeganOn seen may_leave base n
+  pub began_on_survey : (b : model.Base) (base : Base) (survey : Survey) (k n : Kernel D g) → BeginsOn b k → survey.base ≡ base
+      → ((first : model.Base) (s : State) → Shows first s k → TellsBase k.relations k.counters s.base survey)
+      → model.IsBase (base_of base) → Stays k n → StaysRestarting k n → BeganOn base n
   began_on_survey b base survey k n begins is tells bounds stays again =
       let outcome = tells b (start b) begins.opened.shows in
       let same : IsSame k.counters (base_of base) b = subst (λ (x : Base). IsSame k.counters (base_of x) b) is outcome.same in
       let opened = begins.same (base_of base) same bounds in
-      began_so seen may_leave base n (base_of base) (start (base_of base)) refl (stays (base_of base) (start (base_of base)) opened.shows) (again (base_of base) opened.restarts)
+      began_so base n (base_of base) (start (base_of base)) refl (stays (base_of base) (start (base_of base)) opened.shows) (again (base_of base) opened.restarts)
 
   -- its book is empty
-  pub first_book : (first : model.Base) (k : Kernel D g) → Shows seen may_leave first (start first) k → k.core.book.items ≡ []
-  first_book first k shows = ∥∥₁_elim (legal_of seen may_leave k.relations k.counters k.core first (start first) shows) (hlevel (props, Books-set)) (λ (same, legal). sym same)
+  pub first_book : (first : model.Base) (k : Kernel D g) → Shows first (start first) k → k.core.book.items ≡ []
+  first_book first k shows = ∥∥₁_elim (legal_of g k.relations k.counters k.core first (start first) shows) (hlevel (props, Books-set)) (λ (same, legal). sym same)
 
-  pub book_at_first : (b : model.Base) (k n : Kernel D g) → BeginsOn seen may_leave b k → Stays seen may_leave k n → n.core.book.items ≡ []
+  pub book_at_first : (b : model.Base) (k n : Kernel D g) → BeginsOn b k → Stays k n → n.core.book.items ≡ []
   book_at_first b k n begins stays = first_book b n (stays b (start b) begins.opened.shows)
 
   -- which is the one that the bytes stood for
-  pub same_as_reported : (relations counters : ℕ) (b : model.Base) (base : Base) (survey : Survey) (k : Kernel D g) → IsOpened seen may_leave relations counters b k → survey.base ≡ base
-      → ((first : model.Base) (s : State) → Shows seen may_leave first s k → TellsBase k.relations k.counters s.base survey) → IsSame counters (base_of base) b
+  pub same_as_reported : (relations counters : ℕ) (b : model.Base) (base : Base) (survey : Survey) (k : Kernel D g) → IsOpened relations counters b k → survey.base ≡ base
+      → ((first : model.Base) (s : State) → Shows first s k → TellsBase k.relations k.counters s.base survey) → IsSame counters (base_of base) b
   same_as_reported relations counters b base survey k opened is tells =
       let outcome = tells b (start b) opened.shows in
       subst (λ (x : ℕ × Base). IsSame x.0 (base_of x.1) b) (λ i. (opened.counters_are i, is i)) outcome.same
@@ -60,17 +60,17 @@ is_memory : (why : Refusal) → (why ≡ refusal.NoMemory) ⊎ (why ≢ refusal.
 is_memory refusal.NoMemory = inl refl
 is_memory _ = inr (λ e. cc)
 
-pub unsurveyed : {D : Type 0} (failures : D → ℕ) (failed : Bool) (k n : Core D) (why : Refusal) → failed ≡ false → length k.live.members ≡ 0 → (why ≢ refusal.NoMemory → (survey_cause failed k ≡ Some why) ⊎ IsFault failures k n why) → IsUnmarked why
-unsurveyed failures failed k n why well nobody cause = elim (is_memory why) [
+pub unsurveyed : {D : Type 0} (g : Ghosts D) (failed : Bool) (k n : Core D) (why : Refusal) → failed ≡ false → length k.live.members ≡ 0 → (why ≢ refusal.NoMemory → (survey_cause failed k ≡ Some why) ⊎ IsFault g k n why) → IsUnmarked why
+unsurveyed g failed k n why well nobody cause = elim (is_memory why) [
   | inl is ↦ subst IsUnmarked (sym is) tt
   | inr other ↦ elim (cause other) [ inl is ↦ absurd (none_early failed k why well nobody is) | inr fault ↦ subst IsUnmarked (sym fault.0) tt ]
 ]
 
 -- of a kernel that has not failed it is refused with 2 only where the device failed in the call
-pub survey_fault : {D : Type 0} (failures : D → ℕ) (failed : Bool) (k n : Core D) (why : Refusal) → failed ≡ false → (why ≢ refusal.NoMemory → (survey_cause failed k ≡ Some why) ⊎ IsFault failures k n why) → why ≡ refusal.DeviceFailed
-    → failures k.operations.store.device < failures n.operations.store.device
-survey_fault failures true k n why well cause is = absurd cc
-survey_fault failures false k n why well cause is = elim (cause (λ e. let apart : refusal.DeviceFailed ≡ refusal.NoMemory = sym is ∙ e in cc)) [
+pub survey_fault : {D : Type 0} (g : Ghosts D) (failed : Bool) (k n : Core D) (why : Refusal) → failed ≡ false → (why ≢ refusal.NoMemory → (survey_cause failed k ≡ Some why) ⊎ IsFault g k n why) → why ≡ refusal.DeviceFailed
+    → g.faults k.operations.store.device < g.faults n.operations.store.device
+survey_fault g true k n why well cause is = absurd cc
+survey_fault g false k n why well cause is = elim (cause (λ e. let apart : refusal.DeviceFailed ≡ refusal.NoMemory = sym is ∙ e in cc)) [
   | inl early ↦ absurd (go (nat_eq (length k.live.members) 0) early)
   | inr fault ↦ fault.1
 ]

@@ -3,6 +3,8 @@ use Rattle.std.specs.Prelude.{ℕ, ◌≡◌, ◌⊎◌, List, All, length, ⊤}
 use Rattle.atomic_table.specs.Seated.{TableId}
 use Rattle.mt_base.specs.declared.refusal.Refusal.{Refusal}
 use Rattle.mt_base.specs.declared.refusal.Refusal.TheVariants as refusal
+use Rattle.mt_disk.specs.declared.device.Device.{Ghosts}
+use Rattle.mt_locked.specs.Began.{BeganOn}
 use Rattle.mt_locked.specs.Seen.{Beside}
 use Rattle.mt_mark.specs.Held.{Held}
 use Rattle.mt_mark.specs.Rule.{labelled, IsConfirmed}
@@ -13,11 +15,14 @@ use Rattle.mt_model.specs.declared.tables.Base.{Base}
 use Rattle.mt_replay.specs.Stands.{CanRestart}
 use Rattle.mt_restart.specs.Recovered.{IsCauseToStop}
 use Rattle.mt_steps.specs.Listed.{IsSame}
+use Rattle.mt_txn.specs.Shown.{kernel_frames}
+use Rattle.mt_txn.specs.declared.kernel.Kernel.{Kernel}
 
 -- the base that these bytes represent, if they represent one: the same rows, and the same counters, as many as there
 -- are
 abbrev pub IsBaseOf : List ℕ → Base → Type 0
-IsBaseOf c first = (relations counters : ℕ) (b : model.Base) → CanRestart relations counters c b → IsSame counters (base_of first) b
+IsBaseOf c first =
+    (relations counters : ℕ) (b : model.Base) → CanRestart relations counters c b → IsSame counters (base_of first) b
 
 -- 1 or 2
 abbrev pub IsUnmarked : Refusal → Type 0
@@ -28,6 +33,11 @@ IsUnmarked _ = ⊥
 -- or what keeps a device of these bytes from being opened
 abbrev pub IsUnshared : List ℕ → Refusal → Type 0
 IsUnshared c why = IsCauseToStop c ⊤ why ⊎ IsUnmarked why
+
+-- a kernel with so many pages in frames began on this base
+abbrev pub HasBegunWith : {D : Type 0} → Ghosts D → ℕ → Base → Type 0
+HasBegunWith {D} g frames base =
+    ∥ ((k : Kernel D g) × (kernel_frames k ≡ frames) × BeganOn base k) ∥₁
 
 -- which mark it is, the kernel's first base, book and frames, and how many passes there are to be
 pub record OpenedSeen : Type 0 where

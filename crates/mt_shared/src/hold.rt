@@ -1,9 +1,11 @@
 // The lock of what is shared, kept from one call of a thread to its next. So it is taken once for a few calls.
 // All others wait meanwhile: a hold ends after 17 calls, and before a thread sleeps.
 ghost use Rattle.std.specs.Prelude.{◌≡◌, ◌≢◌, ◌↔◌, None, IfOk, IfErr, OnOk, OnErr, IfSome};
-ghost use Rattle.mt_base.specs.declared.refusal.Refusal.TheVariants.{DeviceFailed, Stranger};
+ghost use Rattle.mt_base.specs.declared.refusal.Refusal.TheVariants.{DeviceFailed, NoMemory, Stranger};
 ghost use Rattle.mt_model.specs.declared.operations.Reply.{Reply};
+ghost use Rattle.mt_locked.specs.Refusals.{IsAbortRefusal, IsBeginRefusal, IsCommitRefusal, IsStepRefusal};
 ghost use Rattle.mt_locked.specs.Seen.{Extends, fresh, with_call};
+ghost use Rattle.mt_txn.specs.Causes.{IsCallRefusal, size_cause};
 
 use crate::gate::{Gate, Point};
 use crate::shared::{Shared, lost};
@@ -121,6 +123,7 @@ impl<'a, D: Device, G: Gate + Drop, J: Naming> Hold<'a, D, G, J> {
     ) -> Result<Txn<J>, Refusal>
         ensures pass { pass.new ≡ pass.old }
         ensures token { IfOk result (λ t. t ≡ fresh pass.old.number session) }
+        ensures why { IfErr result IsBeginRefusal }
     {
         if pass.is_busy() {
             return Err(Refusal::Busy);
@@ -135,7 +138,9 @@ impl<'a, D: Device, G: Gate + Drop, J: Naming> Hold<'a, D, G, J> {
     }
 
     // Begins a transaction once none is held back.
-    fn begun<R: Wait>(&mut self, rt: &R, session: u32) -> Result<TxnNo, Refusal> {
+    fn begun<R: Wait>(&mut self, rt: &R, session: u32) -> Result<TxnNo, Refusal>
+        ensures { IfErr result IsBeginRefusal }
+    {
         let mut locked = self.lock(rt);
         for _ in rt.forever() {
             if !locked.holds_back() {
@@ -156,6 +161,8 @@ impl<'a, D: Device, G: Gate + Drop, J: Naming> Hold<'a, D, G, J> {
     pub fn run<R: Wait>(&mut self, rt: &R, txn: &mut Txn<J>, op: Op) -> Result<(), Refusal>
         ensures ok { OnOk result ((r : Reply) × (txn.new ≡ with_call txn.old op r)) }
         ensures err { OnErr result (txn.new ≡ txn.old) }
+        ensures sized { OnOk result (size_cause op ≡ None) }
+        ensures why { IfErr result (IsCallRefusal op) }
     {
         let (number, session) = (txn.number(), txn.session());
         // out of the token meanwhile, if it is known that there is room for one more
@@ -184,7 +191,10 @@ impl<'a, D: Device, G: Gate + Drop, J: Naming> Hold<'a, D, G, J> {
         number: TxnNo,
         session: u32,
         op: &Op,
-    ) -> Result<Reply, Refusal> {
+    ) -> Result<Reply, Refusal>
+        ensures sized { OnOk result (size_cause op.now ≡ None) }
+        ensures why { IfErr result (IsCallRefusal op.now) }
+    {
         let mut locked = self.lock(rt);
         for _ in rt.forever() {
             match locked.call(number, op) {
@@ -203,7 +213,9 @@ impl<'a, D: Device, G: Gate + Drop, J: Naming> Hold<'a, D, G, J> {
         locked: MutexGuard<'a, Locked<D, J>>,
         number: TxnNo,
         session: u32,
-    ) -> Result<Reply, Refusal> {
+    ) -> Result<Reply, Refusal>
+        ensures { IfErr result IsStepRefusal }
+    {
         let mut locked = locked;
         for _ in rt.forever() {
             match locked.step(number) {
@@ -222,16 +234,14 @@ impl<'a, D: Device, G: Gate + Drop, J: Naming> Hold<'a, D, G, J> {
                 }
                 Ok(Stepped::Flush) => match locked.make_room() {
                     Ok(()) => self.shared.moved.notify_all(),
-                    Err(Refusal::NoMemory) => locked = self.let_others(rt, locked),
-                    Err(why) => return Err(self.shared.refusing(why)),
+                    Err(why) => locked = self.outlast(rt, locked, why)?,
                 },
                 Ok(Stepped::Again) => {
                     self.has_moved = true;
                     locked = self.sleep(rt, locked);
                 }
                 Ok(Stepped::Wait(_)) => locked = self.sleep(rt, locked),
-                Err(Refusal::NoMemory) => locked = self.let_others(rt, locked),
-                Err(why) => return Err(self.shared.refusing(why)),
+                Err(why) => locked = self.outlast(rt, locked, why)?,
             }
         }
         unreachable!()
@@ -248,6 +258,22 @@ impl<'a, D: Device, G: Gate + Drop, J: Naming> Hold<'a, D, G, J> {
         self.shared.locked.lock(rt)
     }
 
+    // Goes on after want of memory, once others had the lock. What else a step was refused with is answered.
+    fn outlast<R: Wait>(
+        &mut self,
+        rt: &R,
+        locked: MutexGuard<'a, Locked<D, J>>,
+        why: Refusal,
+    ) -> Result<MutexGuard<'a, Locked<D, J>>, Refusal>
+        ensures is { IfErr result (λ answer. answer ≡ why) }
+        ensures other { IfErr result (λ answer. answer ≢ NoMemory) }
+    {
+        match why {
+            Refusal::NoMemory => Ok(self.let_others(rt, locked)),
+            _ => Err(self.shared.refusing(why)),
+        }
+    }
+
     /// Takes a transaction back, and what it did. Nothing enters the history.
     ///
     /// Refused: 15 if the token is of another pass; 2 if the device failed, and then the token is gone.
@@ -262,6 +288,7 @@ impl<'a, D: Device, G: Gate + Drop, J: Naming> Hold<'a, D, G, J> {
         ensures stranger { IfErr result (λ r. txn.pass ≢ pass.old.number → r.why ≡ Stranger) }
         ensures back { IfErr result (λ r. IfSome r.txn (λ t. t ≡ txn)) }
         ensures gone { IfErr result (λ r. (r.txn ≡ None) ↔ (r.why ≡ DeviceFailed)) }
+        ensures why { IfErr result (λ r. IsAbortRefusal r.why) }
     {
         if txn.pass() != pass.number() {
             return Err(Refused {
@@ -286,7 +313,10 @@ impl<'a, D: Device, G: Gate + Drop, J: Naming> Hold<'a, D, G, J> {
         }
     }
 
-    fn undone<R: Wait>(&mut self, rt: &R, number: TxnNo) -> Result<(), Refusal> {
+    // Takes a transaction back.
+    fn undone<R: Wait>(&mut self, rt: &R, number: TxnNo) -> Result<(), Refusal>
+        ensures { IfErr result IsAbortRefusal }
+    {
         let mut locked = self.lock(rt);
         if let Err(why) = locked.abort_begin(number) {
             return Err(self.shared.refusing(why));
@@ -301,16 +331,14 @@ impl<'a, D: Device, G: Gate + Drop, J: Naming> Hold<'a, D, G, J> {
                 Ok(AbortStepped::More) => self.shared.moved.notify_all(),
                 Ok(AbortStepped::Flush) => match locked.make_room() {
                     Ok(()) => self.shared.moved.notify_all(),
-                    Err(Refusal::NoMemory) => locked = self.let_others(rt, locked),
-                    Err(why) => return Err(self.shared.refusing(why)),
+                    Err(why) => locked = self.outlast(rt, locked, why)?,
                 },
                 Ok(AbortStepped::Again) => {
                     self.has_moved = true;
                     locked = self.sleep(rt, locked);
                 }
                 Ok(AbortStepped::Wait(_)) => locked = self.sleep(rt, locked),
-                Err(Refusal::NoMemory) => locked = self.let_others(rt, locked),
-                Err(why) => return Err(self.shared.refusing(why)),
+                Err(why) => locked = self.outlast(rt, locked, why)?,
             }
         }
         unreachable!()
@@ -334,6 +362,7 @@ impl<'a, D: Device, G: Gate + Drop, J: Naming> Hold<'a, D, G, J> {
         ensures stranger { IfErr result (λ r. txn.pass ≢ pass.old.number → r.why ≡ Stranger) }
         ensures back { IfErr result (λ r. IfSome r.txn (λ t. t ≡ txn)) }
         ensures gone { IfErr result (λ r. (r.txn ≡ None) ↔ (r.why ≡ DeviceFailed)) }
+        ensures why { IfErr result (λ r. IsCommitRefusal r.why) }
     {
         if txn.pass() != pass.number() {
             return Err(Refused {

@@ -20,6 +20,7 @@ mod shared;
 
 pub use gate::{Gate, Point};
 pub use hold::Hold;
-pub use mt_locked::{Locked, LogUse, Naming, Pass, Refused, Txn};
+pub use mt_locked::{Locked, Naming, Pass, Refused, Txn};
+pub use mt_txn::LogUse;
 pub use opened::Opened;
 pub use shared::{Closed, Shared, Tended};

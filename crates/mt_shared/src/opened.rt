@@ -6,10 +6,11 @@ ghost use Rattle.mt_mark.specs.Rule.{dones};
 ghost use Rattle.mt_model.specs.Model.{Base as ModelBase};
 ghost use Rattle.mt_replay.specs.Stands.{CanRestart};
 ghost use Rattle.mt_locked.specs.Began.{BeganOn};
-ghost use Rattle.mt_shared.specs.Opens.{IsBaseOf, IsMarked, IsUnshared};
+ghost use Rattle.mt_shared.specs.Opens.{HasBegunWith, IsBaseOf, IsMarked, IsUnshared};
 ghost use Rattle.mt_locked.specs.Seen.{PassSeen};
 ghost use Rattle.mt_locked.specs.Whole.{IsNew};
 ghost use Rattle.mt_txn.specs.Shown.{kernel_frames};
+ghost use Rattle.mt_txn.specs.Words.{kernel_book};
 
 use crate::gate::Gate;
 use crate::shared::Shared;
@@ -40,19 +41,20 @@ impl<D: Device> Model for Opened<D> {
     ghost use Rattle.mt_locked.specs.Seen.{Beside};
     ghost use Rattle.mt_shared.specs.Opens.{OpenedSeen};
     ghost use Rattle.mt_txn.specs.Shown.{kernel_frames};
+    ghost use Rattle.mt_txn.specs.Words.{kernel_book};
 
     ghost Value = { OpenedSeen };
 
     ghost view = { λ o. record {
       mark = o.end.mark;
       base = o.end.view.base;
-      book = o.kernel.core.book.items;
+      book = kernel_book o.kernel;
       frames = kernel_frames o.kernel;
       count = vec_len o.seats;
     } };
 
-    ghost invariant = { λ o. BeganOn D.seen D.may_leave o.end.view.base o.kernel × IsConfirmed o.end.view
-        × (o.end.view.list ≡ labelled o.end.view.book) × (o.end.view.book ≡ o.kernel.core.book.items)
+    ghost invariant = { λ o. BeganOn o.end.view.base o.kernel × IsConfirmed o.end.view
+        × (o.end.view.list ≡ labelled o.end.view.book) × (o.end.view.book ≡ kernel_book o.kernel)
         × All (Beside o.end) o.seats.items };
 }
 
@@ -68,12 +70,12 @@ impl<D: Device> Opened<D> {
         count: usize,
     ) -> Result<Opened<D>, Kernel<D>>
         requires count { count < 2 ^ 32 }
-        requires began { BeganOn D.seen D.may_leave base.now kernel }
-        ensures ok { IfOk result (λ o. (o.base ≡ base.now) × (o.book ≡ kernel.core.book.items)) }
+        requires began { BeganOn base.now kernel }
+        ensures ok { IfOk result (λ o. (o.base ≡ base.now) × (o.book ≡ kernel_book kernel)) }
         ensures many { IfOk result (λ o. o.count ≡ count) }
         ensures frames { IfOk result (λ o. o.frames ≡ kernel_frames kernel) }
-        ensures book { IfErr result (λ k. k.core.book.items ≡ kernel.core.book.items) }
-        ensures began { IfErr result (λ k. BeganOn D.seen D.may_leave base.now k) }
+        ensures book { IfErr result (λ k. kernel_book k ≡ kernel_book kernel) }
+        ensures began { IfErr result (λ k. BeganOn base.now k) }
         ensures same { IfErr result (λ k. k ≡ kernel) }
     {
         match marked(alloc, base, kernel.book(), count) {
@@ -93,8 +95,9 @@ impl<D: Device> Opened<D> {
         ensures passes { IfOk result (λ r. All (λ (p : PassSeen). dones p.seen ≡ self.book) r.1.items) }
         ensures fresh { IfOk result (λ r. All (IsNew J.book) r.1.items) }
         ensures many { IfOk result (λ r. vec_len r.1 ≡ self.count) }
-        ensures err { IfErr result (λ k. k.core.book.items ≡ self.book) }
-        ensures began { IfErr result (λ k. BeganOn D.seen D.may_leave self.base k) }
+        ensures opened { IfOk result (λ _. HasBegunWith ⟦<D as Device>⟧ self.frames self.base) }
+        ensures err { IfErr result (λ k. kernel_book k ≡ self.book) }
+        ensures began { IfErr result (λ k. BeganOn self.base k) }
     {
         let Opened { kernel, end, seats } = self;
         let Ok(passes) = passes_of::<J>(alloc, &end, seats) else {

@@ -7,22 +7,24 @@ ghost use Rattle.mt_mark.specs.Rule.{dones};
 ghost use Rattle.mt_model.specs.declared.history.Committed.{Committed};
 ghost use Rattle.mt_model.specs.declared.operations.Reply.{Reply};
 ghost use Rattle.mt_locked.specs.Began.{BeganOn, IsIdle};
-ghost use Rattle.mt_locked.specs.Refusals.{IsCloseRefusal};
+ghost use Rattle.mt_locked.specs.Refusals.{IsAbortRefusal, IsBeginRefusal, IsCloseRefusal, IsCommitRefusal};
 ghost use Rattle.mt_restart.specs.TurnFaults.{IsTurnFault};
 ghost use Rattle.mt_shared.specs.Refusals.{IsTurnRefusal};
 ghost use Rattle.mt_locked.specs.Seen.{PassSeen, Extends, Looked, fresh, with_call};
 ghost use Rattle.mt_locked.specs.Standings.{LeavesBook};
 ghost use Rattle.mt_locked.specs.Turns.{HasTurned, IsUseOn};
+ghost use Rattle.mt_txn.specs.Causes.{IsCallRefusal, size_cause};
 ghost use Rattle.mt_txn.specs.Shown.{is_failed};
+ghost use Rattle.mt_txn.specs.Words.{kernel_book};
 ghost use Rattle.mt_locked.specs.Whole.{HasAllOf, all_own};
 
 use crate::gate::{Gate, Point, Wanted};
 use crate::hold::Hold;
 use mt_base::Refusal;
 use mt_disk::Device;
-use mt_locked::{Due, Locked, LogUse, Naming, Pass, Refused, Txn, Unclosed, spend_token};
+use mt_locked::{Due, Locked, Naming, Pass, Refused, Txn, Unclosed, spend_token};
 use mt_model::{Op, Reply};
-use mt_txn::{Flushed, Kernel, KernelForced};
+use mt_txn::{Flushed, Kernel, KernelForced, LogUse};
 use std::alloc::Global;
 use std::array;
 use std::sync::{Condvar, Mutex, MutexGuard, Wait};
@@ -157,6 +159,7 @@ impl<D: Device, G: Gate + Drop, J: Naming> Shared<D, G, J> {
     ) -> Result<Txn<J>, Refusal>
         ensures pass { pass.new ≡ pass.old }
         ensures token { IfOk result (λ t. t ≡ fresh pass.old.number session) }
+        ensures why { IfErr result IsBeginRefusal }
     {
         let mut hold = self.hold();
         hold.begin(rt, alloc, pass, session)
@@ -169,6 +172,8 @@ impl<D: Device, G: Gate + Drop, J: Naming> Shared<D, G, J> {
     pub fn run<R: Wait>(&self, rt: &R, txn: &mut Txn<J>, op: Op) -> Result<(), Refusal>
         ensures ok { OnOk result ((r : Reply) × (txn.new ≡ with_call txn.old op r)) }
         ensures err { OnErr result (txn.new ≡ txn.old) }
+        ensures sized { OnOk result (size_cause op ≡ None) }
+        ensures why { IfErr result (IsCallRefusal op) }
     {
         let mut hold = self.hold();
         hold.run(rt, txn, op)
@@ -183,6 +188,7 @@ impl<D: Device, G: Gate + Drop, J: Naming> Shared<D, G, J> {
         ensures stranger { IfErr result (λ r. txn.pass ≢ pass.old.number → r.why ≡ Stranger) }
         ensures back { IfErr result (λ r. IfSome r.txn (λ t. t ≡ txn)) }
         ensures gone { IfErr result (λ r. (r.txn ≡ None) ↔ (r.why ≡ DeviceFailed)) }
+        ensures why { IfErr result (λ r. IsAbortRefusal r.why) }
     {
         let mut hold = self.hold();
         hold.abort(rt, pass, txn)
@@ -275,6 +281,7 @@ impl<D: Device, G: Gate + Drop, J: Naming> Shared<D, G, J> {
         ensures stranger { IfErr result (λ r. txn.pass ≢ pass.old.number → r.why ≡ Stranger) }
         ensures back { IfErr result (λ r. IfSome r.txn (λ t. t ≡ txn)) }
         ensures gone { IfErr result (λ r. (r.txn ≡ None) ↔ (r.why ≡ DeviceFailed)) }
+        ensures why { IfErr result (λ r. IsCommitRefusal r.why) }
     {
         let mut hold = self.hold();
         hold.commit(rt, pass, txn)
@@ -371,10 +378,10 @@ impl<D: Device, G: Gate + Drop, J: Naming> Shared<D, G, J> {
     /// history, or one lives in a kernel that has not failed.
     pub fn close(self, passes: Vec<Pass<J>>) -> Result<Kernel<D>, Closed<D, G, J>>
         ensures seen { IfOk result (λ k.
-            All (λ (p : PassSeen). IsPrefix (dones p.seen) k.core.book.items) passes.items) }
-        ensures own { IfOk result (λ k. HasAllOf k.core.book.items passes.items) }
-        ensures count { IfOk result (λ k. length k.core.book.items ≡ length J.book + all_own passes.items) }
-        ensures began { IfOk result (λ k. BeganOn D.seen D.may_leave J.base k) }
+            All (λ (p : PassSeen). IsPrefix (dones p.seen) (kernel_book k)) passes.items) }
+        ensures own { IfOk result (λ k. HasAllOf (kernel_book k) passes.items) }
+        ensures count { IfOk result (λ k. length (kernel_book k) ≡ length J.book + all_own passes.items) }
+        ensures began { IfOk result (λ k. BeganOn J.base k) }
         ensures idle { IfOk result (λ k. is_failed k ≡ false → IsIdle k) }
         ensures why { IfErr result (λ c. IsCloseRefusal c.why) }
         ensures back { IfErr result (λ c. c.passes.items ≡ passes.items) }
@@ -417,7 +424,7 @@ impl<D: Device + Drop, G: Gate + Drop, J: Naming> Shared<D, G, J> {
     pub fn abandon(self) -> Option<D>
         ensures there { IsSome result }
         ensures found { IfSome result (λ device.
-            ∥ ((book : List Committed) × LeavesBook D.may_leave J.base book device) ∥₁) }
+            ∥ ((book : List Committed) × LeavesBook D.Device J.base book device) ∥₁) }
     {
         let Shared {
             locked,

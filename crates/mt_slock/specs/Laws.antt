@@ -16,7 +16,8 @@ HeldOperationsCommute =
 -- a lock that is granted, and was not held before, is taken out: the locks are as they were
 abbrev pub TakingOutGivesBack : Type 0
 TakingOutGivesBack =
-    (held : Held) (t : ℕ) (x : Object) (m : LockMode) → held t x m ≡ false → without_lock (with_lock held t x m) t x m ≡ held
+    (held : Held) (t : ℕ) (x : Object) (m : LockMode) → held t x m ≡ false
+    → without_lock (with_lock held t x m) t x m ≡ held
 
 -- and if it was held before, the grant changed nothing
 abbrev pub GrantsOnce : Type 0

@@ -35,7 +35,8 @@ row_at page at = record {
 
 -- what slot i holds; a slot that is empty, or past the table, holds nothing
 unfoldable pub slot : List ℕ → ℕ → Option Row
-slot page i = if nat_lt i (count page) then (if size page i == 0 then None else Some (row_at page (offset page i))) else None
+slot page i =
+    if nat_lt i (count page) then (if size page i == 0 then None else Some (row_at page (offset page i))) else None
 
 -- the page as a list
 abbrev pub slots : List ℕ → List (Option Row)

@@ -31,7 +31,8 @@ pub record Placed (old new : List ℕ) (i at : ℕ) (text : List ℕ) (n : ℕ) 
   pub points : offset new i ≡ at
   pub sized : size new i ≡ length text
   pub has : Has new at text
-  pub rest : (k : ℕ) → 2 ≤ k → (k < 8 + 4 * i) ⊎ (12 + 4 * i ≤ k) → (k < at) ⊎ (at + length text ≤ k) → get_or new k 0 ≡ get_or old k 0
+  pub rest : (k : ℕ) → 2 ≤ k → (k < 8 + 4 * i) ⊎ (12 + 4 * i ≤ k) → (k < at) ⊎ (at + length text ≤ k)
+      → get_or new k 0 ≡ get_or old k 0
 
 -- a place for a record of so many bytes in slot i, with which the table is n slots long
 pub record IsPlace (page : List ℕ) (i n at bytes : ℕ) : Type 0 where
@@ -98,7 +99,8 @@ pub record Packed (old new : List ℕ) (n top : ℕ) : Type 0 where
   pub later : (j : ℕ) → n ≤ j → j < count old → offset new j ≡ offset old j
   pub empty : (j : ℕ) → j < n → size old j ≡ 0 → offset new j ≡ offset old j
   pub moved : (j : ℕ) → j < n → size old j ≢ 0 → Moved old new top j
-  pub apart : (j k : ℕ) → j < n → k < n → j ≢ k → size old j ≢ 0 → size old k ≢ 0 → (offset new j + size old j ≤ offset new k) ⊎ (offset new k + size old k ≤ offset new j)
+  pub apart : (j k : ℕ) → j < n → k < n → j ≢ k → size old j ≢ 0 → size old k ≢ 0
+      → (offset new j + size old j ≤ offset new k) ⊎ (offset new k + size old k ≤ offset new j)
 
 -- the same slots, with no gap between the records
 pub record Compacted (old new : List ℕ) : Type 0 where

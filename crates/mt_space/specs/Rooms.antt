@@ -33,7 +33,8 @@ pub record IsFirstFree (pages : List Bool) (page : ℕ) : Type 0 where
 
 -- none of the pages of a group of 64 is free
 abbrev pub HasNone : List Bool → ℕ → Type 0
-HasNone pages group = (p : ℕ) → GROUP_PAGES * group ≤ p → p < GROUP_PAGES * group + GROUP_PAGES → get_or pages p false ≡ false
+HasNone pages group =
+    (p : ℕ) → GROUP_PAGES * group ≤ p → p < GROUP_PAGES * group + GROUP_PAGES → get_or pages p false ≡ false
 
 -- the first of them that is
 pub record IsFirstIn (pages : List Bool) (group page : ℕ) : Type 0 where

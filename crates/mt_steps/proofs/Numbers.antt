@@ -1,29 +1,13 @@
--- A number in eight bytes of a page, written and read.
-use Rattle.std.proofs.Common.{◌≡◌, ◌≢◌, ◌<◌, ◌≤◌, ◌+◌, ◌*◌, ◌+ℤ◌, ◌^◌, ◌++◌, ◌⊎◌, inl, inr, ⊎_elim, true, int_le, ℕ, ℤ, List, length, sym, ◌∙◌, ap, subst, arith, length-append}
-use Rattle.std.specs.Int.{w64, cast_signed, cast_unsigned}
+-- Counters of a page, one of whose numbers changes.
+use Rattle.std.proofs.Common.{◌≡◌, ◌≢◌, ◌<◌, ◌≤◌, ◌+◌, ◌*◌, ◌+ℤ◌, ◌⊎◌, inl, inr, ⊎_elim, true, int_le, ℕ, ℤ, List, sym, ◌∙◌, ap, subst, arith}
 use Rattle.std.proofs.lemmas.Int.{ints}
-use Rattle.byteorder.specs.Endian.{big_number, big_bytes}
-use Rattle.byteorder.specs.Numbers.{big_number-reads_back, length-bytes_high_first}
-use Rattle.mt_base.specs.Ranges.{Has, Torn}
-use Rattle.mt_base.proofs.Places.{part_has, same_part, same_torn}
+use Rattle.mt_base.specs.Ranges.{Torn, i64_at}
+use Rattle.mt_base.proofs.EightBytes.{number_stays}
 use Rattle.std.proofs.lemmas.Bool.{cases_eq, cases_lt, and_parts}
 use Rattle.mt_model.specs.declared.counters.Count.{Count}
 use Rattle.mt_model.specs.Model.{moved, stays}
 use Rattle.mt_model.specs.Tables.{IsLimited}
-use Rattle.mt_steps.specs.Counters.{i64_at, place_of, count_in, AreCounters}
-
-pub number_back : (page text rest : List ℕ) (at bits : ℕ) (z : ℤ) → bits ≡ cast_unsigned w64 z → bits < 2 ^ 64 → cast_signed w64 (cast_unsigned w64 z) ≡ z → text ≡ big_bytes 8 bits ++ rest → length rest ≡ 0 → Has page at text → i64_at page at ≡ z
-unfolding i64_at
-number_back page text rest at bits z is small back text_is none has =
-    let long : 8 ≡ length text = sym (ap length text_is ∙ length-append (big_bytes 8 bits) rest ∙ omega (arith, none, length-bytes_high_first 8 bits)) in
-    ap (λ (x : List ℕ). cast_signed w64 (big_number 8 x)) (part_has page text at 8 has long ∙ text_is)
-    ∙ ap (cast_signed w64) (big_number-reads_back 8 bits rest small ∙ is)
-    ∙ back
-
--- a number apart from what changes
-pub number_stays : (old new : List ℕ) (at n p : ℕ) → Torn at n old new → (p + 8 ≤ at) ⊎ (at + n ≤ p) → i64_at new p ≡ i64_at old p
-unfolding i64_at
-number_stays old new at n p torn apart = ap (λ (x : List ℕ). cast_signed w64 (big_number 8 x)) (same_part p 8 old new torn.size (same_torn at n p 8 old new torn apart))
+use Rattle.mt_steps.specs.Counters.{place_of, count_in, AreCounters}
 
 -- another counter stays where one number changes
 pub count_apart : (old new : List ℕ) (n c : ℕ) → Torn (place_of n + 16) 8 old new → c ≢ n → count_in new c ≡ count_in old c

@@ -19,11 +19,13 @@ use Rattle.mt_steps.specs.declared.act.Act.TheVariants.{Lock, Made, Full, Broken
 
 -- some good pages agree with what is at hand
 abbrev pub HasGood : (ℕ → Option (List ℕ)) → ℕ → ℕ → Type 0
-HasGood at_hand relations total = (pages : PageBytes) × Agrees at_hand pages × (m : Map) × AreRows relations total pages m
+HasGood at_hand relations total =
+    (pages : PageBytes) × Agrees at_hand pages × (m : Map) × AreRows relations total pages m
 
 -- it holds of all good pages that agree with what is at hand
 abbrev pub InGood : (ℕ → Option (List ℕ)) → ℕ → ℕ → (PageBytes → Map → Type 0) → Type 0
-InGood at_hand relations total P = (pages : PageBytes) → Agrees at_hand pages → (m : Map) → AreRows relations total pages m → P pages m
+InGood at_hand relations total P =
+    (pages : PageBytes) → Agrees at_hand pages → (m : Map) → AreRows relations total pages m → P pages m
 
 -- a page is asked for that is not at hand
 abbrev pub IfLock : Act → (ℕ → Mode → Type 0) → Type 0
@@ -53,19 +55,23 @@ pub record IsAct (relations total : ℕ) (pages pages2 : PageBytes) (op : Op) (r
 
 -- some pages agree with what is at hand, and have a counters page
 abbrev pub HasCounters : (ℕ → Option (List ℕ)) → ℕ → ℕ → Type 0
-HasCounters at_hand relations counters = (pages : PageBytes) × Agrees at_hand pages × AreCounters relations counters (pages 2)
+HasCounters at_hand relations counters =
+    (pages : PageBytes) × Agrees at_hand pages × AreCounters relations counters (pages 2)
 
 -- ---- an insert
 
 -- some good pages agree with what is at hand, in which the named page, if one is, holds records; and all such
 abbrev pub HasRoomy : (ℕ → Option (List ℕ)) → Option ℕ → ℕ → ℕ → Type 0
-HasRoomy at_hand room relations total = (pages : PageBytes) × Agrees at_hand pages × (m : Map) × AreRows relations total pages m × IsNamed room pages
+HasRoomy at_hand room relations total =
+    (pages : PageBytes) × Agrees at_hand pages × (m : Map) × AreRows relations total pages m × IsNamed room pages
 
 abbrev pub InRoomy : (ℕ → Option (List ℕ)) → Option ℕ → ℕ → ℕ → (PageBytes → Map → Type 0) → Type 0
-InRoomy at_hand room relations total P = (pages : PageBytes) → Agrees at_hand pages → (m : Map) → AreRows relations total pages m → IsNamed room pages → P pages m
+InRoomy at_hand room relations total P = (pages : PageBytes) → Agrees at_hand pages → (m : Map)
+    → AreRows relations total pages m → IsNamed room pages → P pages m
 
 -- the record has been put, into a page of records or a free one
-pub record IsPlaced (total : ℕ) (pages : PageBytes) (changes : List PageChange) (name : RecordName) (row : Row) : Type 0 where
+pub record IsPlaced (total : ℕ) (pages : PageBytes) (changes : List PageChange) (name : RecordName)
+    (row : Row) : Type 0 where
   pub adds : Adds pages (after changes pages) name.page name.slot row
   pub was : (kind pages name.page ≡ 3) ⊎ (kind pages name.page ≡ 0)
   pub inside : name.page < total
@@ -88,7 +94,8 @@ pub record IsKept (pages : PageBytes) (changes : List PageChange) (name : Record
   pub short : AreShort changes pages
 
 -- or has moved, since its page has no room for it, within its page or to one of records or a free one
-pub record IsMoved (total : ℕ) (pages : PageBytes) (changes : List PageChange) (name to : RecordName) (old row : Row) : Type 0 where
+pub record IsMoved (total : ℕ) (pages : PageBytes) (changes : List PageChange) (name to : RecordName)
+    (old row : Row) : Type 0 where
   pub stood : record_in pages name.page name.slot ≡ Some old
   pub moves : Moves pages (after changes pages) name.page name.slot to.page to.slot row
   pub outgrown : IsOutgrown pages name.page old row

@@ -43,23 +43,27 @@ IsFound at_hand total r k = (name : RecordName) × IsNamedBy at_hand total r k n
 
 -- the key's record is the only one of its page, which is given back with it
 abbrev pub IsAlone : PageBytes → ℕ → List ℕ → Type 0
-IsAlone pages r k = (p s : ℕ) × (v : List ℕ) × (record_in pages p s ≡ Some (record { relation = r; key = k; value = v })) × ((t : ℕ) → t ≢ s → record_in pages p t ≡ None)
+IsAlone pages r k = (p s : ℕ) × (v : List ℕ) × (record_in pages p s
+    ≡ Some (record { relation = r; key = k; value = v })) × ((t : ℕ) → t ≢ s → record_in pages p t ≡ None)
 
 -- A delete asks for the key's bucket, and to write for the page of its record; for the map if that page is given
 -- back.
 abbrev pub IsForDelete : ℕ → List ℕ → PageBytes → ℕ → Mode → Type 0
-IsForDelete r k pages p mode = IsInBucket k ToWrite pages p mode ⊎ ((mode ≡ ToWrite) × (HasStood pages p r k ⊎ ((p ≡ 0) × IsAlone pages r k)))
+IsForDelete r k pages p mode =
+    IsInBucket k ToWrite pages p mode ⊎ ((mode ≡ ToWrite) × (HasStood pages p r k ⊎ ((p ≡ 0) × IsAlone pages r k)))
 
 -- An update asks to write for the page of its record. Only if that has no room for the new value it asks for the page
 -- to move to, which is the one that is named, or else the smallest free one after the map; and for the key's bucket.
 abbrev pub IsForUpdate : Option ℕ → ℕ → ℕ → List ℕ → List ℕ → PageBytes → ℕ → Mode → Type 0
 IsForUpdate room total r k v pages p mode =
     ((mode ≡ ToWrite) × HasStood pages p r k)
-    ⊎ (NeedsPlace (Update r k v) pages × (((mode ≡ ToWrite) × IsLooked room total pages p) ⊎ IsInBucket k ToWrite pages p mode))
+    ⊎ (NeedsPlace (Update r k v) pages × (((mode ≡ ToWrite) × IsLooked room total pages p)
+    ⊎ IsInBucket k ToWrite pages p mode))
 
 -- the pages once a record is put into the page for it
 abbrev pub HasPut : Option ℕ → ℕ → Row → PageBytes → PageBytes → Type 0
-HasPut room total row pages next = (name : RecordName) × IsChosen room total pages name.page × Adds pages next name.page name.slot row
+HasPut room total row pages next =
+    (name : RecordName) × IsChosen room total pages name.page × Adds pages next name.page name.slot row
 
 -- An insert asks to write for the page for its record, as an update that moves; and once the record is put, for what
 -- its entry needs.
@@ -78,13 +82,17 @@ InRows at_hand room total P = (relations : ℕ) → InRoomy at_hand room relatio
 -- record's page, or for what it changes. An operation on a counter asks for page 2.
 abbrev pub AsksFor : (ℕ → Option (List ℕ)) → Option ℕ → ℕ → Bool → Op → ℕ → Mode → Type 0
 AsksFor at_hand room total split (Get r k) p mode =
-    LooksFor at_hand total k ToRead p mode ⊎ ((s : ℕ) × IsNamedBy at_hand total r k (record { page = p; slot = s }) × (mode ≡ ToRead))
+    LooksFor at_hand total k ToRead p mode ⊎ ((s : ℕ) × IsNamedBy at_hand total r k (record { page = p; slot = s })
+    × (mode ≡ ToRead))
 AsksFor at_hand room total split (Insert r k v) p mode =
     LooksFor at_hand total k ToWrite p mode
-    ⊎ (IsMissing at_hand total r k × InRows at_hand room total (λ pages. IsForInsert room total split (record { relation = r; key = k; value = v }) pages p mode))
+    ⊎ (IsMissing at_hand total r k × InRows at_hand room total
+    (λ pages. IsForInsert room total split (record { relation = r; key = k; value = v }) pages p mode))
 AsksFor at_hand room total split (Update r k v) p mode =
-    LooksFor at_hand total k ToRead p mode ⊎ (IsFound at_hand total r k × InRows at_hand room total (λ pages. IsForUpdate room total r k v pages p mode))
+    LooksFor at_hand total k ToRead p mode ⊎ (IsFound at_hand total r k
+    × InRows at_hand room total (λ pages. IsForUpdate room total r k v pages p mode))
 AsksFor at_hand room total split (Delete r k) p mode =
-    LooksFor at_hand total k ToWrite p mode ⊎ (IsFound at_hand total r k × InRows at_hand room total (λ pages. IsForDelete r k pages p mode))
+    LooksFor at_hand total k ToWrite p mode ⊎ (IsFound at_hand total r k
+    × InRows at_hand room total (λ pages. IsForDelete r k pages p mode))
 AsksFor at_hand room total split (Add c d) p mode = (p ≡ 2) × (mode ≡ ToWrite)
 AsksFor at_hand room total split (Read c) p mode = (p ≡ 2) × (mode ≡ ToRead)

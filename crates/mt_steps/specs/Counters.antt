@@ -1,24 +1,23 @@
 -- The counters page.
-use Rattle.std.specs.Prelude.{◌≡◌, ℕ, ℤ, ◌+◌, ◌*◌, ◌<◌, ◌≤◌, List, length}
-use Rattle.std.specs.Int.{w64, cast_signed}
+use Rattle.std.specs.Prelude.{◌≡◌, ℕ, ◌+◌, ◌*◌, ◌<◌, ◌≤◌, List, length}
 use Rattle.std.proofs.Math.ListN.{get_or}
 use Rattle.mt_steps.specs.declared.counters.TheConstants.{COUNTERS_HEAD_BYTES, COUNTER_BYTES}
 use Rattle.mt_base.specs.declared.limits.TheConstants.{MAX_COUNTERS, PAGE_BYTES}
-use Rattle.byteorder.specs.Endian.{big_number}
-use Rattle.mt_base.specs.Ranges.{part}
+use Rattle.mt_base.specs.Ranges.{i64_at}
 use Rattle.mt_model.specs.declared.counters.Count.{Count}
 use Rattle.mt_model.specs.Tables.{IsLimited}
-
--- the number in the eight bytes at a place, the highest one first, as two's complement
-unfoldable pub i64_at : List ℕ → ℕ → ℤ
-i64_at page at = cast_signed w64 (big_number 8 (part page at 8))
 
 -- where a counter's bounds and number stand
 abbrev pub place_of : ℕ → ℕ
 place_of c = COUNTERS_HEAD_BYTES + COUNTER_BYTES * c
 
 abbrev pub count_in : List ℕ → ℕ → Count
-count_in page c = record { low = i64_at page (place_of c); high = i64_at page (place_of c + 8); number = i64_at page (place_of c + 16) }
+count_in page c = record {
+  low = i64_at page (place_of c);
+  high = i64_at page (place_of c + 8);
+  number = i64_at page
+      (place_of c + 16);
+}
 
 -- a counters page of a schema of so many relations and counters; what lies after the last counter is open
 pub record AreCounters (relations counters : ℕ) (page : List ℕ) : Type 0 where

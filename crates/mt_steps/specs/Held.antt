@@ -31,8 +31,10 @@ pub record Holds (pages : PageBytes) (b : Base) : Type 0 where
 
 -- each entry of the index names a record of its relation and key, and each record has one
 pub record AreNamed (pages : PageBytes) (m : Map) : Type 0 where
-  pub names : (r : ℕ) (k : List ℕ) (n : RecordName) → m r k ≡ Some n → (v : List ℕ) × (record_in pages n.page n.slot ≡ Some (record { relation = r; key = k; value = v }))
-  pub named : (p s : ℕ) (row : Row) → record_in pages p s ≡ Some row → m row.relation row.key ≡ Some (record { page = p; slot = s })
+  pub names : (r : ℕ) (k : List ℕ) (n : RecordName) → m r k ≡ Some n
+      → (v : List ℕ) × (record_in pages n.page n.slot ≡ Some (record { relation = r; key = k; value = v }))
+  pub named : (p s : ℕ) (row : Row) → record_in pages p s ≡ Some row
+      → m row.relation row.key ≡ Some (record { page = p; slot = s })
 
 -- the records and their index, in pages of a schema of so many relations and pages; each bucket page stands in a
 -- chain

@@ -16,7 +16,8 @@ pub record AreBounds (page : List ℕ) (counters : ℕ) (bounds : List (ℤ × �
 -- Each row is a record of the pages, and the records of the pages below p are rows.
 pub record HasListed (pages : PageBytes) (p : ℕ) (b : Base) : Type 0 where
   pub found : (r : ℕ) (k v : List ℕ) → b.rows r k ≡ Some v → IsThere pages r k v
-  pub listed : (q s : ℕ) (row : Row) → q < p → record_in pages q s ≡ Some row → b.rows row.relation row.key ≡ Some row.value
+  pub listed : (q s : ℕ) (row : Row) → q < p → record_in pages q s ≡ Some row
+      → b.rows row.relation row.key ≡ Some row.value
 
 -- it has the same rows, and as many counters, each the same
 pub record IsSame (counters : ℕ) (b m : Base) : Type 0 where

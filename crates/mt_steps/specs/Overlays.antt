@@ -61,11 +61,13 @@ abbrev pub AreAtHand : (ℕ → Option (List ℕ)) → List PageChange → Type 
 AreAtHand at_hand changes = All (λ c. IsSome (at_hand c.page)) changes
 
 -- these changes are made in an overlay, or a first part of them if memory was refused
-pub record MakesChanges {V T E : Type 0} (at_hand : ℕ → Option (List ℕ)) (was now : V) (old new : List PageCopy) (changes : List PageChange) (r : Result T E) : Type 0 where
+pub record MakesChanges {V T E : Type 0} (at_hand : ℕ → Option (List ℕ)) (was now : V) (old new : List PageCopy)
+    (changes : List PageChange) (r : Result T E) : Type 0 where
   pub copies : AreCopies at_hand new
   pub views : now ≡ was
   pub same_pages : (p : ℕ) → IsSome (shown new at_hand p) ↔ IsSome (at_hand p)
-  pub agrees : OnOk r ((pages : PageBytes) → Agrees (shown old at_hand) pages → Agrees (shown new at_hand) (after changes pages))
+  pub agrees : OnOk r ((pages : PageBytes) → Agrees (shown old at_hand) pages
+      → Agrees (shown new at_hand) (after changes pages))
   pub few : OnOk r (length new ≤ length old + length changes)
   pub draws : OnOk r ((pages : PageBytes) → Agrees at_hand pages → drawn new pages ≡ after changes (drawn old pages))
 
@@ -81,9 +83,12 @@ unfoldable pub names_page : List PageChange → ℕ → Bool
 names_page changes p = list_any (λ (c : PageChange). c.page == p) changes
 
 -- a page that is at hand is whole, if those below are
-pub shown_whole : (copies : List PageCopy) (below : ℕ → Option (List ℕ)) → AreCopies below copies → ((p : ℕ) (bytes : List ℕ) → below p ≡ Some bytes → length bytes ≡ PAGE_BYTES) → (p : ℕ) (bytes : List ℕ) → shown copies below p ≡ Some bytes → length bytes ≡ PAGE_BYTES
+pub shown_whole : (copies : List PageCopy) (below : ℕ → Option (List ℕ)) → AreCopies below copies
+    → ((p : ℕ) (bytes : List ℕ) → below p ≡ Some bytes → length bytes ≡ PAGE_BYTES) → (p : ℕ) (bytes : List ℕ)
+    → shown copies below p ≡ Some bytes → length bytes ≡ PAGE_BYTES
 shown_whole copies below sound whole p bytes is = either (copied copies p) is (sound.whole p)
   where
-    either : (o : Option (List ℕ)) → or_below o (below p) ≡ Some bytes → ((b : List ℕ) → o ≡ Some b → length b ≡ PAGE_BYTES) → length bytes ≡ PAGE_BYTES
+    either : (o : Option (List ℕ)) → or_below o (below p) ≡ Some bytes
+        → ((b : List ℕ) → o ≡ Some b → length b ≡ PAGE_BYTES) → length bytes ≡ PAGE_BYTES
     either None is copy = whole p bytes is
     either (Some b) is copy = copy bytes is

@@ -16,49 +16,86 @@ use Rattle.mt_steps.specs.Tells.{TakesNone}
 use Rattle.mt_steps.specs.Counters.{AreCounters}
 
 -- the read of a row
-pub record PlansGet (at_hand : ℕ → Option (List ℕ)) (total : ℕ) (relation : ℕ) (key : List ℕ) (r : Result Act AllocError) : Type 0 where
+pub record PlansGet (at_hand : ℕ → Option (List ℕ)) (total : ℕ) (relation : ℕ) (key : List ℕ)
+    (r : Result Act AllocError) : Type 0 where
   pub lock : IfOk r (λ act. IfLock act (λ p mode. (at_hand p ≡ None) × (p < total)))
-  pub asks : (room : Option ℕ) (split : Bool) → IfOk r (λ act. IfLock act (AsksFor at_hand room total split (Get relation key)))
+  pub asks : (room : Option ℕ) (split : Bool) → IfOk r (λ act. IfLock act
+      (AsksFor at_hand room total split (Get relation key)))
   pub mode : IfOk r (λ act. IfLock act (λ p mode. mode ≡ ToRead))
-  pub made : (relations : ℕ) → IfOk r (λ act. IfMade act (λ changes reply. InGood at_hand relations total (λ pages m. IsAct relations total pages (after changes pages) (Get relation key) reply × AreShort changes pages)))
+  pub made : (relations : ℕ) → IfOk r (λ act. IfMade act
+      (λ changes reply. InGood at_hand relations total (λ pages m. IsAct relations total pages (after changes pages)
+      (Get relation key) reply × AreShort changes pages)))
   pub quiet : IfOk r (λ act. IfMade act (λ changes reply. changes ≡ []))
   pub idle : IfOk r (λ act. IfMade act (λ changes reply. logged_of (Get relation key) reply ≡ None → changes ≡ []))
   pub full : IfOk r (λ act. IfFull act ⊥)
   pub broken : IfOk r (λ act. IfBroken act ⊥)
 
 -- a row more
-pub record PlansInsert (at_hand : ℕ → Option (List ℕ)) (total : ℕ) (room : Option ℕ) (split : Bool) (relation : ℕ) (key value : List ℕ) (r : Result Act AllocError) : Type 0 where
+pub record PlansInsert (at_hand : ℕ → Option (List ℕ)) (total : ℕ) (room : Option ℕ) (split : Bool) (relation : ℕ)
+    (key value : List ℕ) (r : Result Act AllocError) : Type 0 where
   pub lock : IfOk r (λ act. IfLock act (λ p mode. (at_hand p ≡ None) × (p < total)))
   pub asks : IfOk r (λ act. IfLock act (AsksFor at_hand room total split (Insert relation key value)))
-  pub made : (relations : ℕ) → Fits relations MAX_VALUE_BYTES (record { relation = relation; key = key; value = value }) → IfOk r (λ act. IfMade act (λ changes reply. InRoomy at_hand room relations total (λ pages m. IsAct relations total pages (after changes pages) (Insert relation key value) reply × AreShort changes pages)))
+  pub made : (relations : ℕ) → Fits relations MAX_VALUE_BYTES (record { relation = relation; key = key; value = value })
+      → IfOk r (λ act. IfMade act (λ changes reply. InRoomy at_hand room relations total
+      (λ pages m. IsAct relations total pages (after changes pages) (Insert relation key value) reply
+      × AreShort changes pages)))
   pub there : IfOk r (λ act. IfMade act (λ changes reply. AreAtHand at_hand changes))
   pub few : IfOk r (λ act. IfMade act (λ changes reply. length changes ≤ MAX_WRITTEN_PAGES))
-  pub idle : IfOk r (λ act. IfMade act (λ changes reply. logged_of (Insert relation key value) reply ≡ None → changes ≡ []))
-  pub modest : (relations : ℕ) → Fits relations MAX_VALUE_BYTES (record { relation = relation; key = key; value = value }) → IfOk r (λ act. IfMade act (λ changes reply. InRoomy at_hand room relations total (λ pages m. IsModest at_hand total (cond split 3 2) split pages (after changes pages))))
-  pub takes : (relations : ℕ) → Fits relations MAX_VALUE_BYTES (record { relation = relation; key = key; value = value }) → IfOk r (λ act. IfMade act (λ changes reply. InRoomy at_hand room relations total (λ pages m. TakesPages room (Insert relation key value) pages (after changes pages))))
-  pub full : (relations : ℕ) → IfOk r (λ act. IfFull act (InRoomy at_hand room relations total (λ pages m. (free_pages total pages < cond split 3 2) ⊎ IsTight room pages (row_length (record { relation = relation; key = key; value = value })))))
+  pub idle : IfOk r (λ act. IfMade act (λ changes reply. logged_of (Insert relation key value) reply ≡ None
+      → changes ≡ []))
+  pub modest : (relations : ℕ) → Fits relations MAX_VALUE_BYTES
+      (record { relation = relation; key = key; value = value })
+      → IfOk r (λ act. IfMade act (λ changes reply. InRoomy at_hand room relations total
+      (λ pages m. IsModest at_hand total (cond split 3 2) split pages (after changes pages))))
+  pub takes : (relations : ℕ) → Fits relations MAX_VALUE_BYTES
+      (record { relation = relation; key = key; value = value })
+      → IfOk r (λ act. IfMade act (λ changes reply. InRoomy at_hand room relations total
+      (λ pages m. TakesPages room (Insert relation key value) pages (after changes pages))))
+  pub full : (relations : ℕ) → IfOk r (λ act. IfFull act
+      (InRoomy at_hand room relations total (λ pages m. (free_pages total pages < cond split 3 2)
+      ⊎ IsTight room pages (row_length (record { relation = relation; key = key; value = value })))))
   pub broken : IfOk r (λ act. IfBroken act ⊥)
 
 -- another value of a row
-pub record PlansUpdate (at_hand : ℕ → Option (List ℕ)) (total : ℕ) (room : Option ℕ) (relation : ℕ) (key value : List ℕ) (r : Result Act AllocError) : Type 0 where
+pub record PlansUpdate (at_hand : ℕ → Option (List ℕ)) (total : ℕ) (room : Option ℕ) (relation : ℕ) (key value : List ℕ)
+    (r : Result Act AllocError) : Type 0 where
   pub lock : IfOk r (λ act. IfLock act (λ p mode. (at_hand p ≡ None) × (p < total)))
   pub asks : (split : Bool) → IfOk r (λ act. IfLock act (AsksFor at_hand room total split (Update relation key value)))
-  pub made : (relations : ℕ) → Fits relations MAX_VALUE_BYTES (record { relation = relation; key = key; value = value }) → IfOk r (λ act. IfMade act (λ changes reply. InRoomy at_hand room relations total (λ pages m. IsAct relations total pages (after changes pages) (Update relation key value) reply × AreShort changes pages)))
+  pub made : (relations : ℕ) → Fits relations MAX_VALUE_BYTES (record { relation = relation; key = key; value = value })
+      → IfOk r (λ act. IfMade act (λ changes reply. InRoomy at_hand room relations total
+      (λ pages m. IsAct relations total pages (after changes pages) (Update relation key value) reply
+      × AreShort changes pages)))
   pub there : IfOk r (λ act. IfMade act (λ changes reply. AreAtHand at_hand changes))
   pub few : IfOk r (λ act. IfMade act (λ changes reply. length changes ≤ MAX_WRITTEN_PAGES))
-  pub idle : IfOk r (λ act. IfMade act (λ changes reply. logged_of (Update relation key value) reply ≡ None → changes ≡ []))
-  pub modest : (relations : ℕ) → Fits relations MAX_VALUE_BYTES (record { relation = relation; key = key; value = value }) → IfOk r (λ act. IfMade act (λ changes reply. InRoomy at_hand room relations total (λ pages m. IsModest at_hand total 1 false pages (after changes pages))))
-  pub takes : (relations : ℕ) → Fits relations MAX_VALUE_BYTES (record { relation = relation; key = key; value = value }) → IfOk r (λ act. IfMade act (λ changes reply. InRoomy at_hand room relations total (λ pages m. TakesPages room (Update relation key value) pages (after changes pages))))
-  pub full : (relations : ℕ) → IfOk r (λ act. IfFull act (InRoomy at_hand room relations total (λ pages m. (free_pages total pages < 1) ⊎ IsTight room pages (row_length (record { relation = relation; key = key; value = value })))))
+  pub idle : IfOk r (λ act. IfMade act (λ changes reply. logged_of (Update relation key value) reply ≡ None
+      → changes ≡ []))
+  pub modest : (relations : ℕ) → Fits relations MAX_VALUE_BYTES
+      (record { relation = relation; key = key; value = value })
+      → IfOk r (λ act. IfMade act (λ changes reply. InRoomy at_hand room relations total
+      (λ pages m. IsModest at_hand total 1 false pages (after changes pages))))
+  pub takes : (relations : ℕ) → Fits relations MAX_VALUE_BYTES
+      (record { relation = relation; key = key; value = value })
+      → IfOk r (λ act. IfMade act (λ changes reply. InRoomy at_hand room relations total
+      (λ pages m. TakesPages room (Update relation key value) pages (after changes pages))))
+  pub full : (relations : ℕ) → IfOk r (λ act. IfFull act
+      (InRoomy at_hand room relations total (λ pages m. (free_pages total pages < 1)
+      ⊎ IsTight room pages (row_length (record { relation = relation; key = key; value = value })))))
   pub broken : IfOk r (λ act. IfBroken act ⊥)
 
 -- a row less
-pub record PlansDelete (at_hand : ℕ → Option (List ℕ)) (total : ℕ) (relation : ℕ) (key : List ℕ) (r : Result Act AllocError) : Type 0 where
+pub record PlansDelete (at_hand : ℕ → Option (List ℕ)) (total : ℕ) (relation : ℕ) (key : List ℕ)
+    (r : Result Act AllocError) : Type 0 where
   pub lock : IfOk r (λ act. IfLock act (λ p mode. (at_hand p ≡ None) × (p < total)))
-  pub asks : (room : Option ℕ) (split : Bool) → IfOk r (λ act. IfLock act (AsksFor at_hand room total split (Delete relation key)))
-  pub made : (relations : ℕ) → IfOk r (λ act. IfMade act (λ changes reply. InGood at_hand relations total (λ pages m. IsAct relations total pages (after changes pages) (Delete relation key) reply × AreShort changes pages)))
-  pub modest : (relations : ℕ) → IfOk r (λ act. IfMade act (λ changes reply. InGood at_hand relations total (λ pages m. IsModest at_hand total 0 false pages (after changes pages))))
-  pub takes : (relations : ℕ) → IfOk r (λ act. IfMade act (λ changes reply. InGood at_hand relations total (λ pages m. TakesNone pages (after changes pages))))
+  pub asks : (room : Option ℕ) (split : Bool) → IfOk r (λ act. IfLock act
+      (AsksFor at_hand room total split (Delete relation key)))
+  pub made : (relations : ℕ) → IfOk r (λ act. IfMade act
+      (λ changes reply. InGood at_hand relations total (λ pages m. IsAct relations total pages (after changes pages)
+      (Delete relation key) reply × AreShort changes pages)))
+  pub modest : (relations : ℕ) → IfOk r (λ act. IfMade act
+      (λ changes reply. InGood at_hand relations total (λ pages m. IsModest at_hand total 0 false pages
+      (after changes pages))))
+  pub takes : (relations : ℕ) → IfOk r (λ act. IfMade act
+      (λ changes reply. InGood at_hand relations total (λ pages m. TakesNone pages (after changes pages))))
   pub full : IfOk r (λ act. IfFull act ⊥)
   pub there : IfOk r (λ act. IfMade act (λ changes reply. AreAtHand at_hand changes))
   pub few : IfOk r (λ act. IfMade act (λ changes reply. length changes ≤ MAX_WRITTEN_PAGES))
@@ -66,15 +103,22 @@ pub record PlansDelete (at_hand : ℕ → Option (List ℕ)) (total : ℕ) (rela
   pub broken : IfOk r (λ act. IfBroken act ⊥)
 
 -- a step added to a counter
-pub record PlansAdd (at_hand : ℕ → Option (List ℕ)) (total : ℕ) (number : ℕ) (step : ℤ) (r : Result Act AllocError) : Type 0 where
+pub record PlansAdd (at_hand : ℕ → Option (List ℕ)) (total : ℕ) (number : ℕ) (step : ℤ)
+    (r : Result Act AllocError) : Type 0 where
   pub lock : IfOk r (λ act. IfLock act (λ p mode. (at_hand p ≡ None) × (p ≡ 2)))
   pub mode : IfOk r (λ act. IfLock act (λ p mode. mode ≡ ToWrite))
-  pub made : (relations : ℕ) → IfOk r (λ act. IfMade act (λ changes reply. InGood at_hand relations total (λ pages m. (counters : ℕ) → number < counters → AreCounters relations counters (pages 2) → IsAct relations total pages (after changes pages) (Add number step) reply × AreShort changes pages)))
+  pub made : (relations : ℕ) → IfOk r (λ act. IfMade act
+      (λ changes reply. InGood at_hand relations total (λ pages m. (counters : ℕ) → number < counters
+      → AreCounters relations counters (pages 2) → IsAct relations total pages (after changes pages) (Add number step)
+      reply × AreShort changes pages)))
   pub there : IfOk r (λ act. IfMade act (λ changes reply. AreAtHand at_hand changes))
   pub few : IfOk r (λ act. IfMade act (λ changes reply. length changes ≤ MAX_WRITTEN_PAGES))
   pub idle : IfOk r (λ act. IfMade act (λ changes reply. logged_of (Add number step) reply ≡ None → changes ≡ []))
-  pub modest : (relations : ℕ) → IfOk r (λ act. IfMade act (λ changes reply. InGood at_hand relations total (λ pages m. IsModest at_hand total 0 false pages (after changes pages))))
-  pub takes : (relations : ℕ) → IfOk r (λ act. IfMade act (λ changes reply. InGood at_hand relations total (λ pages m. TakesNone pages (after changes pages))))
+  pub modest : (relations : ℕ) → IfOk r (λ act. IfMade act
+      (λ changes reply. InGood at_hand relations total (λ pages m. IsModest at_hand total 0 false pages
+      (after changes pages))))
+  pub takes : (relations : ℕ) → IfOk r (λ act. IfMade act
+      (λ changes reply. InGood at_hand relations total (λ pages m. TakesNone pages (after changes pages))))
   pub full : IfOk r (λ act. IfFull act ⊥)
   pub broken : IfOk r (λ act. IfBroken act ⊥)
 
@@ -82,7 +126,9 @@ pub record PlansAdd (at_hand : ℕ → Option (List ℕ)) (total : ℕ) (number 
 pub record PlansRead (at_hand : ℕ → Option (List ℕ)) (total : ℕ) (number : ℕ) (r : Act) : Type 0 where
   pub lock : IfLock r (λ p mode. (at_hand p ≡ None) × (p ≡ 2))
   pub mode : IfLock r (λ p mode. mode ≡ ToRead)
-  pub made : (relations : ℕ) → IfMade r (λ changes reply. InGood at_hand relations total (λ pages m. (counters : ℕ) → number < counters → AreCounters relations counters (pages 2) → IsAct relations total pages (after changes pages) (Read number) reply × AreShort changes pages))
+  pub made : (relations : ℕ) → IfMade r (λ changes reply. InGood at_hand relations total
+      (λ pages m. (counters : ℕ) → number < counters → AreCounters relations counters (pages 2)
+      → IsAct relations total pages (after changes pages) (Read number) reply × AreShort changes pages))
   pub quiet : IfMade r (λ changes reply. changes ≡ [])
   pub idle : IfMade r (λ changes reply. logged_of (Read number) reply ≡ None → changes ≡ [])
   pub full : IfFull r ⊥

@@ -62,7 +62,8 @@ IsTight room pages bytes = (p : ℕ) × (room ≡ Some p) × (fits_of (pages p) 
 
 -- some good pages agree with what is at hand, in which the named page, if one is, holds records; and all such
 abbrev pub HasPages : (ℕ → Option (List ℕ)) → Option ℕ → ℕ → ℕ → ℕ → Type 0
-HasPages at_hand room relations counters total = (pages : PageBytes) × Agrees at_hand pages × IsGood relations counters total pages × IsNamed room pages
+HasPages at_hand room relations counters total =
+    (pages : PageBytes) × Agrees at_hand pages × IsGood relations counters total pages × IsNamed room pages
 
 -- there are such pages, of a schema that has what an operation names
 abbrev pub CanPlan : (ℕ → Option (List ℕ)) → Option ℕ → ℕ → Op → Type 0
@@ -70,7 +71,8 @@ CanPlan at_hand room total op = ∥ ((relations : ℕ) × (counters : ℕ) × Ha
     × IsWithin relations counters op × (relations ≤ MAX_RELATIONS)) ∥₁
 
 abbrev pub InPages : (ℕ → Option (List ℕ)) → Option ℕ → ℕ → ℕ → ℕ → (PageBytes → Type 0) → Type 0
-InPages at_hand room relations counters total P = (pages : PageBytes) → Agrees at_hand pages → IsGood relations counters total pages → IsNamed room pages → P pages
+InPages at_hand room relations counters total P =
+    (pages : PageBytes) → Agrees at_hand pages → IsGood relations counters total pages → IsNamed room pages → P pages
 
 -- a page of records that has none
 abbrev pub HasNoRecord : PageBytes → ℕ → Type 0
@@ -84,7 +86,8 @@ IsGivenBack old new = (new ≡ old) ⊎ ((old ≡ 3) × (new ≡ 0))
 
 -- a record of this relation and key stood in the page
 abbrev pub HasStood : PageBytes → ℕ → ℕ → List ℕ → Type 0
-HasStood pages p r k = (s : ℕ) × (v : List ℕ) × (record_in pages p s ≡ Some (record { relation = r; key = k; value = v }))
+HasStood pages p r k =
+    (s : ℕ) × (v : List ℕ) × (record_in pages p s ≡ Some (record { relation = r; key = k; value = v }))
 
 -- the page for a record: the named one, or one that was free if none is named
 abbrev pub IsInto : Option ℕ → PageBytes → ℕ → Type 0
@@ -94,13 +97,15 @@ IsInto None pages p = kind pages p ≡ 0
 -- a record that needs a place: of an insert, or of an update if its page has no room for it
 abbrev pub NeedsPlace : Op → PageBytes → Type 0
 NeedsPlace (Insert r k v) pages = Unit {0}
-NeedsPlace (Update r k v) pages = (p s : ℕ) (old : List ℕ) → record_in pages p s ≡ Some (record { relation = r; key = k; value = old })
+NeedsPlace (Update r k v) pages =
+    (p s : ℕ) (old : List ℕ) → record_in pages p s ≡ Some (record { relation = r; key = k; value = old })
     → IsOutgrown pages p (record { relation = r; key = k; value = old }) (record { relation = r; key = k; value = v })
 NeedsPlace _ pages = ⊥
 
 -- each page of a key's bucket is full
 abbrev pub IsCrowded : List ℕ → PageBytes → Type 0
-IsCrowded key pages = (ns : List ℕ) → Linked (state_of pages).node (named (state_of pages) (hash key)) ns → Each (IsFull (state_of pages)) ns
+IsCrowded key pages = (ns : List ℕ) → Linked (state_of pages).node (named (state_of pages) (hash key)) ns
+    → Each (IsFull (state_of pages)) ns
 
 -- an entry that needs a page: of an insert whose key's bucket is full
 abbrev pub NeedsEntry : Op → PageBytes → Type 0
@@ -111,14 +116,17 @@ NeedsEntry _ pages = ⊥
 -- is taken only for a record that needs a place, if no page is named, or for an entry that needs a page. Of the other
 -- pages, only one of records is given back, and each keeps its kind else.
 pub record TakesPages (room : Option ℕ) (op : Op) (pages pages2 : PageBytes) : Type 0 where
-  pub stands : (p s : ℕ) (row : Row) → record_in pages2 p s ≡ Some row → (IsInto room pages p × NeedsPlace op pages) ⊎ HasStood pages p row.relation row.key
-  pub taken : (p : ℕ) → kind pages p ≡ 0 → kind pages2 p ≢ 0 → ((kind pages2 p ≡ 3) × (room ≡ None) × NeedsPlace op pages) ⊎ ((kind pages2 p ≡ 2) × NeedsEntry op pages)
+  pub stands : (p s : ℕ) (row : Row) → record_in pages2 p s ≡ Some row
+      → (IsInto room pages p × NeedsPlace op pages) ⊎ HasStood pages p row.relation row.key
+  pub taken : (p : ℕ) → kind pages p ≡ 0 → kind pages2 p ≢ 0
+      → ((kind pages2 p ≡ 3) × (room ≡ None) × NeedsPlace op pages) ⊎ ((kind pages2 p ≡ 2) × NeedsEntry op pages)
   pub given : (p : ℕ) → kind pages p ≢ 0 → IsGivenBack (kind pages p) (kind pages2 p)
 
 -- A page that is not at hand keeps its kind, at most so many free pages are taken, and if none may be, pages of
 -- records are given back and no other changes its kind; the directory changes only if a bucket may split, and no page
 -- is left without a record that had one.
-pub record IsModest (at_hand : ℕ → Option (List ℕ)) (total needs : ℕ) (split : Bool) (pages pages2 : PageBytes) : Type 0 where
+pub record IsModest (at_hand : ℕ → Option (List ℕ)) (total needs : ℕ) (split : Bool)
+    (pages pages2 : PageBytes) : Type 0 where
   pub kinds : (p : ℕ) → at_hand p ≡ None → kind pages2 p ≡ kind pages p
   pub takes : free_pages total pages ≤ free_pages total pages2 + needs
   pub gives : needs ≡ 0 → (p : ℕ) → IsGivenBack (kind pages p) (kind pages2 p)
@@ -127,7 +135,8 @@ pub record IsModest (at_hand : ℕ → Option (List ℕ)) (total needs : ℕ) (s
 
 -- What an operation's changes do to pages on which they were planned: whatever base these hold, the reply is the
 -- model's there, and once the changes are made they hold the base that the model leaves, and are as good as before.
-pub record IsPlanned (relations counters total : ℕ) (at_hand : ℕ → Option (List ℕ)) (pages : PageBytes) (changes : List PageChange) (op : Op) (split : Bool) (reply : Reply) : Type 0 where
+pub record IsPlanned (relations counters total : ℕ) (at_hand : ℕ → Option (List ℕ)) (pages : PageBytes)
+    (changes : List PageChange) (op : Op) (split : Bool) (reply : Reply) : Type 0 where
   pub replies : (b : Base) → Holds pages b → reply_of b op ≡ reply
   pub base : (b : Base) → Holds pages b → Holds (after changes pages) (base_after b op)
   pub good : IsGood relations counters total (after changes pages)

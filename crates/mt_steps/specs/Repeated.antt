@@ -68,7 +68,8 @@ dropped r o = record { pages = put_back (by o r.unfinished) r.pages; unfinished 
 
 -- what a record makes of it; an image by itself, which is of no transaction, changes nothing
 abbrev pub repeated : Repeated → Record → Repeated
-repeated r (Page txn op page image start old new) = if txn == 0 then r else changed r (record { op = op; page = page; start = start; old = old; new = new } ∷ [])
+repeated r (Page txn op page image start old new) =
+    if txn == 0 then r else changed r (record { op = op; page = page; start = start; old = old; new = new } ∷ [])
 repeated r (OpEnd txn op undoes done) = finished r op
 repeated r (OpDropped txn op) = dropped r op
 repeated r (Commit txn) = r
@@ -95,9 +96,16 @@ pub record IsRepeated (r : Repeated) : Type 0 where
 -- after them all
 abbrev pub ranges_of : ℕ → ℕ → List ℕ → List ℕ → List Edit → List Change
 ranges_of op p old new [] = []
-ranges_of op p old new (e ∷ es) = record { op = op; page = p; start = e.start; old = part old e.start (length e.bytes); new = part new e.start (length e.bytes) } ∷ ranges_of op p old new es
+ranges_of op p old new (e ∷ es) = record {
+  op = op;
+  page = p;
+  start = e.start;
+  old = part old e.start (length e.bytes);
+  new = part new e.start (length e.bytes);
+} ∷ ranges_of op p old new es
 
 -- and those of some pages
 abbrev pub changes_of : ℕ → List PageChange → PageBytes → List Change
 changes_of op [] pages = []
-changes_of op (c ∷ cs) pages = ranges_of op c.page (pages c.page) (patched c.edits.items (pages c.page)) c.edits.items ++ changes_of op cs pages
+changes_of op (c ∷ cs) pages =
+    ranges_of op c.page (pages c.page) (patched c.edits.items (pages c.page)) c.edits.items ++ changes_of op cs pages

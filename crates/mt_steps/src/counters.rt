@@ -8,11 +8,10 @@ ghost use Rattle.mt_base.specs.Ranges.{Torn};
 ghost use Rattle.mt_base.specs.Touched.{TouchesOnly};
 ghost use Rattle.mt_model.specs.Model.{moved, stays};
 ghost use Rattle.mt_model.specs.Tables.{IsLimited};
-ghost use Rattle.mt_steps.specs.Counters.{i64_at, place_of, count_in, AreCounters};
+ghost use Rattle.mt_steps.specs.Counters.{place_of, count_in, AreCounters};
 
-use byteorder::{BigEndian, ByteOrder};
 use mt_base::limits::{MAX_COUNTERS, counter_fits};
-use mt_base::ranges::{part_of, put};
+use mt_base::ranges::{i64_at, put_i64};
 use mt_base::{CtrNo, TouchedBytes};
 use mt_model::Count;
 
@@ -21,15 +20,6 @@ pub const COUNTERS_HEAD_BYTES: usize = 8;
 
 /// Bytes of a counter: its two bounds and its number.
 pub const COUNTER_BYTES: usize = 24;
-
-// The number in the eight bytes at a place.
-#[tactic(auto, unfolding(crate::specs::Counters::i64_at))]
-fn number_at(page: &[u8], at: usize) -> i64
-    requires { at + 8 ≤ length page.now }
-    ensures { result ≡ i64_at page.now at }
-{
-    BigEndian::read_i64(part_of(page, at, 8))
-}
 
 /// How many relations and counters a schema has.
 #[derive(Clone, Copy, PartialEq, Eq, Debug)]
@@ -60,21 +50,10 @@ pub fn counter(page: &[u8], counter: CtrNo) -> Count
 {
     let at = COUNTERS_HEAD_BYTES + COUNTER_BYTES * usize::from(counter.get());
     Count {
-        low: number_at(page, at),
-        high: number_at(page, at + 8),
-        number: number_at(page, at + 16),
+        low: i64_at(page, at),
+        high: i64_at(page, at + 8),
+        number: i64_at(page, at + 16),
     }
-}
-
-// Puts a number into the eight bytes at a place.
-fn put_number(page: &mut [u8], at: usize, number: i64)
-    requires { at + 8 ≤ length page.old }
-    ensures number { i64_at page.new at ≡ number }
-    ensures rest { Torn at 8 page.old page.new }
-{
-    let mut text = [0u8; 8];
-    BigEndian::write_u64(&mut text, number.cast_unsigned());
-    put(page, at, &text);
 }
 
 // A counter's number and a step.
@@ -118,7 +97,7 @@ pub fn add(page: &mut [u8], number: CtrNo, step: i64) -> bool
         return false;
     }
     let at = COUNTERS_HEAD_BYTES + COUNTER_BYTES * usize::from(number.get());
-    put_number(page, at + 16, sum_of(&count, step));
+    put_i64(page, at + 16, sum_of(&count, step));
     true
 }
 

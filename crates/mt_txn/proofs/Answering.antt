@@ -53,13 +53,13 @@ module _ (Is : State → Type 0) (s : State) where
   going_aborted t abort.Again not shows = shows
   going_aborted t abort.Flush not shows = shows
 
-module _ {D : Type 0} {g : Ghosts D} (seen : D → List ℕ) (may_leave : D → List ℕ → Type 0) (first : Base) (s : State) where
-  pub err_forced : (n : Kernel D g) (r : Result KernelForced Refusal) (y : Refusal) → r ≡ Err y → Shows seen may_leave first s n → HasForced seen may_leave first s r n
-  err_forced n r y is shows = subst (λ x. HasForced seen may_leave first s x n) (sym is) shows
+module _ {D : Type 0} {g : Ghosts D} (first : Base) (s : State) where
+  pub err_forced : (n : Kernel D g) (r : Result KernelForced Refusal) (y : Refusal) → r ≡ Err y → Shows first s n → HasForced first s r n
+  err_forced n r y is shows = subst (λ x. HasForced first s x n) (sym is) shows
 
 -- ---- a call
 
-module _ {D : Type 0} (seen : D → List ℕ) (may_leave : D → List ℕ → Type 0) (relations counters : ℕ) where
+module _ {D : Type 0} (g : Ghosts D) (relations counters : ℕ) where
   pub may_call : (k : Core D) (t : ℕ) (op : Op) (origin : Origin) → IsOrigin relations counters origin.first origin → IsNamed relations counters op → IsSized op → state_in k.live.members t ≡ Some Open → All (λ (r : OpScope). r.txn ≢ t) k.running.items → MayBeCalled origin k t op
   may_call k t op origin is named sized opened idle = record {
     within = subst (λ (X : Type 0). X) (λ i. IsWithin (sym is.relations_are i) (sym is.counters_are i) op) (within_of relations counters op named sized);
@@ -68,29 +68,29 @@ module _ {D : Type 0} (seen : D → List ℕ) (may_leave : D → List ℕ → Ty
   }
 
   abbrev pub CallShown : Core D → Base → State → ℕ → Op → Result Called Refusal → Type 0
-  CallShown n first s t op (Ok call.Started) = ShowsIn seen may_leave relations counters first (called s t op) n
-  CallShown n first s t op (Ok (call.Wait holder)) = ShowsIn seen may_leave relations counters first s n
-  CallShown n first s t op (Err why) = ShowsIn seen may_leave relations counters first s n
+  CallShown n first s t op (Ok call.Started) = ShowsIn g relations counters first (called s t op) n
+  CallShown n first s t op (Ok (call.Wait holder)) = ShowsIn g relations counters first s n
+  CallShown n first s t op (Err why) = ShowsIn g relations counters first s n
 
-  leads_in : (n : Core D) (first : Base) (s z : State) (f : State → State) → (origin : Origin) (base : Base) → s ≡ z → IsIn seen may_leave origin base (f z) n → IsIn seen may_leave origin base (f s) n
-  leads_in n first s z f origin base same is = subst (λ x. IsIn seen may_leave origin base (f x) n) (sym same) is
+  leads_in : (n : Core D) (first : Base) (s z : State) (f : State → State) → (origin : Origin) (base : Base) → s ≡ z → IsIn g origin base (f z) n → IsIn g origin base (f s) n
+  leads_in n first s z f origin base same is = subst (λ x. IsIn g origin base (f x) n) (sym same) is
 
   pub call_shown : (k n : Core D) (first : Base) (s : State) (t : ℕ) (op : Op) (res : Result Called Refusal) → ((origin : Origin) → IsOrigin relations counters origin.first origin → MayBeCalled origin k t op)
-      → ((origin : Origin) (base : Base) → IsConsistent seen may_leave origin base k → MayBeCalled origin k t op → IsCalled seen may_leave origin base (state_of k base) n t op res) → ShowsIn seen may_leave relations counters first s k → CallShown n first s t op res
+      → ((origin : Origin) (base : Base) → IsConsistent g origin base k → MayBeCalled origin k t op → IsCalled g origin base (state_of k base) n t op res) → ShowsIn g relations counters first s k → CallShown n first s t op res
   call_shown k n first s t op (Ok call.Started) may go shows = ∥∥₁_map shows (λ (origin, base, is, x). (origin, base, is, leads_in n first s (state_of k base) (λ z. called z t op) origin base x.state (go origin base x.consistent (may origin (record { relations_are = is.relations_are; counters_are = is.counters_are; first_is = refl })))))
   call_shown k n first s t op (Ok (call.Wait holder)) may go shows = ∥∥₁_map shows (λ (origin, base, is, x). (origin, base, is, leads_in n first s (state_of k base) (λ z. z) origin base x.state (go origin base x.consistent (may origin (record { relations_are = is.relations_are; counters_are = is.counters_are; first_is = refl })))))
   call_shown k n first s t op (Err why) may go shows = ∥∥₁_map shows (λ (origin, base, is, x). (origin, base, is, leads_in n first s (state_of k base) (λ z. z) origin base x.state (go origin base x.consistent (may origin (record { relations_are = is.relations_are; counters_are = is.counters_are; first_is = refl })))))
 
   pub call_well : (k n : Core D) (t : ℕ) (op : Op) (res : Result Called Refusal) → ((origin : Origin) → IsOrigin relations counters origin.first origin → MayBeCalled origin k t op)
-      → ((origin : Origin) (base : Base) → IsConsistent seen may_leave origin base k → MayBeCalled origin k t op → IsCalled seen may_leave origin base (state_of k base) n t op res) → IsWell seen may_leave relations counters k → IsWell seen may_leave relations counters n
+      → ((origin : Origin) (base : Base) → IsConsistent g origin base k → MayBeCalled origin k t op → IsCalled g origin base (state_of k base) n t op res) → IsWell g relations counters k → IsWell g relations counters n
   call_well k n t op (Ok call.Started) may go well = ∥∥₁_map well (λ (origin, base, is, safe). (origin, base, is, (go origin base safe (may origin is)).consistent))
   call_well k n t op (Ok (call.Wait holder)) may go well = ∥∥₁_map well (λ (origin, base, is, safe). (origin, base, is, (go origin base safe (may origin is)).consistent))
   call_well k n t op (Err why) may go well = ∥∥₁_map well (λ (origin, base, is, safe). (origin, base, is, (go origin base safe (may origin is)).consistent))
 
-pub call_answers : {D : Type 0} {g : Ghosts D} (seen : D → List ℕ) (may_leave : D → List ℕ → Type 0) (first : Base) (s : State) (t : ℕ) (op : Op) (res : Result Called Refusal) (n : Kernel D g) → CallShown seen may_leave n.relations n.counters n.core first s t op res → HasCalled seen may_leave first s t op res n
-call_answers seen may_leave first s t op (Ok call.Started) n shows = shows
-call_answers seen may_leave first s t op (Ok (call.Wait holder)) n shows = shows
-call_answers seen may_leave first s t op (Err why) n shows = shows
+pub call_answers : {D : Type 0} {g : Ghosts D} (first : Base) (s : State) (t : ℕ) (op : Op) (res : Result Called Refusal) (n : Kernel D g) → CallShown g n.relations n.counters n.core first s t op res → HasCalled first s t op res n
+call_answers first s t op (Ok call.Started) n shows = shows
+call_answers first s t op (Ok (call.Wait holder)) n shows = shows
+call_answers first s t op (Err why) n shows = shows
 
 -- ---- the steps that are left
 

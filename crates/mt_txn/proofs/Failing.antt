@@ -1,6 +1,7 @@
 -- Which calls are refused with 2: those of a kernel that has failed.
 use Rattle.std.proofs.Common.{◌≡◌, ℕ, Bool, true, false, List, Option, Some, None, Err, refl}
 use Rattle.std.specs.Prelude.{nat_lt, if◌then◌else◌}
+use Rattle.mt_disk.specs.declared.device.Device.{Ghosts}
 use Rattle.mt_base.specs.declared.refusal.Refusal.{Refusal}
 use Rattle.mt_base.specs.declared.refusal.Refusal.TheVariants as refusal
 use Rattle.mt_core.specs.Causes.{IsAnswered}
@@ -56,5 +57,5 @@ call_fails relations counters failed k t op =
     (first_fine (count_cause k t) _ (one_fine _ refusal.TooManyOperations (λ e. cc)) (first_fine (name_cause relations counters op) (size_cause op) (name_fine relations counters op) (size_fine op))))
 
 -- locks, escrow, pages and log refuse none with 2
-pub answered_fine : {D : Type 0} → (seen : D → List ℕ) (origin : Origin) (k : Core D) (kept t : ℕ) (op : Op) → IsAnswered seen origin k kept t op true (Err refusal.DeviceFailed) → ⊥
-answered_fine seen origin k kept t op answered = answered.1.1
+pub answered_fine : {D : Type 0} → (g : Ghosts D) (origin : Origin) (k : Core D) (kept t : ℕ) (op : Op) → IsAnswered g origin k kept t op true (Err refusal.DeviceFailed) → ⊥
+answered_fine g origin k kept t op answered = answered.1.1

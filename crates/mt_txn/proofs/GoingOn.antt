@@ -34,14 +34,14 @@ use Rattle.mt_txn.specs.Shown.{Restarts, Stays}
 use Rattle.mt_txn.specs.Well.{IsOrigin, IsOpening, IsRestartableOn, IsWell, RestartsFrom}
 use Rattle.mt_txn.specs.declared.kernel.Kernel.{Kernel}
 
-module _ {D : Type 0} (seen : D → List ℕ) (may_leave : D → List ℕ → Type 0) (relations counters : ℕ) (first : Base) (k : Core D) (origin : Origin) (base : Base) (nobody : length k.live.members ≡ 0) where
+module _ {D : Type 0} (g : Ghosts D) (relations counters : ℕ) (first : Base) (k : Core D) (origin : Origin) (base : Base) (nobody : length k.live.members ≡ 0) where
   none : k.live.members ≡ []
   none = none_of_none k.live.members nobody
 
   -- operations and an escrow that are opened on what the book leads to
-  pub turns_over : (z : Origin) (o : Operations D) (e : Escrowed) → IsOrigin relations counters first origin → IsConsistent seen may_leave origin base k → IsOrigin relations counters (after first k.book.items) z → IsOpening seen may_leave z o e → TurnsOver seen may_leave origin base k z.pages o e
+  pub turns_over : (z : Origin) (o : Operations D) (e : Escrowed) → IsOrigin relations counters first origin → IsConsistent g origin base k → IsOrigin relations counters (after first k.book.items) z → IsOpening g z o e → TurnsOver g origin base k z.pages o e
   turns_over z o e is safe opened opening =
-      let same : z.first ≡ base = opened.first_is ∙ ap (λ (b : Base). after b k.book.items) (sym is.first_is) ∙ sym (booked_holds seen may_leave origin base k none safe) in
+      let same : z.first ≡ base = opened.first_is ∙ ap (λ (b : Base). after b k.book.items) (sym is.first_is) ∙ sym (booked_holds g origin base k none safe) in
       let rels : z.relations ≡ origin.relations = opened.relations_are ∙ sym is.relations_are in
       let counts : z.counters ≡ origin.counters = opened.counters_are ∙ sym is.counters_are in
       record {
@@ -49,7 +49,7 @@ module _ {D : Type 0} (seen : D → List ℕ) (may_leave : D → List ℕ → Ty
         consistent = safe;
         bounds = subst IsBase same opening.bounds;
         holds = subst (Holds z.pages) same opening.holds;
-        right = subst (λ (X : Type 0). X) (λ i. IsRight seen may_leave z.pages (rels i) (counts i) o) opening.right;
+        right = subst (λ (X : Type 0). X) (λ i. IsRight g z.pages (rels i) (counts i) o) opening.right;
         escrowed = subst (λ (X : Type 0). X) (λ i. IsEscrowed (counts i) (same i) e) opening.escrowed;
       }
 
@@ -64,17 +64,17 @@ module _ {D : Type 0} (seen : D → List ℕ) (may_leave : D → List ℕ → Ty
       let nothing : more ≡ [] = none_of_none more (omega (arith, a, b, c, d)) in
       has ∙ ap (λ (rs : List Record). records ++ rs) nothing ∙ append-nil records
 
-  pub stands_whole : IsRestartableOn seen may_leave relations counters first origin base k → (records front more rest : List Record) → records ≡ appended k.operations.store.log → front ≡ records ++ more → front ++ rest ≡ records
+  pub stands_whole : IsRestartableOn g relations counters first origin base k → (records front more rest : List Record) → records ≡ appended k.operations.store.log → front ≡ records ++ more → front ++ rest ≡ records
       → stands_for origin.begun front ≡ after first k.book.items
   stands_whole x records front more rest all has of =
       let safe = x.consistent in
       let begun = x.restartable.begun in
       let tells_of = x.restartable.tells in
       let log = k.operations.store.log in
-      let since = commits_since seen may_leave origin base k safe begun tells_of in
+      let since = commits_since g origin base k safe begun tells_of in
       let n = length (tells (appended log)).books in
       let same : front ≡ appended log = whole_front records front more rest has of ∙ all in
-      let turned : in_turn (session_in k.live.members) (txns_of k.commits.items) k.live.standing ≡ [] = ap (λ (cs : List Commit). in_turn (session_in k.live.members) (txns_of cs) k.live.standing) (none_commits seen may_leave origin base k none safe) in
+      let turned : in_turn (session_in k.live.members) (txns_of k.commits.items) k.live.standing ≡ [] = ap (λ (cs : List Commit). in_turn (session_in k.live.members) (txns_of cs) k.live.standing) (none_commits g origin base k none safe) in
       let books : length (map calls_of (tells (appended log)).books) ≡ length (map effects_of since) = ap (λ (xs : _). length xs) tells_of.telling.books in
       let lengths = length-map (tells (appended log)).books calls_of in
       let effects = length-map since effects_of in
@@ -84,8 +84,8 @@ module _ {D : Type 0} (seen : D → List ℕ) (may_leave : D → List ℕ → Ty
       let both = length-append k.book.items (in_turn (session_in k.live.members) (txns_of k.commits.items) k.live.standing) in
       let many : length (all_commits k) ≤ length origin.earlier + n = omega (arith, books, lengths, effects, split, booked, earlier, both) in
       ap (stands_for origin.begun) same
-      ∙ stands_first origin.begun since (appended log) (appended log) [] (sym (append-nil (appended log))) tells_of.telling.books (since_legal seen may_leave origin base k safe begun tells_of)
-      ∙ after_earlier seen may_leave origin base k safe begun tells_of n
+      ∙ stands_first origin.begun since (appended log) (appended log) [] (sym (append-nil (appended log))) tells_of.telling.books (since_legal g origin base k safe begun tells_of)
+      ∙ after_earlier g origin base k safe begun tells_of n
       ∙ ap (after origin.first) (take_all (length origin.earlier + n) (all_commits k) many)
       ∙ ap (λ (cs : List Committed). after origin.first (k.book.items ++ cs)) turned
       ∙ ap (after origin.first) (append-nil k.book.items)
@@ -108,23 +108,23 @@ nobody_still k n nobody same =
     let gone : (t : ℕ) → state_in k.live.members t ≡ None = λ t. ap (λ (ms : List Member). state_in ms t) none in
     ap (λ (ms : List Member). length ms) (no_states n.live.members (λ t. same t (λ commits. absurd (let is = gone t in cc)) ∙ gone t))
 
-module _ {D : Type 0} (seen : D → List ℕ) (may_leave : D → List ℕ → Type 0) where
-  booked_only : (k : Core D) → length k.live.members ≡ 0 → (origin : Origin) (base : Base) → IsConsistent seen may_leave origin base k → all_commits k ≡ k.book.items
+module _ {D : Type 0} (g : Ghosts D) where
+  booked_only : (k : Core D) → length k.live.members ≡ 0 → (origin : Origin) (base : Base) → IsConsistent g origin base k → all_commits k ≡ k.book.items
   booked_only k nobody origin base safe =
-      ap (λ (cs : List Commit). k.book.items ++ in_turn (session_in k.live.members) (txns_of cs) k.live.standing) (none_commits seen may_leave origin base k (none_of_none k.live.members nobody) safe) ∙ append-nil k.book.items
+      ap (λ (cs : List Commit). k.book.items ++ in_turn (session_in k.live.members) (txns_of cs) k.live.standing) (none_commits g origin base k (none_of_none k.live.members nobody) safe) ∙ append-nil k.book.items
 
   -- all commits are those of the book
-  pub all_booked : (k : Core D) (relations counters : ℕ) (first : Base) → length k.live.members ≡ 0 → RestartsFrom seen may_leave relations counters first k → ∥ all_commits k ≡ k.book.items ∥₁
+  pub all_booked : (k : Core D) (relations counters : ℕ) (first : Base) → length k.live.members ≡ 0 → RestartsFrom g relations counters first k → ∥ all_commits k ≡ k.book.items ∥₁
   all_booked k relations counters first nobody r = ∥∥₁_map r (λ (origin, base, x). booked_only k nobody origin base x.consistent)
 
-module _ {D : Type 0} {g : Ghosts D} (seen : D → List ℕ) (may_leave : D → List ℕ → Type 0) where
+module _ {D : Type 0} {g : Ghosts D} where
   -- and the same where the state stays, and so is the book
-  pub same_commits : (k m : Kernel D g) (first : Base) → length k.core.live.members ≡ 0 → length m.core.live.members ≡ 0 → Restarts seen may_leave first k → Stays seen may_leave k m → ∥ (all_commits m.core ≡ all_commits k.core) × (m.core.book.items ≡ k.core.book.items) ∥₁
+  pub same_commits : (k m : Kernel D g) (first : Base) → length k.core.live.members ≡ 0 → length m.core.live.members ≡ 0 → Restarts first k → Stays k m → ∥ (all_commits m.core ≡ all_commits k.core) × (m.core.book.items ≡ k.core.book.items) ∥₁
   same_commits k m first nobody still r stays = ∥∥₁_elim r ∥∥₁_prop (λ (origin, base, x).
       ∥∥₁_map (stays first (state_of k.core base) ∣ (origin, base, x.is, record { consistent = x.consistent; state = refl }) ∣₁) (λ (later, now, is, y).
       let book : m.core.book.items ≡ k.core.book.items = sym (ap (λ (s : State). s.book) y.state) in
-      (booked_only seen may_leave m.core still later now y.consistent ∙ book ∙ sym (booked_only seen may_leave k.core nobody origin base x.consistent), book)))
+      (booked_only g m.core still later now y.consistent ∙ book ∙ sym (booked_only g k.core nobody origin base x.consistent), book)))
 
   -- a kernel's own facts say that nobody commits
-  pub nobody_commits : (k : Kernel D g) → length k.core.live.members ≡ 0 → IsWell seen may_leave k.relations k.counters k.core → ∥ k.core.commits.items ≡ [] ∥₁
-  nobody_commits k nobody well = ∥∥₁_map well (λ (origin, base, is, safe). none_commits seen may_leave origin base k.core (none_of_none k.core.live.members nobody) safe)
+  pub nobody_commits : (k : Kernel D g) → length k.core.live.members ≡ 0 → IsWell g k.relations k.counters k.core → ∥ k.core.commits.items ≡ [] ∥₁
+  nobody_commits k nobody well = ∥∥₁_map well (λ (origin, base, is, safe). none_commits g origin base k.core (none_of_none k.core.live.members nobody) safe)

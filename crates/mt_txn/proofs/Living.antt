@@ -7,6 +7,7 @@ use Rattle.std.specs.Option.{option_map}
 use Rattle.std.proofs.lemmas.Bool.{cases_eq, eqb-true}
 use Rattle.std.proofs.lemmas.List.Elements.{All-tail}
 use mathlib.Core.Logic.{∥∥₁_elim}
+use Rattle.mt_disk.specs.declared.device.Device.{Ghosts}
 use Rattle.mt_live.specs.Lives.{member_of}
 use Rattle.mt_live.specs.Machine.{State, is_live}
 use Rattle.mt_live.specs.Members.{Member}
@@ -51,16 +52,16 @@ rests_in (r ∷ rs) t fore none = go (r.txn == t) refl (rests_in rs t (All-tail 
 
 -- ---- of a kernel
 
-module _ {D : Type 0} (seen : D → List ℕ) (may_leave : D → List ℕ → Type 0) (relations counters : ℕ) where
-  pub lives_of : (k : Core D) (first : Base) (s : State) → ShowsIn seen may_leave relations counters first s k → (t : ℕ) → is_live s t ≡ is_some (state_in k.live.members t)
+module _ {D : Type 0} (g : Ghosts D) (relations counters : ℕ) where
+  pub lives_of : (k : Core D) (first : Base) (s : State) → ShowsIn g relations counters first s k → (t : ℕ) → is_live s t ≡ is_some (state_in k.live.members t)
   lives_of k first s shows t = ∥∥₁_elim shows (hlevel props) (λ (origin, base, is, x).
       ap (λ (z : State). is_live z t) x.state ∙ alike (λ (m : Member). m.session) (λ (m : Member). m.state) (member_of k.live.members t))
 
-  pub busy_of : (k : Core D) (first : Base) (s : State) → ShowsIn seen may_leave relations counters first s k → (t : ℕ) (op : Op) → s.running t ≡ Some op → is_busy k t ≡ true
+  pub busy_of : (k : Core D) (first : Base) (s : State) → ShowsIn g relations counters first s k → (t : ℕ) (op : Op) → s.running t ≡ Some op → is_busy k t ≡ true
   busy_of k first s shows t op runs = ∥∥₁_elim shows (hlevel props) (λ (origin, base, is, x).
       runs_in k.running.items t op (ap (λ (z : State). z.running t) (sym x.state) ∙ runs))
 
-  pub idle_of : (k : Core D) (first : Base) (s : State) → ShowsIn seen may_leave relations counters first s k → (t : ℕ) → state_in k.live.members t ≡ Some Open → s.running t ≡ None → is_busy k t ≡ false
+  pub idle_of : (k : Core D) (first : Base) (s : State) → ShowsIn g relations counters first s k → (t : ℕ) → state_in k.live.members t ≡ Some Open → s.running t ≡ None → is_busy k t ≡ false
   idle_of k first s shows t opened none = ∥∥₁_elim shows (hlevel props) (λ (origin, base, is, x).
       rests_in k.running.items t (λ i d lt own. fore (get_or k.running.items i d) own (x.consistent.fit.owned i d lt).aborts) (ap (λ (z : State). z.running t) (sym x.state) ∙ none))
     where
@@ -68,7 +69,7 @@ module _ {D : Type 0} (seen : D → List ℕ) (may_leave : D → List ℕ → Ty
       fore r own aborts = ⊎_elim (λ (forward : r.undoes ≡ 0). ap (λ (n : ℕ). n == 0) forward)
           (λ (back : r.undoes ≢ 0). let now : Some Open ≡ Some Aborting = sym opened ∙ ap (state_in k.live.members) (sym own) ∙ aborts back in absurd cc) (cases_eq r.undoes 0)
 
-  pub no_commits : (k : Core D) → IsWell seen may_leave relations counters k → ((t : ℕ) → state_in k.live.members t ≢ Some Committing) → k.commits.items ≡ []
+  pub no_commits : (k : Core D) → IsWell g relations counters k → ((t : ℕ) → state_in k.live.members t ≢ Some Committing) → k.commits.items ≡ []
   no_commits k well nobody = go k.commits.items refl
     where
       go : (cs : List Commit) → k.commits.items ≡ cs → k.commits.items ≡ []

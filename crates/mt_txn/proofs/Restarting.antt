@@ -4,6 +4,7 @@ use Rattle.std.specs.Prelude.{OnOk, OnErr}
 use Rattle.std.proofs.Props.{props}
 use Rattle.std.proofs.lemmas.List.{take_all}
 use mathlib.Core.Logic.{∥∥₁_elim, ∥∥₁_map, ∥∥₁_prop}
+use Rattle.mt_disk.specs.declared.device.Device.{Ghosts}
 use Rattle.mt_base.specs.declared.refusal.Refusal.{Refusal}
 use Rattle.mt_base.specs.Limits.{IsRelationCount}
 use Rattle.mt_frame.specs.declared.records.Record.{Record}
@@ -68,57 +69,57 @@ step_of old new forced r made steps = (stepped old new (Ok forced) (subst (Force
 pub place_durable : (old new : Log) (place : ℕ) (r : Result Forced Refusal) → r ≡ Ok (forced.Durable place) → ForceSteps (seen_of old) (seen_of new) r → place ≤ length (durable new)
 place_durable old new place r is made = let lands = subst (ForceSteps (seen_of old) (seen_of new)) is made in let at = lands.place in omega (arith, at)
 
-module _ {D : Type 0} (seen : D → List ℕ) (may_leave : D → List ℕ → Type 0) where
+module _ {D : Type 0} (g : Ghosts D) where
   -- parts that are consistent become so
   abbrev pub Goes : Core D → Core D → Type 0
-  Goes k n = (origin : Origin) (base : Base) → IsConsistent seen may_leave origin base k → (now : Base) × IsConsistent seen may_leave origin now n
+  Goes k n = (origin : Origin) (base : Base) → IsConsistent g origin base k → (now : Base) × IsConsistent g origin now n
 
-  pub stays_goes : (k n : Core D) → StaysIn seen may_leave k n → Goes k n
+  pub stays_goes : (k n : Core D) → StaysIn g k n → Goes k n
   stays_goes k n stays origin base safe = (base, (stays origin base safe).consistent)
 
   pub then_goes : (k m n : Core D) → Goes k m → Goes m n → Goes k n
   then_goes k m n one two origin base safe = let mid = one origin base safe in two origin mid.0 mid.1
 
-  pub or_goes : {T : Type 0} (k n : Core D) (f : State → State) (r : Result T Refusal) → ((origin : Origin) (base : Base) → IsConsistent seen may_leave origin base k → OnOk r (IsIn seen may_leave origin base (f (state_of k base)) n)) → OnErr r (n ≡ k) → Goes k n
+  pub or_goes : {T : Type 0} (k n : Core D) (f : State → State) (r : Result T Refusal) → ((origin : Origin) (base : Base) → IsConsistent g origin base k → OnOk r (IsIn g origin base (f (state_of k base)) n)) → OnErr r (n ≡ k) → Goes k n
   or_goes k n f (Ok x) go err origin base safe = (base, (go origin base safe).consistent)
-  or_goes k n f (Err y) go err origin base safe = (base, subst (IsConsistent seen may_leave origin base) (sym err) safe)
+  or_goes k n f (Err y) go err origin base safe = (base, subst (IsConsistent g origin base) (sym err) safe)
 
-  pub either_goes : {T : Type 0} (k n : Core D) (f : State → State) (r : Result T Refusal) → ((origin : Origin) (base : Base) → IsConsistent seen may_leave origin base k → OnOk r (IsIn seen may_leave origin base (f (state_of k base)) n))
-      → ((origin : Origin) (base : Base) → IsConsistent seen may_leave origin base k → OnErr r (IsIn seen may_leave origin base (state_of k base) n)) → Goes k n
+  pub either_goes : {T : Type 0} (k n : Core D) (f : State → State) (r : Result T Refusal) → ((origin : Origin) (base : Base) → IsConsistent g origin base k → OnOk r (IsIn g origin base (f (state_of k base)) n))
+      → ((origin : Origin) (base : Base) → IsConsistent g origin base k → OnErr r (IsIn g origin base (state_of k base) n)) → Goes k n
   either_goes k n f (Ok x) go err origin base safe = (base, (go origin base safe).consistent)
   either_goes k n f (Err y) go err origin base safe = (base, (err origin base safe).consistent)
 
-  pub step_goes : (k n : Core D) (place : ℕ) (res : Result Stepping Refusal) → place < length k.running.items → ((origin : Origin) (base : Base) → IsConsistent seen may_leave origin base k → Steps seen may_leave origin base k n place res) → Goes k n
+  pub step_goes : (k n : Core D) (place : ℕ) (res : Result Stepping Refusal) → place < length k.running.items → ((origin : Origin) (base : Base) → IsConsistent g origin base k → Steps g origin base k n place res) → Goes k n
   step_goes k n place (Ok (Going going)) within go origin base safe = (base, (go origin base safe).consistent)
   step_goes k n place (Err why) within go origin base safe = (base, (go origin base safe).consistent)
   step_goes k n place (Ok (Ended reply)) within go origin base safe = let at = at_place k.running.items place within in (base_after base at.0.op, (go origin base safe at.0 at.1).1.consistent)
 
-  pub undo_goes : (k n : Core D) (place : ℕ) (res : Result Stepping Refusal) → place < length k.running.items → ((origin : Origin) (base : Base) → IsConsistent seen may_leave origin base k → UndoSteps seen may_leave origin base k n place res) → Goes k n
+  pub undo_goes : (k n : Core D) (place : ℕ) (res : Result Stepping Refusal) → place < length k.running.items → ((origin : Origin) (base : Base) → IsConsistent g origin base k → UndoSteps g origin base k n place res) → Goes k n
   undo_goes k n place (Ok (Going going)) within go origin base safe = (base, (go origin base safe).consistent)
   undo_goes k n place (Err why) within go origin base safe = (base, (go origin base safe).consistent)
   undo_goes k n place (Ok (Ended reply)) within go origin base safe = let at = at_place k.running.items place within in (base_after base at.0.op, (go origin base safe at.0 at.1).1.leads.consistent)
 
-  pub back_goes : (k n : Core D) (place : ℕ) (res : Result TakenBack Refusal) → place < length k.running.items → ((origin : Origin) (base : Base) → IsConsistent seen may_leave origin base k → BacksIn seen may_leave origin base k n place res) → Goes k n
+  pub back_goes : (k n : Core D) (place : ℕ) (res : Result TakenBack Refusal) → place < length k.running.items → ((origin : Origin) (base : Base) → IsConsistent g origin base k → BacksIn g origin base k n place res) → Goes k n
   back_goes k n place (Ok taken.More) within go origin base safe = (base, (go origin base safe).consistent)
   back_goes k n place (Ok taken.Flush) within go origin base safe = (base, (go origin base safe).consistent)
   back_goes k n place (Err why) within go origin base safe = (base, (go origin base safe).consistent)
   back_goes k n place (Ok taken.Clear) within go origin base safe = let at = at_place k.running.items place within in (base, (go origin base safe at.0 at.1).leads.consistent)
 
-  called_now : (k n : Core D) (t : ℕ) (op : Op) (res : Result Called Refusal) (origin : Origin) (base : Base) (s : State) → IsCalled seen may_leave origin base s n t op res → IsConsistent seen may_leave origin base n
+  called_now : (k n : Core D) (t : ℕ) (op : Op) (res : Result Called Refusal) (origin : Origin) (base : Base) (s : State) → IsCalled g origin base s n t op res → IsConsistent g origin base n
   called_now k n t op (Ok call.Started) origin base s is = is.consistent
   called_now k n t op (Ok (call.Wait holder)) origin base s is = is.consistent
   called_now k n t op (Err why) origin base s is = is.consistent
 
   module _ (relations counters : ℕ) (first : Base) where
-    renewed : (k n : Core D) (origin : Origin) (base later : Base) → IsRestartableOn seen may_leave relations counters first origin base k → IsConsistent seen may_leave origin later n → StaysRestartable seen may_leave k n → IsRestartableOn seen may_leave relations counters first origin later n
+    renewed : (k n : Core D) (origin : Origin) (base later : Base) → IsRestartableOn g relations counters first origin base k → IsConsistent g origin later n → StaysRestartable g k n → IsRestartableOn g relations counters first origin later n
     renewed k n origin base later x now stays = record { is = x.is; bounds = x.bounds; holds = x.holds; consistent = now; restartable = stays origin base later x.consistent now x.restartable }
 
-    pub restarts_on : (k n : Core D) → Goes k n → StaysRestartable seen may_leave k n → RestartsFrom seen may_leave relations counters first k → RestartsFrom seen may_leave relations counters first n
+    pub restarts_on : (k n : Core D) → Goes k n → StaysRestartable g k n → RestartsFrom g relations counters first k → RestartsFrom g relations counters first n
     restarts_on k n go stays r = ∥∥₁_map r (λ (origin, base, x). let y = go origin base x.consistent in (origin, y.0, renewed k n origin base y.0 x y.1 stays))
 
     pub restarts_called : (k n : Core D) (t : ℕ) (op : Op) (res : Result Called Refusal) → ((origin : Origin) → IsOrigin relations counters origin.first origin → MayBeCalled origin k t op)
-        → ((origin : Origin) (base : Base) → IsConsistent seen may_leave origin base k → MayBeCalled origin k t op → IsCalled seen may_leave origin base (state_of k base) n t op res) → StaysRestartable seen may_leave k n
-        → RestartsFrom seen may_leave relations counters first k → RestartsFrom seen may_leave relations counters first n
+        → ((origin : Origin) (base : Base) → IsConsistent g origin base k → MayBeCalled origin k t op → IsCalled g origin base (state_of k base) n t op res) → StaysRestartable g k n
+        → RestartsFrom g relations counters first k → RestartsFrom g relations counters first n
     restarts_called k n t op res may go stays r = ∥∥₁_map r (λ (origin, base, x).
         let now = called_now k n t op res origin base (state_of k base) (go origin base x.consistent (may origin (record { relations_are = x.is.relations_are; counters_are = x.is.counters_are; first_is = refl }))) in
         (origin, base, renewed k n origin base base x now stays))
@@ -126,7 +127,7 @@ module _ {D : Type 0} (seen : D → List ℕ) (may_leave : D → List ℕ → Ty
     -- ---- what a restart finds
 
     -- a restart finds the base that the records stand for
-    restarted : (k : Core D) (origin : Origin) (base : Base) (c : List ℕ) → IsRestartableOn seen may_leave relations counters first origin base k → (e : Explains origin.pages k.operations.store c) → IsRelationCount relations → CanRestart relations counters c (stands_for origin.begun (joined e.batches))
+    restarted : (k : Core D) (origin : Origin) (base : Base) (c : List ℕ) → IsRestartableOn g relations counters first origin base k → (e : Explains origin.pages k.operations.store c) → IsRelationCount relations → CanRestart relations counters c (stands_for origin.begun (joined e.batches))
     restarted k origin base c x e schema =
         let slot = e.ruling in
         let names = e.names in
@@ -153,7 +154,7 @@ module _ {D : Type 0} (seen : D → List ℕ) (may_leave : D → List ℕ → Ty
         } in
         record { stands = stands; fits = schema; recoverable = mine }
 
-    found : (k : Core D) (origin : Origin) (base : Base) (c : List ℕ) → IsRestartableOn seen may_leave relations counters first origin base k → Explains origin.pages k.operations.store c → IsRelationCount relations → FindsCommits relations counters first k c
+    found : (k : Core D) (origin : Origin) (base : Base) (c : List ℕ) → IsRestartableOn g relations counters first origin base k → Explains origin.pages k.operations.store c → IsRelationCount relations → FindsCommits relations counters first k c
     found k origin base c x e schema =
         let log = k.operations.store.log in
         let front = joined e.batches in
@@ -168,27 +169,27 @@ module _ {D : Type 0} (seen : D → List ℕ) (may_leave : D → List ℕ → Ty
           count = length origin.earlier + length (tells front).books;
           acknowledged = omega (arith, booked, tells_durable);
           durable = omega (arith, tells_durable);
-          is = stands_first origin.begun (commits_since seen may_leave origin base k x.consistent begun tells_of) (appended log) front e.beginning.rest all tells_of.telling.books (since_legal seen may_leave origin base k x.consistent begun tells_of)
-              ∙ after_earlier seen may_leave origin base k x.consistent begun tells_of (length (tells front).books)
+          is = stands_first origin.begun (commits_since g origin base k x.consistent begun tells_of) (appended log) front e.beginning.rest all tells_of.telling.books (since_legal g origin base k x.consistent begun tells_of)
+              ∙ after_earlier g origin base k x.consistent begun tells_of (length (tells front).books)
               ∙ ap (λ (b : Base). after b (take (length origin.earlier + length (tells front).books) (all_commits k))) x.is.first_is;
         }
 
     -- where nobody lives, and all records are durable, the whole book
-    whole : (k : Core D) (origin : Origin) (base : Base) (c : List ℕ) → length k.live.members ≡ 0 → durable k.operations.store.log ≡ appended k.operations.store.log → IsRestartableOn seen may_leave relations counters first origin base k → Explains origin.pages k.operations.store c → IsRelationCount relations
+    whole : (k : Core D) (origin : Origin) (base : Base) (c : List ℕ) → length k.live.members ≡ 0 → durable k.operations.store.log ≡ appended k.operations.store.log → IsRestartableOn g relations counters first origin base k → Explains origin.pages k.operations.store c → IsRelationCount relations
         → CanRestart relations counters c (after first k.book.items)
     whole k origin base c nobody forced x e schema =
-        subst (CanRestart relations counters c) (stands_whole seen may_leave relations counters first k origin base nobody x (durable k.operations.store.log) (joined e.batches) e.beginning.more e.beginning.rest forced e.beginning.has_durable (e.beginning.of_appended ∙ sym forced)) (restarted k origin base c x e schema)
+        subst (CanRestart relations counters c) (stands_whole g relations counters first k origin base nobody x (durable k.operations.store.log) (joined e.batches) e.beginning.more e.beginning.rest forced e.beginning.has_durable (e.beginning.of_appended ∙ sym forced)) (restarted k origin base c x e schema)
 
-    pub finds_whole : (k : Core D) (c : List ℕ) → length k.live.members ≡ 0 → durable k.operations.store.log ≡ appended k.operations.store.log → RestartsFrom seen may_leave relations counters first k → may_leave k.operations.store.device c → IsRelationCount relations → ∥ CanRestart relations counters c (after first k.book.items) ∥₁
-    finds_whole k c nobody forced r left schema = ∥∥₁_map r (λ (origin, base, x). whole k origin base c nobody forced x (explains seen may_leave origin.pages k.operations.store x.consistent.fit.right.kept c left) schema)
+    pub finds_whole : (k : Core D) (c : List ℕ) → length k.live.members ≡ 0 → durable k.operations.store.log ≡ appended k.operations.store.log → RestartsFrom g relations counters first k → g.may_leave k.operations.store.device c → IsRelationCount relations → ∥ CanRestart relations counters c (after first k.book.items) ∥₁
+    finds_whole k c nobody forced r left schema = ∥∥₁_map r (λ (origin, base, x). whole k origin base c nobody forced x (explains g origin.pages k.operations.store x.consistent.fit.right.kept c left) schema)
 
-    pub finds_commits : (k : Core D) (c : List ℕ) → RestartsFrom seen may_leave relations counters first k → may_leave k.operations.store.device c → IsRelationCount relations → ∥ FindsCommits relations counters first k c ∥₁
-    finds_commits k c r left schema = ∥∥₁_map r (λ (origin, base, x). found k origin base c x (explains seen may_leave origin.pages k.operations.store x.consistent.fit.right.kept c left) schema)
+    pub finds_commits : (k : Core D) (c : List ℕ) → RestartsFrom g relations counters first k → g.may_leave k.operations.store.device c → IsRelationCount relations → ∥ FindsCommits relations counters first k c ∥₁
+    finds_commits k c r left schema = ∥∥₁_map r (λ (origin, base, x). found k origin base c x (explains g origin.pages k.operations.store x.consistent.fit.right.kept c left) schema)
 
     -- what it finds in what a crash leaves meanwhile
-    module _ (moment : D → ℕ) (left_since : D → ℕ → List ℕ → Type 0) (only_now : (d : D) (c : List ℕ) → left_since d (moment d) c → may_leave d c) where
-      pub meanwhile : (k : Core D) (d : D) → ((opening : PageBytes) → IsKept seen may_leave opening k.operations.store → LeavesOnly moment left_since k.operations.store.device d (Explains opening k.operations.store)) → RestartsFrom seen may_leave relations counters first k → IsRelationCount relations
-          → FindsMeanwhile moment left_since relations counters first k d
+    module _ (only_now : (d : D) (c : List ℕ) → g.left_since d (g.moment d) c → g.may_leave d c) where
+      pub meanwhile : (k : Core D) (d : D) → ((opening : PageBytes) → IsKept g opening k.operations.store → LeavesOnly g.moment g.left_since k.operations.store.device d (Explains opening k.operations.store)) → RestartsFrom g relations counters first k → IsRelationCount relations
+          → FindsMeanwhile g relations counters first k d
       meanwhile k d explained r schema = record {
         later = ∥∥₁_elim r (hlevel props) (λ (origin, base, x). (explained origin.pages x.consistent.fit.right.kept).later);
         each = λ c left. ∥∥₁_map r (λ (origin, base, x). found k origin base c x ((explained origin.pages x.consistent.fit.right.kept).each c left) schema);
@@ -199,19 +200,19 @@ module _ {D : Type 0} (seen : D → List ℕ) (may_leave : D → List ℕ → Ty
       }
 
       -- no call of the device was made
-      pub no_call : (k : Core D) (d : D) → d ≡ k.operations.store.device → RestartsFrom seen may_leave relations counters first k → IsRelationCount relations → FindsMeanwhile moment left_since relations counters first k d
+      pub no_call : (k : Core D) (d : D) → d ≡ k.operations.store.device → RestartsFrom g relations counters first k → IsRelationCount relations → FindsMeanwhile g relations counters first k d
       no_call k d same r schema = record {
-        later = omega (arith, ap moment same);
-        each = λ c left. finds_commits k c r (only_now k.operations.store.device c (subst (λ (e : D). left_since e (moment k.operations.store.device) c) same left)) schema;
-        before = λ t c le left. ∣ inl (subst (λ (e : D). left_since e t c) same left) ∣₁;
+        later = omega (arith, ap g.moment same);
+        each = λ c left. finds_commits k c r (only_now k.operations.store.device c (subst (λ (e : D). g.left_since e (g.moment k.operations.store.device) c) same left)) schema;
+        before = λ t c le left. ∣ inl (subst (λ (e : D). g.left_since e t c) same left) ∣₁;
       }
 
       -- and behind a run of calls that leaves parts whose commits are those of k
-      pub then_finds : (k m : Core D) (d : D) → ((c : List ℕ) → FindsCommits relations counters first m c → ∥ FindsCommits relations counters first k c ∥₁) → FindsMeanwhile moment left_since relations counters first k m.operations.store.device → FindsMeanwhile moment left_since relations counters first m d
-          → FindsMeanwhile moment left_since relations counters first k d
+      pub then_finds : (k m : Core D) (d : D) → ((c : List ℕ) → FindsCommits relations counters first m c → ∥ FindsCommits relations counters first k c ∥₁) → FindsMeanwhile g relations counters first k m.operations.store.device → FindsMeanwhile g relations counters first m d
+          → FindsMeanwhile g relations counters first k d
       then_finds k m d back one two = record {
         later = let a = one.later in let b = two.later in omega (arith, a, b);
-        each = λ c left. ∥∥₁_elim (two.before (moment k.operations.store.device) c one.later left) ∥∥₁_prop (⊎_elim
+        each = λ c left. ∥∥₁_elim (two.before (g.moment k.operations.store.device) c one.later left) ∥∥₁_prop (⊎_elim
             (λ was. one.each c was)
             (λ f. back c f));
         before = λ t c le left. ∥∥₁_elim (two.before t c (let a = one.later in omega (arith, a, le)) left) ∥∥₁_prop (⊎_elim

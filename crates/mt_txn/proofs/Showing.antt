@@ -57,24 +57,24 @@ within_of relations counters (Delete r k) named sized = (named, sized)
 within_of relations counters (Add c d) named sized = (named, sized)
 within_of relations counters (Read c) named sized = named
 
-module _ {D : Type 0} (seen : D → List ℕ) (may_leave : D → List ℕ → Type 0) (relations counters : ℕ) where
-  pub sound_of : (k : Core D) → IsWell seen may_leave relations counters k → IsSound seen may_leave k
+module _ {D : Type 0} (g : Ghosts D) (relations counters : ℕ) where
+  pub sound_of : (k : Core D) → IsWell g relations counters k → IsSound g k
   sound_of k well = ∥∥₁_map well (λ (origin, base, is, safe). (origin, base, safe))
 
-  own_of : (k : Core D) (place : ℕ) (r : OpScope) → place < length k.running.items → r ≡ get_or k.running.items place r → (origin : Origin) (base : Base) → IsConsistent seen may_leave origin base k → IsOwned k.live.members k.live.standing r × IsMoving r.stage
+  own_of : (k : Core D) (place : ℕ) (r : OpScope) → place < length k.running.items → r ≡ get_or k.running.items place r → (origin : Origin) (base : Base) → IsConsistent g origin base k → IsOwned k.live.members k.live.standing r × IsMoving r.stage
   own_of k place r within there origin base safe = (
     subst (IsOwned k.live.members k.live.standing) (sym there) (safe.fit.owned place r within),
-    (subst (IsRunning origin.relations origin.counters (world seen origin.pages k.operations) k.last) (sym there) (safe.runs place r within)).moving,
+    (subst (IsRunning origin.relations origin.counters (world g origin.pages k.operations) k.last) (sym there) (safe.runs place r within)).moving,
   )
 
   -- an operation of an open transaction is no inverse, and is not taken back
-  pub forward_of : (k : Core D) (t place : ℕ) → IsWell seen may_leave relations counters k → place < length k.running.items → AtPlace k.running.items place (λ r. r.txn ≡ t) → state_in k.live.members t ≡ Some Open → AtPlace k.running.items place (λ r. r.undoes ≡ 0)
+  pub forward_of : (k : Core D) (t place : ℕ) → IsWell g relations counters k → place < length k.running.items → AtPlace k.running.items place (λ r. r.txn ≡ t) → state_in k.live.members t ≡ Some Open → AtPlace k.running.items place (λ r. r.undoes ≡ 0)
   forward_of k t place well within own opened r there = ⊎_elim (λ (fore : r.undoes ≡ 0). fore) (λ (back : r.undoes ≡ 0 → ⊥).
       absurd (∥∥₁_elim well (hlevel props) (λ (origin, base, is, safe).
       let aborts = (own_of k place r within there origin base safe).0.aborts back in
       let now : state_in k.live.members t ≡ Some Aborting = ap (state_in k.live.members) (sym (own r there)) ∙ aborts in absurd cc))) (cases_eq r.undoes 0)
 
-  pub stage_of : (k : Core D) (t place : ℕ) → IsWell seen may_leave relations counters k → place < length k.running.items → AtPlace k.running.items place (λ r. r.txn ≡ t) → state_in k.live.members t ≡ Some Open → AtPlace k.running.items place (λ r. (r.stage ≡ Planning) ⊎ (r.stage ≡ Writing))
+  pub stage_of : (k : Core D) (t place : ℕ) → IsWell g relations counters k → place < length k.running.items → AtPlace k.running.items place (λ r. r.txn ≡ t) → state_in k.live.members t ≡ Some Open → AtPlace k.running.items place (λ r. (r.stage ≡ Planning) ⊎ (r.stage ≡ Writing))
   stage_of k t place well within own opened r there = going_of r.stage (∥∥₁_map well (λ (origin, base, is, safe). let mine = own_of k place r within there origin base safe in (
     mine.1,
     λ taking.
@@ -83,57 +83,57 @@ module _ {D : Type 0} (seen : D → List ℕ) (may_leave : D → List ℕ → Ty
   )))
 
   -- an inverse is not taken back
-  pub inverse_stage : (k : Core D) (place : ℕ) → IsWell seen may_leave relations counters k → place < length k.running.items → AtPlace k.running.items place (λ r. r.undoes ≢ 0) → AtPlace k.running.items place (λ r. (r.stage ≡ Planning) ⊎ (r.stage ≡ Writing))
+  pub inverse_stage : (k : Core D) (place : ℕ) → IsWell g relations counters k → place < length k.running.items → AtPlace k.running.items place (λ r. r.undoes ≢ 0) → AtPlace k.running.items place (λ r. (r.stage ≡ Planning) ⊎ (r.stage ≡ Writing))
   inverse_stage k place well within back r there = going_of r.stage (∥∥₁_map well (λ (origin, base, is, safe). let mine = own_of k place r within there origin base safe in (mine.1, λ taking. back r there (mine.0.taken taking).0)))
 
   -- ---- what is kept
 
-  pub kept_of : (k : Core D) (first : Base) (s : State) → ShowsIn seen may_leave relations counters first s k → ∥ IsKept first s ∥₁
+  pub kept_of : (k : Core D) (first : Base) (s : State) → ShowsIn g relations counters first s k → ∥ IsKept first s ∥₁
   kept_of k first s shows = ∥∥₁_map shows (λ (origin, base, is, x). subst (λ (X : Type 0). X) (λ i. IsKept (is.first_is i) (sym x.state i)) x.consistent.fit.kept)
 
-  pub legal_of : (k : Core D) (first : Base) (s : State) → ShowsIn seen may_leave relations counters first s k → ∥ ((s.book ≡ k.book.items) × IsLegal first k.book.items) ∥₁
+  pub legal_of : (k : Core D) (first : Base) (s : State) → ShowsIn g relations counters first s k → ∥ ((s.book ≡ k.book.items) × IsLegal first k.book.items) ∥₁
   legal_of k first s shows = ∥∥₁_map shows (λ (origin, base, is, x). (ap (λ (z : State). z.book) x.state, subst (λ (b : Base). IsLegal b k.book.items) is.first_is x.consistent.fit.kept.legal))
 
   -- ---- events
 
   -- the parts are led from each state to another, on some base
   abbrev pub Leads : Core D → Core D → (State → State) → Type 0
-  Leads k n f = (origin : Origin) (base : Base) → IsConsistent seen may_leave origin base k → (now : Base) × IsIn seen may_leave origin now (f (state_of k base)) n
+  Leads k n f = (origin : Origin) (base : Base) → IsConsistent g origin base k → (now : Base) × IsIn g origin now (f (state_of k base)) n
 
-  pub led : (k n : Core D) (f : State → State) (first : Base) (s : State) → Leads k n f → ShowsIn seen may_leave relations counters first s k → ShowsIn seen may_leave relations counters first (f s) n
-  led k n f first s go shows = ∥∥₁_map shows (λ (origin, base, is, x). let y = go origin base x.consistent in (origin, y.0, is, subst (λ (z : State). IsIn seen may_leave origin y.0 z n) (ap f (sym x.state)) y.1))
+  pub led : (k n : Core D) (f : State → State) (first : Base) (s : State) → Leads k n f → ShowsIn g relations counters first s k → ShowsIn g relations counters first (f s) n
+  led k n f first s go shows = ∥∥₁_map shows (λ (origin, base, is, x). let y = go origin base x.consistent in (origin, y.0, is, subst (λ (z : State). IsIn g origin y.0 z n) (ap f (sym x.state)) y.1))
 
-  pub well_led : (k n : Core D) (f : State → State) → Leads k n f → IsWell seen may_leave relations counters k → IsWell seen may_leave relations counters n
+  pub well_led : (k n : Core D) (f : State → State) → Leads k n f → IsWell g relations counters k → IsWell g relations counters n
   well_led k n f go well = ∥∥₁_map well (λ (origin, base, is, safe). let y = go origin base safe in (origin, y.0, is, y.1.consistent))
 
-  pub stays_led : (k n : Core D) → StaysIn seen may_leave k n → Leads k n (λ s. s)
+  pub stays_led : (k n : Core D) → StaysIn g k n → Leads k n (λ s. s)
   stays_led k n stays origin base safe = (base, stays origin base safe)
 
   -- where it is not refused; else nothing has changed
-  pub on_ok : {T : Type 0} (k n : Core D) (f : State → State) (first : Base) (s : State) (r : Result T Refusal) → ((origin : Origin) (base : Base) → IsConsistent seen may_leave origin base k → OnOk r (IsIn seen may_leave origin base (f (state_of k base)) n))
-      → ShowsIn seen may_leave relations counters first s k → OnOk r (ShowsIn seen may_leave relations counters first (f s) n)
+  pub on_ok : {T : Type 0} (k n : Core D) (f : State → State) (first : Base) (s : State) (r : Result T Refusal) → ((origin : Origin) (base : Base) → IsConsistent g origin base k → OnOk r (IsIn g origin base (f (state_of k base)) n))
+      → ShowsIn g relations counters first s k → OnOk r (ShowsIn g relations counters first (f s) n)
   on_ok k n f first s (Ok x) go shows = led k n f first s (λ origin base safe. (base, go origin base safe)) shows
   on_ok k n f first s (Err y) go shows = tt
 
-  pub well_or : {T : Type 0} (k n : Core D) (f : State → State) (r : Result T Refusal) → ((origin : Origin) (base : Base) → IsConsistent seen may_leave origin base k → OnOk r (IsIn seen may_leave origin base (f (state_of k base)) n))
-      → OnErr r (n ≡ k) → IsWell seen may_leave relations counters k → IsWell seen may_leave relations counters n
+  pub well_or : {T : Type 0} (k n : Core D) (f : State → State) (r : Result T Refusal) → ((origin : Origin) (base : Base) → IsConsistent g origin base k → OnOk r (IsIn g origin base (f (state_of k base)) n))
+      → OnErr r (n ≡ k) → IsWell g relations counters k → IsWell g relations counters n
   well_or k n f (Ok x) go err well = well_led k n f (λ origin base safe. (base, go origin base safe)) well
-  well_or k n f (Err y) go err well = subst (IsWell seen may_leave relations counters) (sym err) well
+  well_or k n f (Err y) go err well = subst (IsWell g relations counters) (sym err) well
 
-  pub well_either : {T : Type 0} (k n : Core D) (f : State → State) (r : Result T Refusal) → ((origin : Origin) (base : Base) → IsConsistent seen may_leave origin base k → OnOk r (IsIn seen may_leave origin base (f (state_of k base)) n))
-      → ((origin : Origin) (base : Base) → IsConsistent seen may_leave origin base k → OnErr r (IsIn seen may_leave origin base (state_of k base) n)) → IsWell seen may_leave relations counters k → IsWell seen may_leave relations counters n
+  pub well_either : {T : Type 0} (k n : Core D) (f : State → State) (r : Result T Refusal) → ((origin : Origin) (base : Base) → IsConsistent g origin base k → OnOk r (IsIn g origin base (f (state_of k base)) n))
+      → ((origin : Origin) (base : Base) → IsConsistent g origin base k → OnErr r (IsIn g origin base (state_of k base) n)) → IsWell g relations counters k → IsWell g relations counters n
   well_either k n f (Ok x) go err well = well_led k n f (λ origin base safe. (base, go origin base safe)) well
   well_either k n f (Err y) go err well = well_led k n (λ z. z) (λ origin base safe. (base, err origin base safe)) well
 
   -- ---- a step of an operation
 
   abbrev pub StepShown : Core D → Base → State → ℕ → Result Stepping Refusal → Type 0
-  StepShown n first s t (Ok (Ended reply)) = (op : Op) → s.running t ≡ Some op → ShowsIn seen may_leave relations counters first (ended s t op) n × ∥ reply_of s.base op ≡ reply ∥₁
-  StepShown n first s t (Ok (Going going)) = ShowsIn seen may_leave relations counters first s n
-  StepShown n first s t (Err why) = ShowsIn seen may_leave relations counters first s n
+  StepShown n first s t (Ok (Ended reply)) = (op : Op) → s.running t ≡ Some op → ShowsIn g relations counters first (ended s t op) n × ∥ reply_of s.base op ≡ reply ∥₁
+  StepShown n first s t (Ok (Going going)) = ShowsIn g relations counters first s n
+  StepShown n first s t (Err why) = ShowsIn g relations counters first s n
 
   pub step_shown : (k n : Core D) (first : Base) (s : State) (t place : ℕ) (res : Result Stepping Refusal) → place < length k.running.items → AtPlace k.running.items place (λ r. r.txn ≡ t) → AtPlace k.running.items place (λ r. r.undoes ≡ 0)
-      → ((origin : Origin) (base : Base) → IsConsistent seen may_leave origin base k → Steps seen may_leave origin base k n place res) → ShowsIn seen may_leave relations counters first s k → StepShown n first s t res
+      → ((origin : Origin) (base : Base) → IsConsistent g origin base k → Steps g origin base k n place res) → ShowsIn g relations counters first s k → StepShown n first s t res
   step_shown k n first s t place (Ok (Going going)) within own fore go shows = led k n (λ z. z) first s (λ origin base safe. (base, go origin base safe)) shows
   step_shown k n first s t place (Err why) within own fore go shows = led k n (λ z. z) first s (λ origin base safe. (base, go origin base safe)) shows
   step_shown k n first s t place (Ok (Ended reply)) within own fore go shows = λ op runs.
@@ -141,21 +141,21 @@ module _ {D : Type 0} (seen : D → List ℕ) (may_leave : D → List ℕ → Ty
         ∥∥₁_map shows (λ (origin, base, is, x).
             let this = same_op origin base x r at.1 op runs in
             let here = go origin base x.consistent r at.1 in
-            (origin, base_after base r.op, is, subst (λ (X : Type 0). X) (λ i. IsIn seen may_leave origin (base_after base r.op) (ended (sym x.state i) (own r at.1 i) (this i)) n) here.1)),
+            (origin, base_after base r.op, is, subst (λ (X : Type 0). X) (λ i. IsIn g origin (base_after base r.op) (ended (sym x.state i) (own r at.1 i) (this i)) n) here.1)),
         ∥∥₁_map shows (λ (origin, base, is, x).
             let this = same_op origin base x r at.1 op runs in
             let here = go origin base x.consistent r at.1 in
             (λ i. reply_of ((ap (λ (z : State). z.base) x.state) i) (sym this i)) ∙ here.0),
       )
     where
-      same_op : (origin : Origin) (base : Base) → IsIn seen may_leave origin base s k → (r : OpScope) → r ≡ get_or k.running.items place r → (op : Op) → s.running t ≡ Some op → r.op ≡ op
+      same_op : (origin : Origin) (base : Base) → IsIn g origin base s k → (r : OpScope) → r ≡ get_or k.running.items place r → (op : Op) → s.running t ≡ Some op → r.op ≡ op
       same_op origin base x r there op runs =
           let mine : running_in k.running.items r.txn ≡ Some r.op = running_at k.running.items place r within there (fore r there) x.consistent.fit.apart in
           let now : running_in k.running.items t ≡ Some op = ap (λ (z : State). z.running t) (sym x.state) ∙ runs in
           let same : ◌≡◌ {A = Option Op} (Some r.op) (Some op) = sym mine ∙ ap (running_in k.running.items) (own r there) ∙ now in cc
 
   pub step_well : (k n : Core D) (place : ℕ) (res : Result Stepping Refusal) → place < length k.running.items
-      → ((origin : Origin) (base : Base) → IsConsistent seen may_leave origin base k → Steps seen may_leave origin base k n place res) → IsWell seen may_leave relations counters k → IsWell seen may_leave relations counters n
+      → ((origin : Origin) (base : Base) → IsConsistent g origin base k → Steps g origin base k n place res) → IsWell g relations counters k → IsWell g relations counters n
   step_well k n place (Ok (Going going)) within go well = well_led k n (λ z. z) (λ origin base safe. (base, go origin base safe)) well
   step_well k n place (Err why) within go well = well_led k n (λ z. z) (λ origin base safe. (base, go origin base safe)) well
   step_well k n place (Ok (Ended reply)) within go well = let at = at_place k.running.items place within in
@@ -164,30 +164,30 @@ module _ {D : Type 0} (seen : D → List ℕ) (may_leave : D → List ℕ → Ty
   -- ---- a step of an abort
 
   abbrev pub ShowsBack : Core D → Base → State → ℕ → Type 0
-  ShowsBack n first s t = ∥ ((z : State) × IsBack s t z × ShowsIn seen may_leave relations counters first z n) ∥₁
+  ShowsBack n first s t = ∥ ((z : State) × IsBack s t z × ShowsIn g relations counters first z n) ∥₁
 
-  pub back_stands : (n : Core D) (first : Base) (s : State) (t : ℕ) → ShowsIn seen may_leave relations counters first s n → ShowsBack n first s t
+  pub back_stands : (n : Core D) (first : Base) (s : State) (t : ℕ) → ShowsIn g relations counters first s n → ShowsBack n first s t
   back_stands n first s t shows = ∣ (s, stands, shows) ∣₁
 
   abbrev pub UndoShown : Core D → Base → State → ℕ → Result Stepping Refusal → Type 0
   UndoShown n first s t (Ok (Ended reply)) = ShowsBack n first s t
-  UndoShown n first s t (Ok (Going going)) = ShowsIn seen may_leave relations counters first s n
-  UndoShown n first s t (Err why) = ShowsIn seen may_leave relations counters first s n
+  UndoShown n first s t (Ok (Going going)) = ShowsIn g relations counters first s n
+  UndoShown n first s t (Err why) = ShowsIn g relations counters first s n
 
   pub undo_shown : (k n : Core D) (first : Base) (s : State) (t place : ℕ) (res : Result Stepping Refusal) → place < length k.running.items → AtPlace k.running.items place (λ r. r.txn ≡ t)
-      → ((origin : Origin) (base : Base) → IsConsistent seen may_leave origin base k → UndoSteps seen may_leave origin base k n place res) → ShowsIn seen may_leave relations counters first s k → UndoShown n first s t res
+      → ((origin : Origin) (base : Base) → IsConsistent g origin base k → UndoSteps g origin base k n place res) → ShowsIn g relations counters first s k → UndoShown n first s t res
   undo_shown k n first s t place (Ok (Going going)) within own go shows = led k n (λ z. z) first s (λ origin base safe. (base, go origin base safe)) shows
   undo_shown k n first s t place (Err why) within own go shows = led k n (λ z. z) first s (λ origin base safe. (base, go origin base safe)) shows
   undo_shown k n first s t place (Ok (Ended reply)) within own go shows = let at = at_place k.running.items place within in let r = at.0 in
       ∥∥₁_map shows (λ (origin, base, is, x).
-      let u = subst (λ (X : Type 0). X) (λ i. UndoesIn seen may_leave origin base (sym x.state i) n (own r at.1 i) r.op) (go origin base x.consistent r at.1).1 in (
+      let u = subst (λ (X : Type 0). X) (λ i. UndoesIn g origin base (sym x.state i) n (own r at.1 i) r.op) (go origin base x.consistent r at.1).1 in (
         undone s t r.op n.escrow.pending,
         undoes u.last r.op n.escrow.pending u.idle u.effect u.inverts u.given,
         ∣ (origin, base_after base r.op, is, u.leads) ∣₁,
       ))
 
   pub undo_well : (k n : Core D) (place : ℕ) (res : Result Stepping Refusal) → place < length k.running.items
-      → ((origin : Origin) (base : Base) → IsConsistent seen may_leave origin base k → UndoSteps seen may_leave origin base k n place res) → IsWell seen may_leave relations counters k → IsWell seen may_leave relations counters n
+      → ((origin : Origin) (base : Base) → IsConsistent g origin base k → UndoSteps g origin base k n place res) → IsWell g relations counters k → IsWell g relations counters n
   undo_well k n place (Ok (Going going)) within go well = well_led k n (λ z. z) (λ origin base safe. (base, go origin base safe)) well
   undo_well k n place (Err why) within go well = well_led k n (λ z. z) (λ origin base safe. (base, go origin base safe)) well
   undo_well k n place (Ok (Ended reply)) within go well = let at = at_place k.running.items place within in
@@ -195,25 +195,25 @@ module _ {D : Type 0} (seen : D → List ℕ) (may_leave : D → List ℕ → Ty
 
   abbrev pub BackShown : Core D → Base → State → ℕ → Result TakenBack Refusal → Type 0
   BackShown n first s t (Ok taken.Clear) = ShowsBack n first s t
-  BackShown n first s t (Ok taken.More) = ShowsIn seen may_leave relations counters first s n
-  BackShown n first s t (Ok taken.Flush) = ShowsIn seen may_leave relations counters first s n
-  BackShown n first s t (Err why) = ShowsIn seen may_leave relations counters first s n
+  BackShown n first s t (Ok taken.More) = ShowsIn g relations counters first s n
+  BackShown n first s t (Ok taken.Flush) = ShowsIn g relations counters first s n
+  BackShown n first s t (Err why) = ShowsIn g relations counters first s n
 
   pub back_shown : (k n : Core D) (first : Base) (s : State) (t place : ℕ) (res : Result TakenBack Refusal) → place < length k.running.items → AtPlace k.running.items place (λ r. r.txn ≡ t)
-      → ((origin : Origin) (base : Base) → IsConsistent seen may_leave origin base k → BacksIn seen may_leave origin base k n place res) → ShowsIn seen may_leave relations counters first s k → BackShown n first s t res
+      → ((origin : Origin) (base : Base) → IsConsistent g origin base k → BacksIn g origin base k n place res) → ShowsIn g relations counters first s k → BackShown n first s t res
   back_shown k n first s t place (Ok taken.More) within own go shows = led k n (λ z. z) first s (λ origin base safe. (base, go origin base safe)) shows
   back_shown k n first s t place (Ok taken.Flush) within own go shows = led k n (λ z. z) first s (λ origin base safe. (base, go origin base safe)) shows
   back_shown k n first s t place (Err why) within own go shows = led k n (λ z. z) first s (λ origin base safe. (base, go origin base safe)) shows
   back_shown k n first s t place (Ok taken.Clear) within own go shows = let at = at_place k.running.items place within in
       ∥∥₁_map shows (λ (origin, base, is, x).
-      let d = subst (λ (X : Type 0). X) (λ i. DropsIn seen may_leave origin base (sym x.state i) n (own at.0 at.1 i)) (go origin base x.consistent at.0 at.1) in (
+      let d = subst (λ (X : Type 0). X) (λ i. DropsIn g origin base (sym x.state i) n (own at.0 at.1 i)) (go origin base x.consistent at.0 at.1) in (
         dropped s t n.escrow.pending,
         drops d.op n.escrow.pending d.runs d.given,
         ∣ (origin, base, is, d.leads) ∣₁,
       ))
 
   pub back_well : (k n : Core D) (place : ℕ) (res : Result TakenBack Refusal) → place < length k.running.items
-      → ((origin : Origin) (base : Base) → IsConsistent seen may_leave origin base k → BacksIn seen may_leave origin base k n place res) → IsWell seen may_leave relations counters k → IsWell seen may_leave relations counters n
+      → ((origin : Origin) (base : Base) → IsConsistent g origin base k → BacksIn g origin base k n place res) → IsWell g relations counters k → IsWell g relations counters n
   back_well k n place (Ok taken.More) within go well = well_led k n (λ z. z) (λ origin base safe. (base, go origin base safe)) well
   back_well k n place (Ok taken.Flush) within go well = well_led k n (λ z. z) (λ origin base safe. (base, go origin base safe)) well
   back_well k n place (Err why) within go well = well_led k n (λ z. z) (λ origin base safe. (base, go origin base safe)) well
@@ -222,9 +222,9 @@ module _ {D : Type 0} (seen : D → List ℕ) (may_leave : D → List ℕ → Ty
 
 -- ---- a kernel whose parts are as before shows what it showed
 
-pub parts_stay : {D : Type 0} → {g : Ghosts D} → (seen : D → List ℕ) (may_leave : D → List ℕ → Type 0) (k n : Kernel D g) → n.core ≡ k.core → SameSchema k n → Stays seen may_leave k n
-parts_stay {D} seen may_leave k n same schema first s shows =
+pub parts_stay : {D : Type 0} → {g : Ghosts D} → (k n : Kernel D g) → n.core ≡ k.core → SameSchema k n → Stays k n
+parts_stay {D} {g = g} k n same schema first s shows =
     subst (λ (X : Type 0). X) (λ i. At (sym schema.0 i) (sym schema.1 i) (sym same i)) shows
   where
     At : ℕ → ℕ → Core D → Type 0
-    At relations counters parts = ShowsIn seen may_leave relations counters first s parts
+    At relations counters parts = ShowsIn g relations counters first s parts

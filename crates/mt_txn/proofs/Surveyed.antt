@@ -23,11 +23,11 @@ use Rattle.mt_txn.specs.Surveyed.{TellsBase, TellsPages}
 use Rattle.mt_txn.specs.Well.{IsWell, ShowsIn}
 use Rattle.mt_txn.specs.declared.kernel.Kernel.{Kernel}
 
-module _ {D : Type 0} (seen : D → List ℕ) (may_leave : D → List ℕ → Type 0) (k : Core D) where
+module _ {D : Type 0} (g : Ghosts D) (k : Core D) where
   abbrev pub Finds : Result Survey Refusal → Type 0
-  Finds r = (origin : Origin) (base : Base) → IsConsistent seen may_leave origin base k → IfOk r (IsSurvey origin.relations origin.counters (pages k.operations.store.pool) (held_in (world seen origin.pages k.operations)) base)
+  Finds r = (origin : Origin) (base : Base) → IsConsistent g origin base k → IfOk r (IsSurvey origin.relations origin.counters (pages k.operations.store.pool) (held_in (world g origin.pages k.operations)) base)
 
-  pub base_reported : (relations counters : ℕ) (first : Base) (s : State) (r : Result Survey Refusal) → Finds r → ShowsIn seen may_leave relations counters first s k → IfOk r (TellsBase relations counters s.base)
+  pub base_reported : (relations counters : ℕ) (first : Base) (s : State) (r : Result Survey Refusal) → Finds r → ShowsIn g relations counters first s k → IfOk r (TellsBase relations counters s.base)
   base_reported relations counters first s (Err why) finds shows = tt
   base_reported relations counters first s (Ok survey) finds shows = ∥∥₁_elim shows (hlevel props) (λ (origin, base, is, x).
       let outcome = finds origin base x.consistent in record {
@@ -37,18 +37,18 @@ module _ {D : Type 0} (seen : D → List ℕ) (may_leave : D → List ℕ → Ty
       })
 
   -- the pages show as they are held
-  pub shown_held : (relations counters : ℕ) (survey : Survey) → k.live.members ≡ [] → Finds (Ok survey) → IsWell seen may_leave relations counters k
-      → (survey.depth ≡ depth_in (view k.operations.store.pool (seen k.operations.store.device) 1)) × (survey.free ≡ free_in (mapped (view k.operations.store.pool (seen k.operations.store.device) 0) (pages k.operations.store.pool)))
+  pub shown_held : (relations counters : ℕ) (survey : Survey) → k.live.members ≡ [] → Finds (Ok survey) → IsWell g relations counters k
+      → (survey.depth ≡ depth_in (view k.operations.store.pool (g.seen k.operations.store.device) 1)) × (survey.free ≡ free_in (mapped (view k.operations.store.pool (g.seen k.operations.store.device) 0) (pages k.operations.store.pool)))
   shown_held relations counters survey nobody finds well = ∥∥₁_elim well (hlevel props) (λ (origin, base, is, safe).
       let outcome = finds origin base safe in
       let free = nobody_locks k.live.members k.live.standing k.running.items k.operations.locks nobody safe.fit.owned safe.fit.locked in
-      let idle : IsIdle seen may_leave origin.relations k.operations = ∣ (origin.pages, origin.counters, safe.fit.right, free) ∣₁ in
-      let shows = λ (p : ℕ) (inside : p < pages k.operations.store.pool). idle_page seen may_leave origin.pages origin.relations origin.counters k.operations p safe.fit.right free inside in (
-        outcome.depth ∙ ap depth_in (sym (shows 1 (fixed_inside seen may_leave origin.relations k.operations 1 (omega arith) idle))),
-        outcome.free ∙ ap (λ (bytes : List ℕ). free_in (mapped bytes (pages k.operations.store.pool))) (sym (shows 0 (fixed_inside seen may_leave origin.relations k.operations 0 (omega arith) idle))),
+      let idle : IsIdle g origin.relations k.operations = ∣ (origin.pages, origin.counters, safe.fit.right, free) ∣₁ in
+      let shows = λ (p : ℕ) (inside : p < pages k.operations.store.pool). idle_page g origin.pages origin.relations origin.counters k.operations p safe.fit.right free inside in (
+        outcome.depth ∙ ap depth_in (sym (shows 1 (fixed_inside g origin.relations k.operations 1 (omega arith) idle))),
+        outcome.free ∙ ap (λ (bytes : List ℕ). free_in (mapped bytes (pages k.operations.store.pool))) (sym (shows 0 (fixed_inside g origin.relations k.operations 0 (omega arith) idle))),
       ))
 
-pub pages_reported : {D : Type 0} {g : Ghosts D} (seen : D → List ℕ) (may_leave : D → List ℕ → Type 0) (k : Kernel D g) (r : Result Survey Refusal) → k.core.live.members ≡ [] → Finds seen may_leave k.core r → IsWell seen may_leave k.relations k.counters k.core
-    → IfOk r (TellsPages seen k)
-pages_reported seen may_leave k (Err why) nobody finds well = tt
-pages_reported seen may_leave k (Ok survey) nobody finds well = let outcome = shown_held seen may_leave k.core k.relations k.counters survey nobody finds well in record { depth = outcome.0; free = outcome.1 }
+pub pages_reported : {D : Type 0} {g : Ghosts D} (k : Kernel D g) (r : Result Survey Refusal) → k.core.live.members ≡ [] → Finds g k.core r → IsWell g k.relations k.counters k.core
+    → IfOk r (TellsPages k)
+pages_reported k (Err why) nobody finds well = tt
+pages_reported {g = g} k (Ok survey) nobody finds well = let outcome = shown_held g k.core k.relations k.counters survey nobody finds well in record { depth = outcome.0; free = outcome.1 }

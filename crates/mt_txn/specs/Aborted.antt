@@ -19,12 +19,12 @@ use Rattle.mt_txn.specs.declared.answers.AbortStepped.{AbortStepped}
 use Rattle.mt_txn.specs.declared.answers.AbortStepped.TheVariants.{Ended, Flush}
 use Rattle.mt_txn.specs.declared.kernel.Kernel.{Kernel}
 
-module _ {D : Type 0} {g : Ghosts D} (seen : D → List ℕ) (may_leave : D → List ℕ → Type 0) (faults moment : D → ℕ) (left_since : D → ℕ → List ℕ → Type 0) where
+module _ {D : Type 0} {g : Ghosts D} where
   -- From kernel k it answered this of the abort of t, and left kernel n.
   pub record StepsAbort (k : Kernel D g) (t : ℕ) (result : Result AbortStepped Refusal) (n : Kernel D g) : Type 0 where
-    pub why : IfErr result (λ why. why ≢ NoMemory → IsFault faults k.core n.core why)
+    pub why : IfErr result (λ why. why ≢ NoMemory → IsFault g k.core n.core why)
     pub fails : result ≡ Err DeviceFailed → is_failed n ≡ true
-    pub quiet : TellsEachFault faults k result n
+    pub quiet : TellsEachFault k result n
     pub states : IfOk result (λ stepped. stepped ≢ Ended → SameStates k.core n.core)
     pub work : LowersAbort (pages (kernel_pool k)) result (undo_steps k.core t) (undo_steps n.core t)
     pub other : IfOk result (λ stepped. IsAbortForOther k.core.live.members t stepped)
@@ -34,8 +34,8 @@ module _ {D : Type 0} {g : Ghosts D} (seen : D → List ℕ) (may_leave : D → 
     pub err_states : OnErr result (SameStates k.core n.core)
     pub out : result ≡ Ok Ended → (state_in n.core.live.members t ≡ None) × SameStatesBut k.core n.core t
     pub schema : SameSchema k n
-    pub restarts : StaysRestarting seen may_leave k n
-    pub moments : LeavesFound seen may_leave moment left_since k n
-    pub once : CallsOnce moment k n
+    pub restarts : StaysRestarting k n
+    pub moments : LeavesFound k n
+    pub once : CallsOnce k n
     pub others : KeepsOthers t k.core.running.items n.core.running.items
-    pub aborted : (first : Base) (s : State) → Shows seen may_leave first s k → HasAborted seen may_leave first s t result n
+    pub aborted : (first : Base) (s : State) → Shows first s k → HasAborted first s t result n

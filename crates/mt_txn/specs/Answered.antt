@@ -1,5 +1,6 @@
 -- What each call answers of a kernel that is lent, and what it leaves of it: k before, and n after the call.
 use Rattle.std.specs.Prelude.{ℕ, ◌≡◌, ◌≢◌, ◌⊎◌, Err, IfErr, IfOk, List, None, OnErr, OnOk, Option, Result, Ok, Some}
+use Rattle.mt_disk.specs.declared.device.Device.{Ghosts}
 use Rattle.mt_base.specs.declared.refusal.Refusal.{Refusal}
 use Rattle.mt_base.specs.declared.refusal.Refusal.TheVariants.{NoMemory}
 use Rattle.mt_core.specs.Consistent.{SameCommits, SameStates, SameStatesBut, SetsState}
@@ -40,46 +41,49 @@ module _ {D : Type 0} where
     pub states : OnErr result (SameStates k.core n.core × SameCommits k.core n.core)
 
   -- the transaction is to be undone then, or nothing has changed
-  pub record AnswersAbort (k : KernelSeen D) (t : ℕ) (result : Result (Unit {0}) Refusal) (n : KernelSeen D) : Type 0 where
+  pub record AnswersAbort (k : KernelSeen D) (t : ℕ) (result : Result (Unit {0}) Refusal)
+      (n : KernelSeen D) : Type 0 where
     pub may : OnOk result (open_cause (has_failed_in k) k.core t ≡ None)
     pub why : IfErr result (λ why. open_cause (has_failed_in k) k.core t ≡ Some why)
     pub aborts : OnOk result (SetsState k.core n.core t (Some Aborting))
     pub err : OnErr result (n ≡ k)
 
-module _ {D : Type 0} (seen : D → List ℕ) (may_leave : D → List ℕ → Type 0) where
+module _ {D : Type 0} (g : Ghosts D) where
   -- locks, escrow, pages and log are asked if nothing else forbids the call
-  pub record AnswersCall (k : KernelSeen D) (t : ℕ) (op : Op) (result : Result Called Refusal) (n : KernelSeen D) : Type 0 where
-    pub early : (why : Refusal) → call_cause k.relations k.counters (has_failed_in k) k.core t op ≡ Some why → result ≡ Err why
+  pub record AnswersCall (k : KernelSeen D) (t : ℕ) (op : Op) (result : Result Called Refusal)
+      (n : KernelSeen D) : Type 0 where
+    pub early : (why : Refusal) → call_cause k.relations k.counters (has_failed_in k) k.core t op ≡ Some why
+        → result ≡ Err why
     pub answer : call_cause k.relations k.counters (has_failed_in k) k.core t op ≡ None
-        → AnswersIn seen may_leave k.relations k.counters k.core t op result
+        → AnswersIn g k.relations k.counters k.core t op result
     pub states : SameStates k.core n.core
     pub commits : SameCommits k.core n.core
 
   -- what is replied is what the model replies, on the base that the pages hold
-  pub record AnswersStep (faults : D → ℕ) (k : KernelSeen D) (t : ℕ) (result : Result Stepped Refusal) (n : KernelSeen D) : Type 0 where
+  pub record AnswersStep (k : KernelSeen D) (t : ℕ) (result : Result Stepped Refusal) (n : KernelSeen D) : Type 0 where
     pub may : OnOk result (step_cause (has_failed_in k) k.core t ≡ None)
     pub why : IfErr result (λ why. why ≢ NoMemory
-        → (step_cause (has_failed_in k) k.core t ≡ Some why) ⊎ IsFault faults k.core n.core why)
-    pub stepped : (first : Base) (s : State) → ShowsSeen seen may_leave first s k
-        → StepsTo (λ z. ShowsSeen seen may_leave first z n) s t result
+        → (step_cause (has_failed_in k) k.core t ≡ Some why) ⊎ IsFault g k.core n.core why)
+    pub stepped : (first : Base) (s : State) → ShowsSeen g first s k → StepsTo (λ z. ShowsSeen g first z n) s t result
 
   -- the transaction lives no more once this answers its end
-  pub record AnswersAbortStep (faults : D → ℕ) (k : KernelSeen D) (t : ℕ) (result : Result AbortStepped Refusal) (n : KernelSeen D) : Type 0 where
+  pub record AnswersAbortStep (k : KernelSeen D) (t : ℕ) (result : Result AbortStepped Refusal)
+      (n : KernelSeen D) : Type 0 where
     pub may : OnOk result (abort_cause (has_failed_in k) k.core t ≡ None)
     pub why : IfErr result (λ why. why ≢ NoMemory
-        → (abort_cause (has_failed_in k) k.core t ≡ Some why) ⊎ IsFault faults k.core n.core why)
+        → (abort_cause (has_failed_in k) k.core t ≡ Some why) ⊎ IsFault g k.core n.core why)
     pub out : result ≡ Ok Ended → (state_in n.core.live.members t ≡ None) × SameStatesBut k.core n.core t
-    pub aborted : (first : Base) (s : State) → ShowsSeen seen may_leave first s k
-        → AbortsTo (λ z. ShowsSeen seen may_leave first z n) s t result
+    pub aborted : (first : Base) (s : State) → ShowsSeen g first s k → AbortsTo (λ z. ShowsSeen g first z n) s t result
 
-module _ {D : Type 0} (faults : D → ℕ) where
+module _ {D : Type 0} (g : Ghosts D) where
   -- the commits that are named are durable, and no record is appended
   pub record AnswersForce (k : KernelSeen D) (result : Result KernelForced Refusal) (n : KernelSeen D) : Type 0 where
-    pub why : IfErr result (λ why. why ≢ NoMemory → IsFailure faults (has_failed_in k) k.core n.core why)
-    pub forced : IfOk result (λ forced. IsForcedBy (core_log k.core) k.core.commits.items forced (core_log n.core) n.core.commits.items)
+    pub why : IfErr result (λ why. why ≢ NoMemory → IsFailure g (has_failed_in k) k.core n.core why)
+    pub forced : IfOk result (λ forced. IsForcedBy (core_log k.core) k.core.commits.items forced (core_log n.core)
+        n.core.commits.items)
     pub unappended : appended (core_log n.core) ≡ appended (core_log k.core)
 
   -- the log stays as it is
   pub record AnswersFlush (k : KernelSeen D) (result : Result Flushed Refusal) (n : KernelSeen D) : Type 0 where
-    pub why : IfErr result (IsFailure faults (has_failed_in k) k.core n.core)
+    pub why : IfErr result (IsFailure g (has_failed_in k) k.core n.core)
     pub log : core_log n.core ≡ core_log k.core

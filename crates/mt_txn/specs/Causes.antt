@@ -1,6 +1,7 @@
 -- Which calls a kernel refuses before it asks locks, escrow, pages and log.
-use Rattle.std.specs.Prelude.{ℕ, ℤ, ◌≡◌, ◌⊎◌, ◌<◌, ◌+◌, ◌||◌, ◌&&◌, ◌==◌, nat_lt, nat_le, nat_eq, if◌then◌else◌, Bool, true, false, List, length, Option, Some, None, int_le, pos, neg_ℤ}
+use Rattle.std.specs.Prelude.{ℕ, ℤ, ◌≡◌, ◌⊎◌, ◌<◌, ◌+◌, ◌||◌, ◌&&◌, ◌==◌, nat_lt, nat_le, nat_eq, if◌then◌else◌, Bool, true, false, List, length, Option, Some, None, int_le, pos, neg_ℤ, ⊤}
 use Rattle.std.specs.List.{list_any}
+use Rattle.mt_disk.specs.declared.device.Device.{Ghosts}
 use Rattle.mt_base.specs.declared.limits.TheConstants.{MAX_BEGUN, MAX_COMMITS, MAX_KEY_BYTES, MAX_LIVE, MAX_OPERATIONS, MAX_STEP, MAX_VALUE_BYTES, TRANSACTION_LOG_BYTES}
 use Rattle.mt_base.specs.Limits.{IsKey, IsValue, IsStep}
 use Rattle.mt_base.specs.declared.refusal.Refusal.{Refusal}
@@ -15,7 +16,7 @@ use Rattle.mt_core.specs.Consistent.{log_kept}
 use Rattle.mt_core.specs.Runs.{state_in}
 use Rattle.mt_core.specs.declared.parts.Core.{Core}
 use Rattle.mt_op.specs.declared.scope.OpScope.{OpScope}
-use Rattle.mt_core.specs.Seen.{core_device, core_log}
+use Rattle.mt_core.specs.Seen.{core_device, core_log, core_last}
 
 -- the first of two causes
 abbrev pub first_of : Option Refusal → Option Refusal → Option Refusal
@@ -30,16 +31,17 @@ abbrev pub begin_cause : {D : Type 0} → Bool → Core D → Option Refusal
 begin_cause failed k =
     if failed then Some refusal.DeviceFailed else
     if nat_le MAX_LIVE (length k.live.members) then Some refusal.TooManyTransactions else
-    if nat_le MAX_COMMITS (length k.book.items + length k.live.members) || nat_le MAX_BEGUN k.live.begun then Some refusal.BookFull else
+    if nat_le MAX_COMMITS (length k.book.items + length k.live.members) || nat_le MAX_BEGUN k.live.begun then Some
+    refusal.BookFull else
     if nat_lt (log_kept k + TRANSACTION_LOG_BYTES) (area_size (core_log k)) then None else Some refusal.LogFull
 
 -- the device failed in this call
-abbrev pub IsFault : {D : Type 0} → (D → ℕ) → Core D → Core D → Refusal → Type 0
-IsFault failures k n why = (why ≡ refusal.DeviceFailed) × (failures (core_device k) < failures (core_device n))
+abbrev pub IsFault : {D : Type 0} → Ghosts D → Core D → Core D → Refusal → Type 0
+IsFault g k n why = (why ≡ refusal.DeviceFailed) × (g.faults (core_device k) < g.faults (core_device n))
 
 -- it failed in this call, or before
-abbrev pub IsFailure : {D : Type 0} → (D → ℕ) → Bool → Core D → Core D → Refusal → Type 0
-IsFailure failures failed k n why = ((failed ≡ true) × (why ≡ refusal.DeviceFailed)) ⊎ IsFault failures k n why
+abbrev pub IsFailure : {D : Type 0} → Ghosts D → Bool → Core D → Core D → Refusal → Type 0
+IsFailure g failed k n why = ((failed ≡ true) × (why ≡ refusal.DeviceFailed)) ⊎ IsFault g k n why
 
 -- ---- the transaction
 
@@ -53,11 +55,13 @@ is_aborting _ = false
 
 -- why a call that wants an open transaction is refused
 abbrev pub open_cause : {D : Type 0} → Bool → Core D → ℕ → Option Refusal
-open_cause failed k t = if failed then Some refusal.DeviceFailed else unless (is_open (state_in k.live.members t)) refusal.Stranger
+open_cause failed k t =
+    if failed then Some refusal.DeviceFailed else unless (is_open (state_in k.live.members t)) refusal.Stranger
 
 -- why a step of an abort is
 abbrev pub abort_cause : {D : Type 0} → Bool → Core D → ℕ → Option Refusal
-abort_cause failed k t = if failed then Some refusal.DeviceFailed else unless (is_aborting (state_in k.live.members t)) refusal.Stranger
+abort_cause failed k t =
+    if failed then Some refusal.DeviceFailed else unless (is_aborting (state_in k.live.members t)) refusal.Stranger
 
 -- whether an operation of it is under way
 abbrev pub is_busy : {D : Type 0} → Core D → ℕ → Bool
@@ -74,11 +78,13 @@ commit_cause failed k t = first_of (open_cause failed k t) (busy_cause k t)
 
 -- why the pages cannot be surveyed, if they cannot
 abbrev pub survey_cause : {D : Type 0} → Bool → Core D → Option Refusal
-survey_cause failed k = if failed then Some refusal.DeviceFailed else if nat_eq (length k.live.members) 0 then None else Some refusal.Busy
+survey_cause failed k =
+    if failed then Some refusal.DeviceFailed else if nat_eq (length k.live.members) 0 then None else Some refusal.Busy
 
 -- it has called as many operations as it may, or 2^40 were called by all
 abbrev pub count_cause : {D : Type 0} → Core D → ℕ → Option Refusal
-count_cause k t = if nat_le MAX_OPERATIONS (length (calls_of k.live.members t)) || nat_le MAX_BEGUN k.last then Some refusal.TooManyOperations else None
+count_cause k t = if nat_le MAX_OPERATIONS (length (calls_of k.live.members t)) || nat_le MAX_BEGUN (core_last k) then
+    Some refusal.TooManyOperations else None
 
 -- ---- the operation
 
@@ -89,7 +95,8 @@ abbrev pub is_value : List ℕ → Bool
 is_value v = nat_le (length v) MAX_VALUE_BYTES
 
 abbrev pub is_step : ℤ → Bool
-is_step d = (int_le (pos 1) d && int_le d (pos MAX_STEP)) || (int_le (neg_ℤ (pos MAX_STEP)) d && int_le d (neg_ℤ (pos 1)))
+is_step d =
+    (int_le (pos 1) d && int_le d (pos MAX_STEP)) || (int_le (neg_ℤ (pos MAX_STEP)) d && int_le d (neg_ℤ (pos 1)))
 
 -- its relation or counter is there
 abbrev pub IsNamed : ℕ → ℕ → Op → Type 0
@@ -130,4 +137,23 @@ size_cause (Read c) = None
 -- why a call is refused before its lock is asked for, if it is: the first cause in the order of the tests
 abbrev pub call_cause : {D : Type 0} → ℕ → ℕ → Bool → Core D → ℕ → Op → Option Refusal
 call_cause relations counters failed k t op =
-    first_of (open_cause failed k t) (first_of (busy_cause k t) (first_of (count_cause k t) (first_of (name_cause relations counters op) (size_cause op))))
+    first_of (open_cause failed k t) (first_of (busy_cause k t)
+    (first_of (count_cause k t) (first_of (name_cause relations counters op) (size_cause op))))
+
+-- With what a call is refused: with 5 or 8 if a key, a value or a step is past its limits, and for no other cause; with
+-- 6 or 7 if some schema lacks what is named; with 9 if it adds; or with 1, 2, 10, 11, 14, 15, 16 or 17.
+abbrev pub IsCallRefusal : Op → Refusal → Type 0
+IsCallRefusal op refusal.BadLength = size_cause op ≡ Some refusal.BadLength
+IsCallRefusal op refusal.BadStep = size_cause op ≡ Some refusal.BadStep
+IsCallRefusal op refusal.NoSuchRelation = (r c : ℕ) × (name_cause r c op ≡ Some refusal.NoSuchRelation)
+IsCallRefusal op refusal.NoSuchCounter = (r c : ℕ) × (name_cause r c op ≡ Some refusal.NoSuchCounter)
+IsCallRefusal (Add c d) refusal.Escrow = ⊤
+IsCallRefusal op refusal.NoMemory = ⊤
+IsCallRefusal op refusal.DeviceFailed = ⊤
+IsCallRefusal op refusal.NoRoom = ⊤
+IsCallRefusal op refusal.LogFull = ⊤
+IsCallRefusal op (refusal.Die holder) = ⊤
+IsCallRefusal op refusal.Stranger = ⊤
+IsCallRefusal op refusal.Busy = ⊤
+IsCallRefusal op refusal.TooManyOperations = ⊤
+IsCallRefusal op _ = ⊥

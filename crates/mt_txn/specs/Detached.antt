@@ -2,7 +2,7 @@
 use Rattle.std.specs.Prelude.{ℕ, ◌≡◌, List}
 use Rattle.mt_disk.specs.declared.device.Device.{Ghosts}
 use Rattle.mt_live.specs.Machine.{State}
-use Rattle.mt_log.specs.Quiet.{OnlyReads}
+use Rattle.mt_log.specs.Quiet.{OnlyReadsOrSyncs}
 use Rattle.mt_model.specs.Model.{Base}
 use Rattle.mt_core.specs.Detached.{attached}
 use Rattle.mt_core.specs.Turned as parts
@@ -19,23 +19,24 @@ pub record IsDetached {D : Type 0} {g : Ghosts D} (k : Kernel D g) (rest : Detac
   pub counters : rest.counters ≡ k.counters
   pub failed : rest.failed ≡ k.failed
 
--- it was detached from a device of which this one was read since
-abbrev pub CanAttach : {D : Type 0} → (D → List ℕ) → (D → List ℕ → Type 0) → (D → ℕ) → (D → ℕ → List ℕ → Type 0) → DetachedKernel → D → Type 0
-CanAttach {D} seen may_leave moment left_since rest device =
-    ∥ ((was : D) × OnlyReads seen may_leave moment left_since was device × IsWell seen may_leave rest.relations rest.counters (attached rest.core was)
-    × (first : Base) × RestartsFrom seen may_leave rest.relations rest.counters first (attached rest.core was)) ∥₁
+-- it was detached from a device of which this one was read or synced since
+abbrev pub CanAttach : {D : Type 0} → Ghosts D → DetachedKernel → D → Type 0
+CanAttach {D} g rest device =
+    ∥ ((was : D) × OnlyReadsOrSyncs g was device
+    × IsWell g rest.relations rest.counters (attached rest.core was)
+    × (first : Base) × RestartsFrom g rest.relations rest.counters first (attached rest.core was)) ∥₁
 
--- The kernel over that device, in whatever state it was over one of which that one was read since; and it can be
--- restarted.
-pub record Attaches {D : Type 0} {g : Ghosts D} (seen : D → List ℕ) (may_leave : D → List ℕ → Type 0) (moment : D → ℕ) (left_since : D → ℕ → List ℕ → Type 0) (rest : DetachedKernel) (device : D) (n : Kernel D g) : Type 0 where
+-- The kernel over that device, in whatever state it was over one of which that one was read or synced since; and it
+-- can be restarted.
+pub record Attaches {D : Type 0} {g : Ghosts D} (rest : DetachedKernel) (device : D) (n : Kernel D g) : Type 0 where
   pub core : n.core ≡ attached rest.core device
   pub relations : n.relations ≡ rest.relations
   pub counters : n.counters ≡ rest.counters
   pub failed : n.failed ≡ rest.failed
-  pub state : (was : D) → OnlyReads seen may_leave moment left_since was device → (first : Base) (s : State)
-      → ShowsIn seen may_leave rest.relations rest.counters first s (attached rest.core was) → Shows seen may_leave first s n
-  pub restarts : (was : D) → OnlyReads seen may_leave moment left_since was device → (first : Base)
-      → RestartsFrom seen may_leave rest.relations rest.counters first (attached rest.core was) → Restarts seen may_leave first n
+  pub state : (was : D) → OnlyReadsOrSyncs g was device → (first : Base) (s : State)
+      → ShowsIn g rest.relations rest.counters first s (attached rest.core was) → Shows first s n
+  pub restarts : (was : D) → OnlyReadsOrSyncs g was device → (first : Base)
+      → RestartsFrom g rest.relations rest.counters first (attached rest.core was) → Restarts first n
 
 -- what outlasts the log's area of it
 pub record IsRestBeside {D : Type 0} (rest : DetachedKernel) (device : D) (r : KernelRest) : Type 0 where

@@ -30,54 +30,60 @@ use Rattle.mt_txn.specs.declared.answers.Stepped.TheVariants as step
 use Rattle.mt_txn.specs.declared.kernel.Kernel.{Kernel}
 
 -- What locks, escrow, pages and log say to a call that asks them, in this order, in a core of this schema.
-abbrev pub AnswersIn : {D : Type 0} → (D → List ℕ) → (D → List ℕ → Type 0) → ℕ → ℕ → Core D → ℕ → Op → Result Called Refusal → Type 0
-AnswersIn seen may_leave relations counters k t op result =
-    ∥ ((origin : Origin) × (base : Base) × IsOrigin relations counters origin.first origin × IsConsistent seen may_leave origin base k × IsAnswered seen origin k (log_kept k) t op true result) ∥₁
+abbrev pub AnswersIn : {D : Type 0} → Ghosts D → ℕ → ℕ → Core D → ℕ → Op → Result Called Refusal → Type 0
+AnswersIn g relations counters k t op result =
+    ∥ ((origin : Origin) × (base : Base) × IsOrigin relations counters origin.first origin
+    × IsConsistent g origin base k × IsAnswered g origin k (log_kept k) t op true result) ∥₁
 
-abbrev pub IsAnsweredBy : {D : Type 0} → {g : Ghosts D} → (D → List ℕ) → (D → List ℕ → Type 0) → Kernel D g → ℕ → Op → Result Called Refusal → Type 0
-IsAnsweredBy seen may_leave k t op result = AnswersIn seen may_leave k.relations k.counters k.core t op result
+abbrev pub IsAnsweredBy : {D : Type 0} → {g : Ghosts D} → Kernel D g → ℕ → Op → Result Called Refusal → Type 0
+IsAnsweredBy {g = g} k t op result = AnswersIn g k.relations k.counters k.core t op result
 
 -- what a call that answered this left, of a kernel in this state: only one that is started changes it
-abbrev pub HasCalled : {D : Type 0} → {g : Ghosts D} → (D → List ℕ) → (D → List ℕ → Type 0) → Base → State → ℕ → Op → Result Called Refusal → Kernel D g → Type 0
-HasCalled seen may_leave first s t op (Ok call.Started) n = Shows seen may_leave first (called s t op) n
-HasCalled seen may_leave first s t op (Ok (call.Wait holder)) n = Shows seen may_leave first s n
-HasCalled seen may_leave first s t op (Err why) n = Shows seen may_leave first s n
+abbrev pub HasCalled : {D : Type 0} → {g : Ghosts D} → Base → State → ℕ → Op → Result Called Refusal → Kernel D g
+    → Type 0
+HasCalled first s t op (Ok call.Started) n = Shows first (called s t op) n
+HasCalled first s t op (Ok (call.Wait holder)) n = Shows first s n
+HasCalled first s t op (Err why) n = Shows first s n
 
 -- What a step did to what is in this state, of which a fact holds in each state that it may come to. One that replied
 -- has acted once on the base that the pages held, as the model does, and has ended.
 abbrev pub StepsTo : (State → Type 0) → State → ℕ → Result Stepped Refusal → Type 0
-StepsTo Is s t (Ok (step.Replied reply)) = (op : Op) → s.running t ≡ Some op → Is (ended s t op) × ∥ reply_of s.base op ≡ reply ∥₁
+StepsTo Is s t (Ok (step.Replied reply)) =
+    (op : Op) → s.running t ≡ Some op → Is (ended s t op) × ∥ reply_of s.base op ≡ reply ∥₁
 StepsTo Is s t (Ok step.Went) = Is s
 StepsTo Is s t (Ok (step.Wait other)) = Is s
 StepsTo Is s t (Ok step.Again) = Is s
 StepsTo Is s t (Ok step.Flush) = Is s
 StepsTo Is s t (Err why) = Is s
 
-abbrev pub HasStepped : {D : Type 0} → {g : Ghosts D} → (D → List ℕ) → (D → List ℕ → Type 0) → Base → State → ℕ → Result Stepped Refusal → Kernel D g → Type 0
-HasStepped seen may_leave first s t result n = StepsTo (λ z. Shows seen may_leave first z n) s t result
+abbrev pub HasStepped : {D : Type 0} → {g : Ghosts D} → Base → State → ℕ → Result Stepped Refusal → Kernel D g → Type 0
+HasStepped first s t result n = StepsTo (λ z. Shows first z n) s t result
 
 -- what a step of a force did: the transactions that it names are in the book, one after the other, and live no more
-abbrev pub HasForced : {D : Type 0} → {g : Ghosts D} → (D → List ℕ) → (D → List ℕ → Type 0) → Base → State → Result KernelForced Refusal → Kernel D g → Type 0
-HasForced seen may_leave first s (Ok forced.More) n = Shows seen may_leave first s n
-HasForced seen may_leave first s (Ok forced.Idle) n = Shows seen may_leave first s n
-HasForced seen may_leave first s (Ok (forced.Durable names)) n = Shows seen may_leave first (booked_each s names.items) n
-HasForced seen may_leave first s (Err why) n = Shows seen may_leave first s n
+abbrev pub HasForced : {D : Type 0} → {g : Ghosts D} → Base → State → Result KernelForced Refusal → Kernel D g → Type 0
+HasForced first s (Ok forced.More) n = Shows first s n
+HasForced first s (Ok forced.Idle) n = Shows first s n
+HasForced first s (Ok (forced.Durable names)) n = Shows first (booked_each s names.items) n
+HasForced first s (Err why) n = Shows first s n
 
 -- What a step of a force did to the log and to the commits under way. Those that it names are durable now: their
 -- records lie up to where the log is durable; and no other commit left.
 abbrev pub IsForcedBy : Log → List Commit → KernelForced → Log → List Commit → Type 0
 IsForcedBy old cs forced.More new ds = IsStep old log.More new × (ds ≡ cs)
 IsForcedBy old cs forced.Idle new ds = IsStep old log.Idle new × (ds ≡ cs)
-IsForcedBy old cs (forced.Durable names) new ds = (place : ℕ) × IsStep old (log.Durable place) new × (names.items ≡ durable_txns cs place) × (ds ≡ drop (durable_count cs place) cs)
+IsForcedBy old cs (forced.Durable names) new ds = (place : ℕ) × IsStep old (log.Durable place) new
+    × (names.items ≡ durable_txns cs place) × (ds ≡ drop (durable_count cs place) cs)
 
 -- What a step of an abort that goes on may lead to: the state as it was; what its transaction runs dropped; or the
 -- last effect of its transaction undone by the inverse of that. With either goes the add, if it was one, and no
 -- other.
 pub data IsBack (s : State) (t : ℕ) : State → Type 0 where
   stands : IsBack s t s
-  drops : (op : Op) (ps : List Pending) → s.running t ≡ Some op → GivesBack t op s.pending ps → IsBack s t (dropped s t ps)
+  drops : (op : Op) (ps : List Pending) → s.running t ≡ Some op → GivesBack t op s.pending ps
+      → IsBack s t (dropped s t ps)
   undoes : (last : Entry) (inverse : Op) (ps : List Pending) → s.running t ≡ None → last_effect t s.standing ≡ Some last
-      → inverse_of last.op last.reply ≡ Some inverse → GivesBack t last.op s.pending ps → IsBack s t (undone s t inverse ps)
+      → inverse_of last.op last.reply ≡ Some inverse → GivesBack t last.op s.pending ps
+      → IsBack s t (undone s t inverse ps)
 
 -- What a step of the abort of t did to what is in this state.
 abbrev pub AbortsTo : (State → Type 0) → State → ℕ → Result AbortStepped Refusal → Type 0
@@ -88,5 +94,6 @@ AbortsTo Is s t (Ok abort.Flush) = Is s
 AbortsTo Is s t (Ok abort.Ended) = Is (gone s t) × ∥ last_effect t s.standing ≡ None ∥₁
 AbortsTo Is s t (Err why) = Is s
 
-abbrev pub HasAborted : {D : Type 0} → {g : Ghosts D} → (D → List ℕ) → (D → List ℕ → Type 0) → Base → State → ℕ → Result AbortStepped Refusal → Kernel D g → Type 0
-HasAborted seen may_leave first s t result n = AbortsTo (λ z. Shows seen may_leave first z n) s t result
+abbrev pub HasAborted : {D : Type 0} → {g : Ghosts D} → Base → State → ℕ → Result AbortStepped Refusal → Kernel D g
+    → Type 0
+HasAborted first s t result n = AbortsTo (λ z. Shows first z n) s t result

@@ -13,3 +13,5 @@ pub mod PageLocks
 pub mod Writes
 pub mod Aborted
 pub mod Answered
+pub mod Words
+pub mod Effects

@@ -20,7 +20,8 @@ OfRunning rs t Holds = (place : ℕ) × (place < length rs) × AtPlace rs place 
 
 -- It keeps them as an operation that waits for one of this transaction. That holds a lock in the way.
 abbrev pub WaitsFor : {D : Type 0} → Core D → Core D → OpScope → ℕ → Type 0
-WaitsFor k n r other = (holder : ℕ) × IsOwnerOf n.running.items holder (Some other) × KeepsPageLocks k n r (Ok (GoingOn (going.Wait holder)))
+WaitsFor k n r other = (holder : ℕ) × IsOwnerOf n.running.items holder (Some other)
+    × KeepsPageLocks k n r (Ok (GoingOn (going.Wait holder)))
 
 -- It gives its own back, since an operation that holds a lock in the way is smaller.
 abbrev pub BeginsAnew : {D : Type 0} → Core D → Core D → OpScope → Type 0
@@ -38,7 +39,8 @@ StepsLocks k n r (Err why) = KeepsPageLocks k n r (Err why)
 -- What a step of an abort does to them, if an operation is under way: it gets one that the plan of its inverse wants
 -- next, and no other; or its own go, and no other's; or they stay.
 abbrev pub AbortsLocks : {D : Type 0} → Core D → Core D → OpScope → Result AbortStepped Refusal → Type 0
-AbortsLocks k n r (Ok abort.More) = KeepsPageLocks k n r (Ok (GoingOn going.Went)) ⊎ ((core_page_locks n) ≡ locks_without r.number (core_page_locks k))
+AbortsLocks k n r (Ok abort.More) =
+    KeepsPageLocks k n r (Ok (GoingOn going.Went)) ⊎ ((core_page_locks n) ≡ locks_without r.number (core_page_locks k))
 AbortsLocks k n r (Ok (abort.Wait other)) = WaitsFor k n r other
 AbortsLocks k n r (Ok abort.Again) = BeginsAnew k n r
 AbortsLocks k n r (Ok abort.Flush) = core_page_locks n ≡ core_page_locks k

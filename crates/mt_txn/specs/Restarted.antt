@@ -1,5 +1,6 @@
 -- What a restart finds in what a crash leaves.
 use Rattle.std.specs.Prelude.{ℕ, ◌≡◌, ◌⊎◌, ◌≤◌, ◌++◌, List, length, take}
+use Rattle.mt_disk.specs.declared.device.Device.{Ghosts}
 use Rattle.mt_core.specs.Booked.{txns_of}
 use Rattle.mt_core.specs.Consistent.{session_in}
 use Rattle.mt_core.specs.declared.parts.Core.{Core}
@@ -28,9 +29,11 @@ pub record FindsCommits {D : Type 0} (relations counters : ℕ) (first : Base) (
 
 -- Whenever a crash comes until the device of k is this one, a restart finds in what it leaves what some of the first
 -- commits of k lead to, with all that were in its book then, and all whose records were durable.
-pub record FindsMeanwhile {D : Type 0} (moment : D → ℕ) (left_since : D → ℕ → List ℕ → Type 0) (relations counters : ℕ) (first : Base) (k : Core D) (device : D) : Type 0 where
-  pub later : moment (core_device k) ≤ moment device
-  pub each : (c : List ℕ) → left_since device (moment (core_device k)) c → ∥ FindsCommits relations counters first k c ∥₁
+pub record FindsMeanwhile {D : Type 0} (g : Ghosts D) (relations counters : ℕ)
+    (first : Base) (k : Core D) (device : D) : Type 0 where
+  pub later : g.moment (core_device k) ≤ g.moment device
+  pub each : (c : List ℕ) → g.left_since device (g.moment (core_device k)) c
+      → ∥ FindsCommits relations counters first k c ∥₁
   -- the same, for a run of calls that began before
-  pub before : (t : ℕ) (c : List ℕ) → t ≤ moment (core_device k) → left_since device t c
-      → ∥ left_since (core_device k) t c ⊎ FindsCommits relations counters first k c ∥₁
+  pub before : (t : ℕ) (c : List ℕ) → t ≤ g.moment (core_device k) → g.left_since device t c
+      → ∥ g.left_since (core_device k) t c ⊎ FindsCommits relations counters first k c ∥₁

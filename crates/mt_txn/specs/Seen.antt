@@ -1,5 +1,6 @@
 -- What contracts see of a kernel that is lent, as under a lock: all of it, without the proofs that it carries.
 use Rattle.std.specs.Prelude.{ℕ, ◌||◌, Bool, List}
+use Rattle.mt_core.specs.declared.parts.Commit.{Commit}
 use Rattle.mt_core.specs.declared.parts.Core.{Core}
 use Rattle.mt_disk.specs.declared.device.Device.{Ghosts}
 use Rattle.mt_live.specs.Machine.{State}
@@ -7,7 +8,7 @@ use Rattle.mt_log.specs.Words.{has_failed}
 use Rattle.mt_model.specs.Model.{Base}
 use Rattle.mt_txn.specs.Well.{ShowsIn}
 use Rattle.mt_txn.specs.declared.kernel.Kernel.{Kernel}
-use Rattle.mt_core.specs.Seen.{core_log}
+use Rattle.mt_core.specs.Seen.{core_commits, core_log}
 
 pub record KernelSeen (D : Type 0) : Type 0 where
   pub core : Core D
@@ -22,6 +23,10 @@ seen_of k = record { core = k.core; relations = k.relations; counters = k.counte
 abbrev pub has_failed_in : {D : Type 0} → KernelSeen D → Bool
 has_failed_in k = k.failed || has_failed (core_log k.core)
 
+-- the commits that are appended, and not in the book yet
+abbrev pub commits_in : {D : Type 0} → KernelSeen D → List Commit
+commits_in k = core_commits k.core
+
 -- Begun on this base, it is in this state of the laws.
-abbrev pub ShowsSeen : {D : Type 0} → (D → List ℕ) → (D → List ℕ → Type 0) → Base → State → KernelSeen D → Type 0
-ShowsSeen seen may_leave first s k = ShowsIn seen may_leave k.relations k.counters first s k.core
+abbrev pub ShowsSeen : {D : Type 0} → Ghosts D → Base → State → KernelSeen D → Type 0
+ShowsSeen g first s k = ShowsIn g k.relations k.counters first s k.core

@@ -17,12 +17,12 @@ use Rattle.mt_pool.specs.declared.pool.Pool.{Pool}
 use Rattle.mt_core.specs.Seen.{core_device, core_frames, core_log, core_page_locks, core_pool, core_ruling}
 
 -- Begun on this base, the kernel is in this state of the laws.
-abbrev pub Shows : {D : Type 0} → {g : Ghosts D} → (D → List ℕ) → (D → List ℕ → Type 0) → Base → State → Kernel D g → Type 0
-Shows seen may_leave first s k = ShowsSeen seen may_leave first s (seen_of k)
+abbrev pub Shows : {D : Type 0} → {g : Ghosts D} → Base → State → Kernel D g → Type 0
+Shows {g = g} first s k = ShowsSeen g first s (seen_of k)
 
 -- in whatever state it was
-abbrev pub Stays : {D : Type 0} → {g : Ghosts D} → (D → List ℕ) → (D → List ℕ → Type 0) → Kernel D g → Kernel D g → Type 0
-Stays seen may_leave k n = (first : Base) (s : State) → Shows seen may_leave first s k → Shows seen may_leave first s n
+abbrev pub Stays : {D : Type 0} → {g : Ghosts D} → Kernel D g → Kernel D g → Type 0
+Stays k n = (first : Base) (s : State) → Shows first s k → Shows first s n
 
 -- of as many relations and counters
 abbrev pub SameSchema : {D : Type 0} → {g : Ghosts D} → Kernel D g → Kernel D g → Type 0
@@ -54,30 +54,32 @@ is_failed k = has_failed_in (seen_of k)
 
 -- If a call of kernel k is refused with 2, each later call of n is; and no other call marks n as failed.
 abbrev pub FailsForGood : {D T : Type 0} → {g : Ghosts D} → Kernel D g → Result T Refusal → Kernel D g → Type 0
-FailsForGood k result n = (is_failed k ≡ true → (result ≡ Err DeviceFailed) × (n ≡ k)) × (result ≡ Err DeviceFailed → is_failed n ≡ true) × (n.failed ≡ true → result ≡ Err DeviceFailed)
+FailsForGood k result n = (is_failed k ≡ true → (result ≡ Err DeviceFailed) × (n ≡ k))
+    × (result ≡ Err DeviceFailed → is_failed n ≡ true) × (n.failed ≡ true → result ≡ Err DeviceFailed)
 
 -- The device failed in a call of kernel k only if the call is refused with 2.
-abbrev pub TellsEachFault : {D T : Type 0} → {g : Ghosts D} → (D → ℕ) → Kernel D g → Result T Refusal → Kernel D g → Type 0
-TellsEachFault faults k result n = (result ≡ Err DeviceFailed → ⊥) → faults (kernel_device n) ≡ faults (kernel_device k)
+abbrev pub TellsEachFault : {D T : Type 0} → {g : Ghosts D} → Kernel D g → Result T Refusal → Kernel D g → Type 0
+TellsEachFault {g = g} k result n =
+    (result ≡ Err DeviceFailed → ⊥) → g.faults (kernel_device n) ≡ g.faults (kernel_device k)
 
 -- The device was called once at most.
-abbrev pub CallsOnce : {D : Type 0} → {g : Ghosts D} → (D → ℕ) → Kernel D g → Kernel D g → Type 0
-CallsOnce moment k n = moment (kernel_device n) ≤ moment (kernel_device k) + 1
+abbrev pub CallsOnce : {D : Type 0} → {g : Ghosts D} → Kernel D g → Kernel D g → Type 0
+CallsOnce {g = g} k n = g.moment (kernel_device n) ≤ g.moment (kernel_device k) + 1
 
 -- Begun on this base, the kernel can be restarted from each beginning of its log's records; and so it stays.
-abbrev pub Restarts : {D : Type 0} → {g : Ghosts D} → (D → List ℕ) → (D → List ℕ → Type 0) → Base → Kernel D g → Type 0
-Restarts seen may_leave first k = RestartsFrom seen may_leave k.relations k.counters first k.core
+abbrev pub Restarts : {D : Type 0} → {g : Ghosts D} → Base → Kernel D g → Type 0
+Restarts {g = g} first k = RestartsFrom g k.relations k.counters first k.core
 
-abbrev pub StaysRestarting : {D : Type 0} → {g : Ghosts D} → (D → List ℕ) → (D → List ℕ → Type 0) → Kernel D g → Kernel D g → Type 0
-StaysRestarting seen may_leave k n = (first : Base) → Restarts seen may_leave first k → Restarts seen may_leave first n
+abbrev pub StaysRestarting : {D : Type 0} → {g : Ghosts D} → Kernel D g → Kernel D g → Type 0
+StaysRestarting k n = (first : Base) → Restarts first k → Restarts first n
 
 -- Whatever a crash leaves of this device, a restart finds in it what some of the first commits of k lead to.
-abbrev pub IsFoundIn : {D : Type 0} → {g : Ghosts D} → (D → List ℕ) → (D → List ℕ → Type 0) → Kernel D g → D → Type 0
-IsFoundIn seen may_leave k device = (first : Base) (c : List ℕ) → Restarts seen may_leave first k → may_leave device c
+abbrev pub IsFoundIn : {D : Type 0} → {g : Ghosts D} → Kernel D g → D → Type 0
+IsFoundIn {g = g} k device = (first : Base) (c : List ℕ) → Restarts first k → g.may_leave device c
     → ∥ FindsCommits k.relations k.counters first k.core c ∥₁
 
 -- Whenever a crash comes between k and n, a restart finds in what it leaves what some of the first commits of k lead
 -- to.
-abbrev pub LeavesFound : {D : Type 0} → {g : Ghosts D} → (D → List ℕ) → (D → List ℕ → Type 0) → (D → ℕ) → (D → ℕ → List ℕ → Type 0) → Kernel D g → Kernel D g → Type 0
-LeavesFound seen may_leave moment left_since k n = (first : Base) → Restarts seen may_leave first k → IsRelationCount k.relations
-    → FindsMeanwhile moment left_since k.relations k.counters first k.core (kernel_device n)
+abbrev pub LeavesFound : {D : Type 0} → {g : Ghosts D} → Kernel D g → Kernel D g → Type 0
+LeavesFound {g = g} k n = (first : Base) → Restarts first k → IsRelationCount k.relations
+    → FindsMeanwhile g k.relations k.counters first k.core (kernel_device n)

@@ -19,6 +19,6 @@ pub record TellsBase (relations counters : ℕ) (base : Base) (survey : Survey) 
 
 -- It has the depth of the directory on page 1, and counts the free pages by the map on page 0, as pages and frames
 -- have them.
-pub record TellsPages {D : Type 0} {g : Ghosts D} (seen : D → List ℕ) (k : Kernel D g) (survey : Survey) : Type 0 where
-  pub depth : survey.depth ≡ depth_in (view (kernel_pool k) (seen (kernel_device k)) 1)
-  pub free : survey.free ≡ free_pages (pages (kernel_pool k)) (λ p. view (kernel_pool k) (seen (kernel_device k)) p)
+pub record TellsPages {D : Type 0} {g : Ghosts D} (k : Kernel D g) (survey : Survey) : Type 0 where
+  pub depth : survey.depth ≡ depth_in (view (kernel_pool k) (g.seen (kernel_device k)) 1)
+  pub free : survey.free ≡ free_pages (pages (kernel_pool k)) (λ p. view (kernel_pool k) (g.seen (kernel_device k)) p)

@@ -30,16 +30,19 @@ pub record IsRestOf {D : Type 0} {g : Ghosts D} (k : Kernel D g) (r : KernelRest
 
 -- No transaction is active in parts that can be restarted. This is their rest, and operations and an escrow are
 -- opened on what their book leads to.
-pub record GoesOn {D : Type 0} (seen : D → List ℕ) (may_leave : D → List ℕ → Type 0) (first : Base) (k : Core D) (rest : KernelRest) (operations : Operations D) (escrow : Escrowed) : Type 0 where
+pub record GoesOn {D : Type 0} (g : Ghosts D) (first : Base) (k : Core D)
+    (rest : KernelRest) (operations : Operations D) (escrow : Escrowed) : Type 0 where
   pub is : parts.IsRestOf k rest.rest
   pub nobody : length k.live.members ≡ 0
-  pub restarts : RestartsFrom seen may_leave rest.relations rest.counters first k
-  pub opens : Opens seen may_leave operations escrow rest.relations rest.counters (after first k.book.items)
+  pub restarts : RestartsFrom g rest.relations rest.counters first k
+  pub opens : Opens g operations escrow rest.relations rest.counters (after first k.book.items)
 
-abbrev pub CanGoOn : {D : Type 0} → (D → List ℕ) → (D → List ℕ → Type 0) → KernelRest → Operations D → Escrowed → Type 0
-CanGoOn {D} seen may_leave rest operations escrow = ∥ ((first : Base) × (k : Core D) × GoesOn seen may_leave first k rest operations escrow) ∥₁
+abbrev pub CanGoOn : {D : Type 0} → Ghosts D → KernelRest → Operations D → Escrowed → Type 0
+CanGoOn {D} g rest operations escrow = ∥ ((first : Base) × (k : Core D) × GoesOn g first k rest operations escrow) ∥₁
 
 -- The kernel is in whatever state such parts were in, and can be restarted.
-abbrev pub Resumes : {D : Type 0} {g : Ghosts D} → (D → List ℕ) → (D → List ℕ → Type 0) → KernelRest → Operations D → Escrowed → Kernel D g → Type 0
-Resumes {D} seen may_leave rest operations escrow n = (first : Base) (k : Core D) → GoesOn seen may_leave first k rest operations escrow
-    → ((s : State) → ShowsIn seen may_leave rest.relations rest.counters first s k → Shows seen may_leave first s n) × Restarts seen may_leave first n
+abbrev pub Resumes : {D : Type 0} {g : Ghosts D} → KernelRest → Operations D → Escrowed → Kernel D g → Type 0
+Resumes {D} {g = g} rest operations escrow n = (first : Base) (k : Core D)
+    → GoesOn g first k rest operations escrow
+    → ((s : State) → ShowsIn g rest.relations rest.counters first s k → Shows first s n)
+    × Restarts first n

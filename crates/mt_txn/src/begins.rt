@@ -4,10 +4,9 @@ ghost use Rattle.mt_base.specs.declared.refusal.Refusal.{Refusal};
 ghost use Rattle.mt_live.specs.Machine.{State, begun};
 ghost use Rattle.mt_model.specs.Model.{Base};
 ghost use Rattle.mt_live.specs.declared.transactions.TxnState.TheVariants.{Open};
-ghost use Rattle.mt_core.specs.Consistent.{SameCommits, SameRunning, SetsState};
-ghost use Rattle.mt_txn.specs.Causes.{begin_cause};
-ghost use Rattle.mt_txn.specs.Shown.{FailsForGood, SameSchema, Shows, StaysRestarting, is_failed, kernel_device};
+ghost use Rattle.mt_txn.specs.Shown.{FailsForGood, SameSchema, Shows, StaysRestarting, kernel_device};
 ghost use Rattle.mt_txn.specs.Shown.{LeavesFound};
+ghost use Rattle.mt_txn.specs.Words.{kernel_begin_cause, StateIsSet, CommitsStay, RunningStays};
 
 use crate::kernel::Kernel;
 use mt_base::limits::{MAX_BEGUN, MAX_COMMITS, MAX_LIVE};
@@ -23,20 +22,20 @@ impl<D: Device> Kernel<D> {
     /// and 1 for want of memory. Nothing has changed then.
     pub fn begin(&mut self, session: u32) -> Result<TxnNo, Refusal>
         ensures number { IfOk result (λ txn. txn ≡ self.old.core.live.begun + 1) }
-        ensures may { OnOk result (begin_cause (is_failed self.old) self.old.core ≡ None) }
+        ensures may { OnOk result (kernel_begin_cause self.old ≡ None) }
         ensures cause { IfErr result (λ why. why ≢ Refusal.NoMemory
-            → begin_cause (is_failed self.old) self.old.core ≡ Some why) }
-        ensures begun { (first : Base) (s : State) → Shows D.seen D.may_leave first s self.old
-            → OnOk result (Shows D.seen D.may_leave first (begun s session) self.new) }
-        ensures opened { IfOk result (λ txn. SetsState self.old.core self.new.core txn (Some Open)) }
-        ensures running { SameRunning self.old.core self.new.core }
-        ensures commits { SameCommits self.old.core self.new.core }
+            → kernel_begin_cause self.old ≡ Some why) }
+        ensures begun { (first : Base) (s : State) → Shows first s self.old
+            → OnOk result (Shows first (begun s session) self.new) }
+        ensures opened { IfOk result (λ txn. StateIsSet self.old self.new txn (Some Open)) }
+        ensures running { RunningStays self.old self.new }
+        ensures commits { CommitsStay self.old self.new }
         ensures device { kernel_device self.new ≡ kernel_device self.old }
         ensures err { OnErr result (self.new.core ≡ self.old.core) }
         ensures fails { FailsForGood self.old result self.new }
         ensures schema { SameSchema self.old self.new }
-        ensures restarts { StaysRestarting D.seen D.may_leave self.old self.new }
-        ensures moments { LeavesFound D.seen D.may_leave D.moment D.left_since self.old self.new }
+        ensures restarts { StaysRestarting self.old self.new }
+        ensures moments { LeavesFound self.old self.new }
     {
         if self.has_failed() {
             return Err(Refusal::DeviceFailed);

@@ -3,13 +3,12 @@ ghost use Rattle.std.specs.Prelude.{◌≡◌, ◌+◌, ◌*◌, None, Some, Err
 ghost use Rattle.mt_base.specs.declared.refusal.Refusal.{Refusal};
 ghost use Rattle.mt_live.specs.Machine.{State};
 ghost use Rattle.mt_model.specs.Model.{Base};
-ghost use Rattle.mt_core.specs.Consistent.{SameCommits, SameStates};
 ghost use Rattle.mt_core.specs.Work.{CallRuns};
 ghost use Rattle.mt_pool.specs.Views.{pages};
-ghost use Rattle.mt_txn.specs.Causes.{call_cause};
 ghost use Rattle.mt_txn.specs.Events.{HasCalled, IsAnsweredBy};
-ghost use Rattle.mt_txn.specs.Shown.{FailsForGood, SameSchema, Shows, StaysRestarting, is_failed, kernel_pool};
+ghost use Rattle.mt_txn.specs.Shown.{FailsForGood, SameSchema, Shows, StaysRestarting, kernel_pool};
 ghost use Rattle.mt_txn.specs.Shown.{LeavesFound};
+ghost use Rattle.mt_txn.specs.Words.{kernel_running, kernel_call_cause, StatesStay, CommitsStay, kernel_store};
 
 use crate::kernel::Kernel;
 use mt_base::{Refusal, TxnNo};
@@ -30,25 +29,24 @@ impl<D: Device> Kernel<D> {
     /// want of memory, at the point if it is wanted. In each of these cases nothing of the call is kept.
     pub fn call(&mut self, txn: TxnNo, op: &Op) -> Result<Called, Refusal>
         ensures early { (why : Refusal)
-            → call_cause self.old.relations self.old.counters (is_failed self.old) self.old.core txn op.now ≡ Some why
+            → kernel_call_cause self.old txn op.now ≡ Some why
             → result ≡ Err why }
-        ensures answer { call_cause self.old.relations self.old.counters
-            (is_failed self.old) self.old.core txn op.now ≡ None
-            → IsAnsweredBy D.seen D.may_leave self.old txn op.now result }
-        ensures states { SameStates self.old.core self.new.core }
-        ensures runs { CallRuns txn (2 * pages (kernel_pool self.old) + 9) self.old.core.running.items
-            self.new.core.running.items result }
-        ensures commits { SameCommits self.old.core self.new.core }
-        ensures store { self.new.core.operations.store ≡ self.old.core.operations.store }
-        ensures called { (first : Base) (s : State) → Shows D.seen D.may_leave first s self.old
-            → HasCalled D.seen D.may_leave first s txn op.now result self.new }
+        ensures answer { kernel_call_cause self.old txn op.now ≡ None
+            → IsAnsweredBy self.old txn op.now result }
+        ensures states { StatesStay self.old self.new }
+        ensures runs { CallRuns txn (2 * pages (kernel_pool self.old) + 9) (kernel_running self.old)
+            (kernel_running self.new) result }
+        ensures commits { CommitsStay self.old self.new }
+        ensures store { kernel_store self.new ≡ kernel_store self.old }
+        ensures called { (first : Base) (s : State) → Shows first s self.old
+            → HasCalled first s txn op.now result self.new }
         ensures fails { FailsForGood self.old result self.new }
         ensures unmoved { (why : Refusal)
-            → call_cause self.old.relations self.old.counters (is_failed self.old) self.old.core txn op.now ≡ Some why
+            → kernel_call_cause self.old txn op.now ≡ Some why
             → self.new ≡ self.old }
         ensures schema { SameSchema self.old self.new }
-        ensures restarts { StaysRestarting D.seen D.may_leave self.old self.new }
-        ensures moments { LeavesFound D.seen D.may_leave D.moment D.left_since self.old self.new }
+        ensures restarts { StaysRestarting self.old self.new }
+        ensures moments { LeavesFound self.old self.new }
     {
         if let Some(why) = self.call_cause(txn, op) {
             return Err(why);

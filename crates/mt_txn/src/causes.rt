@@ -1,11 +1,11 @@
 // Why calls are refused before the core is asked for locks, adds, pages and log bytes. Nothing changes here.
 ghost use Rattle.std.specs.Prelude.{◌≡◌, ◌≢◌, ◌<◌, ◌^◌, All, IfNone, None, Some, false, true};
 ghost use Rattle.mt_base.specs.declared.limits.TheConstants.{MAX_BEGUN};
-ghost use Rattle.mt_core.specs.Runs.{state_in};
 ghost use Rattle.mt_op.specs.declared.scope.OpScope.{OpScope};
 ghost use Rattle.mt_live.specs.declared.transactions.TxnState.TheVariants.{Open, Aborting};
-ghost use Rattle.mt_txn.specs.Shown.{is_failed};
 ghost use Rattle.mt_txn.specs.Causes.{IsNamed, IsSized, abort_cause, call_cause, count_cause, name_cause, open_cause, size_cause};
+ghost use Rattle.mt_txn.specs.Words.{kernel_state, kernel_running, kernel_call_cause, kernel_open_cause, kernel_abort_cause};
+ghost use Rattle.mt_core.specs.Seen.{core_last};
 
 use crate::kernel::Kernel;
 use mt_base::limits::{MAX_BEGUN, MAX_OPERATIONS, key_fits, step_fits, value_fits};
@@ -61,8 +61,8 @@ fn name_cause(relations: u16, counters: u16, op: &Op) -> Option<Refusal>
 impl<D: Device> Kernel<D> {
     // Why a call that wants an open transaction is refused, if it is.
     pub(crate) fn open_cause(&self, txn: TxnNo) -> Option<Refusal>
-        ensures cause { result ≡ open_cause (is_failed self.now) self.now.core txn }
-        ensures opened { IfNone result (state_in self.now.core.live.members txn ≡ Some Open) }
+        ensures cause { result ≡ kernel_open_cause self.now txn }
+        ensures opened { IfNone result (kernel_state self.now txn ≡ Some Open) }
     {
         if self.has_failed() {
             return Some(Refusal::DeviceFailed);
@@ -75,8 +75,8 @@ impl<D: Device> Kernel<D> {
 
     // Why a step of an abort is refused, if it is.
     pub(crate) fn abort_cause(&self, txn: TxnNo) -> Option<Refusal>
-        ensures cause { result ≡ abort_cause (is_failed self.now) self.now.core txn }
-        ensures aborting { IfNone result (state_in self.now.core.live.members txn ≡ Some Aborting) }
+        ensures cause { result ≡ kernel_abort_cause self.now txn }
+        ensures aborting { IfNone result (kernel_state self.now txn ≡ Some Aborting) }
     {
         if self.has_failed() {
             return Some(Refusal::DeviceFailed);
@@ -89,9 +89,9 @@ impl<D: Device> Kernel<D> {
 
     // Why an open transaction can call no further operation, if it cannot.
     fn count_cause(&self, txn: TxnNo) -> Option<Refusal>
-        requires opened { state_in self.now.core.live.members txn ≡ Some Open }
+        requires opened { kernel_state self.now txn ≡ Some Open }
         ensures cause { result ≡ count_cause self.now.core txn }
-        ensures few { IfNone result (self.now.core.last < MAX_BEGUN) }
+        ensures few { IfNone result (core_last self.now.core < MAX_BEGUN) }
     {
         if MAX_OPERATIONS <= self.core.live().count_ended(txn) || MAX_BEGUN <= self.core.last() {
             Some(Refusal::TooManyOperations)
@@ -102,11 +102,10 @@ impl<D: Device> Kernel<D> {
 
     // Why a call is refused before its lock is asked for, if it is.
     pub(crate) fn call_cause(&self, txn: TxnNo, op: &Op) -> Option<Refusal>
-        ensures cause { result ≡ call_cause self.now.relations self.now.counters
-            (is_failed self.now) self.now.core txn op.now }
-        ensures opened { IfNone result (state_in self.now.core.live.members txn ≡ Some Open) }
-        ensures idle { IfNone result (All (λ (r : OpScope). r.txn ≢ txn) self.now.core.running.items) }
-        ensures few { IfNone result (self.now.core.last < MAX_BEGUN) }
+        ensures cause { result ≡ kernel_call_cause self.now txn op.now }
+        ensures opened { IfNone result (kernel_state self.now txn ≡ Some Open) }
+        ensures idle { IfNone result (All (λ (r : OpScope). r.txn ≢ txn) (kernel_running self.now)) }
+        ensures few { IfNone result (core_last self.now.core < MAX_BEGUN) }
         ensures named { IfNone result (IsNamed self.now.relations self.now.counters op.now) }
         ensures sized { IfNone result (IsSized op.now) }
     {

@@ -1,20 +1,15 @@
 // Commits, the steps that make them durable, and flushes.
-ghost use Rattle.std.specs.Prelude.{◌≡◌, ◌≢◌, ◌<◌, ◌+◌, ◌++◌, ◌∷◌, [], ℕ, length, get_or, Ok, Err, IfOk, IfErr, IsErr, IsOk, OnOk, OnErr, None, Some, false, true};
+ghost use Rattle.std.specs.Prelude.{◌≡◌, ◌≢◌, ◌+◌, length, Err, IfOk, IfErr, IsOk, OnOk, None, Some, false};
 ghost use Rattle.mt_base.specs.declared.refusal.Refusal.{Refusal};
 ghost use Rattle.mt_live.specs.Machine.{State};
-ghost use Rattle.mt_log.specs.Words.{appended, durable, in_flight, waiting, calls_left};
-ghost use Rattle.mt_frame.specs.declared.records.Record.TheVariants as record_of;
 ghost use Rattle.mt_model.specs.Model.{Base};
-ghost use Rattle.mt_pool.specs.Views.{IsWaiting, Cleans, to_flush};
-ghost use Rattle.mt_pool.specs.declared.flushes.Flushed.TheVariants as flushed;
-ghost use Rattle.mt_live.specs.declared.transactions.TxnState.TheVariants.{Committing};
-ghost use Rattle.mt_core.specs.Consistent.{OnlyOperations, SameCommits, SameRunning, SameStates, SameUncommitted, SetsState};
-ghost use Rattle.mt_core.specs.Work.{LeavesUndo};
-ghost use Rattle.mt_core.specs.declared.parts.Commit.{Commit};
-ghost use Rattle.mt_txn.specs.Causes.{IsFailure, commit_cause};
+ghost use Rattle.mt_core.specs.Consistent.{OnlyOperations};
+ghost use Rattle.mt_core.specs.Answered.{KeepsAtCommit};
+ghost use Rattle.mt_txn.specs.Effects.{FlushesPage, KeepsAtForce, LogsCommit};
 ghost use Rattle.mt_txn.specs.Events.{HasForced, IsForcedBy};
-ghost use Rattle.mt_txn.specs.Shown.{FailsForGood, SameSchema, Shows, Stays, StaysRestarting, TellsEachFault, is_failed, kernel_device, kernel_log, kernel_pool, kernel_ruling};
+ghost use Rattle.mt_txn.specs.Shown.{FailsForGood, SameSchema, Shows, Stays, StaysRestarting, TellsEachFault, is_failed, kernel_log};
 ghost use Rattle.mt_txn.specs.Shown.{CallsOnce, LeavesFound};
+ghost use Rattle.mt_txn.specs.Words.{kernel_book, kernel_commits, kernel_commit_cause, IsKernelFailure, UndoStays};
 
 use crate::answers::KernelForced;
 use crate::kernel::{Kernel, is_failure};
@@ -31,32 +26,20 @@ impl<D: Device> Kernel<D> {
     /// Refused, in this order: 2 if the device has failed, 15 if the transaction is not open, 16 if an
     /// operation of it is unfinished. Then 1 for want of memory. The state is as before.
     pub fn commit_begin(&mut self, txn: TxnNo) -> Result<u64, Refusal>
-        ensures may { OnOk result (commit_cause (is_failed self.old) self.old.core txn ≡ None) }
+        ensures may { OnOk result (kernel_commit_cause self.old txn ≡ None) }
         ensures cause { IfErr result (λ why. why ≢ Refusal.NoMemory
-            → commit_cause (is_failed self.old) self.old.core txn ≡ Some why) }
+            → kernel_commit_cause self.old txn ≡ Some why) }
+        ensures state { Stays self.old self.new }
         ensures place { IfOk result (λ place.
-            place ≡ length self.old.core.book.items + length self.old.core.commits.items + 1) }
-        ensures state { Stays D.seen D.may_leave self.old self.new }
-        ensures queue { OnOk result ((c : Commit) × (c.txn ≡ txn)
-            × (c.place ≡ length (appended (kernel_log self.new)))
-            × (self.new.core.commits.items ≡ self.old.core.commits.items ++ c ∷ [])) }
-        ensures waits { OnOk result (waiting (kernel_log self.new)
-            ≡ waiting (kernel_log self.old) ++ record_of.Commit txn ∷ []) }
-        ensures durable { durable (kernel_log self.new) ≡ durable (kernel_log self.old) }
-        ensures in_flight { in_flight (kernel_log self.new) ≡ in_flight (kernel_log self.old) }
-        ensures calls { calls_left (kernel_log self.new) ≡ calls_left (kernel_log self.old) }
-        ensures err_appended { OnErr result (appended (kernel_log self.new) ≡ appended (kernel_log self.old)) }
-        ensures commits { OnOk result (SetsState self.old.core self.new.core txn (Some Committing)) }
-        ensures running { SameRunning self.old.core self.new.core }
-        ensures device { kernel_device self.new ≡ kernel_device self.old }
-        ensures err { OnErr result (SameStates self.old.core self.new.core
-            × SameCommits self.old.core self.new.core) }
+            place ≡ length (kernel_book self.old) + length (kernel_commits self.old) + 1) }
+        ensures logs { LogsCommit self.old txn result self.new }
+        ensures keeps { KeepsAtCommit self.old.core self.new.core }
         ensures fails { FailsForGood self.old result self.new }
-        ensures unmoved { (why : Refusal) → commit_cause (is_failed self.old) self.old.core txn ≡ Some why
+        ensures unmoved { (why : Refusal) → kernel_commit_cause self.old txn ≡ Some why
             → self.new ≡ self.old }
         ensures schema { SameSchema self.old self.new }
-        ensures restarts { StaysRestarting D.seen D.may_leave self.old self.new }
-        ensures moments { LeavesFound D.seen D.may_leave D.moment D.left_since self.old self.new }
+        ensures restarts { StaysRestarting self.old self.new }
+        ensures moments { LeavesFound self.old self.new }
     {
         if let Some(why) = self.open_cause(txn) {
             return Err(why);
@@ -76,27 +59,20 @@ impl<D: Device> Kernel<D> {
     /// call. So no fault is passed over. The state is as before.
     pub fn force_step(&mut self) -> Result<KernelForced, Refusal>
         ensures cause { IfErr result (λ why. why ≢ Refusal.NoMemory
-            → IsFailure D.faults (is_failed self.old) self.old.core self.new.core why) }
-        ensures pool { kernel_pool self.new ≡ kernel_pool self.old }
-        ensures ruling { kernel_ruling self.new ≡ kernel_ruling self.old }
-        ensures appended { appended (kernel_log self.new) ≡ appended (kernel_log self.old) }
+            → IsKernelFailure self.old self.new why) }
         ensures log { IfOk result (λ forced. IsForcedBy (kernel_log self.old)
-            self.old.core.commits.items forced (kernel_log self.new) self.new.core.commits.items) }
+            (kernel_commits self.old) forced (kernel_log self.new) (kernel_commits self.new)) }
         ensures fails { FailsForGood self.old result self.new }
         ensures well { IsOk result → is_failed self.new ≡ false }
-        ensures running { SameRunning self.old.core self.new.core }
-        ensures states { SameUncommitted self.old.core self.new.core }
-        ensures undo { LeavesUndo self.old.core self.new.core }
-        ensures err { OnErr result (SameStates self.old.core self.new.core
-            × SameCommits self.old.core self.new.core) }
+        ensures keeps { KeepsAtForce self.old result self.new }
         ensures memory { result ≡ Err Refusal.NoMemory → self.new ≡ self.old }
-        ensures quiet { TellsEachFault D.faults self.old result self.new }
-        ensures forced { (first : Base) (s : State) → Shows D.seen D.may_leave first s self.old
-            → HasForced D.seen D.may_leave first s result self.new }
+        ensures quiet { TellsEachFault self.old result self.new }
+        ensures forced { (first : Base) (s : State) → Shows first s self.old
+            → HasForced first s result self.new }
         ensures schema { SameSchema self.old self.new }
-        ensures restarts { StaysRestarting D.seen D.may_leave self.old self.new }
-        ensures moments { LeavesFound D.seen D.may_leave D.moment D.left_since self.old self.new }
-        ensures once { CallsOnce D.moment self.old self.new }
+        ensures restarts { StaysRestarting self.old self.new }
+        ensures moments { LeavesFound self.old self.new }
+        ensures once { CallsOnce self.old self.new }
     {
         if self.has_failed() {
             return Err(Refusal::DeviceFailed);
@@ -121,29 +97,18 @@ impl<D: Device> Kernel<D> {
     /// Refused with 2 if the device has failed or fails in this call, so no fault is passed over. The state is as
     /// before.
     pub fn flush_step(&mut self) -> Result<Flushed, Refusal>
-        ensures cause { IfErr result (IsFailure D.faults (is_failed self.old) self.old.core self.new.core) }
-        ensures written { (p : ℕ) → result ≡ Ok (flushed.Page p)
-            → Cleans (kernel_pool self.old) (kernel_pool self.new)
-            (length (durable (kernel_log self.old))) p }
-        ensures barred { result ≡ Ok flushed.Force
-            → IsWaiting (kernel_pool self.old) (length (durable (kernel_log self.old))) }
-        ensures waits { result ≡ Ok flushed.Force → length (durable (kernel_log self.old))
-            < length (appended (kernel_log self.old)) }
-        ensures fewer { (p : ℕ) → result ≡ Ok (flushed.Page p)
-            → to_flush (kernel_pool self.new) + 1 ≡ to_flush (kernel_pool self.old) }
-        ensures nothing { result ≡ Ok flushed.Clean
-            → (f : ℕ) → get_or (kernel_pool self.new).dirty.items f false ≡ false }
+        ensures cause { IfErr result (IsKernelFailure self.old self.new) }
+        ensures flushes { FlushesPage self.old result self.new }
         ensures rest { OnlyOperations self.old.core self.new.core }
         ensures log { kernel_log self.new ≡ kernel_log self.old }
-        ensures there { (kernel_pool self.new).of_page ≡ (kernel_pool self.old).of_page }
-        ensures undo { LeavesUndo self.old.core self.new.core }
+        ensures undo { UndoStays self.old self.new }
         ensures fails { FailsForGood self.old result self.new }
-        ensures quiet { TellsEachFault D.faults self.old result self.new }
-        ensures state { Stays D.seen D.may_leave self.old self.new }
+        ensures quiet { TellsEachFault self.old result self.new }
+        ensures state { Stays self.old self.new }
         ensures schema { SameSchema self.old self.new }
-        ensures restarts { StaysRestarting D.seen D.may_leave self.old self.new }
-        ensures moments { LeavesFound D.seen D.may_leave D.moment D.left_since self.old self.new }
-        ensures once { CallsOnce D.moment self.old self.new }
+        ensures restarts { StaysRestarting self.old self.new }
+        ensures moments { LeavesFound self.old self.new }
+        ensures once { CallsOnce self.old self.new }
     {
         if self.has_failed() {
             return Err(Refusal::DeviceFailed);

@@ -52,8 +52,8 @@ impl DetachedKernel {
     /// The kernel over its device, which was only read meanwhile: it shows the state that it showed. It takes no
     /// memory.
     pub fn attach<D: Device>(self, device: D) -> Kernel<D>
-        requires { CanAttach D.seen D.may_leave D.moment D.left_since self device }
-        ensures { Attaches D.seen D.may_leave D.moment D.left_since self device result }
+        requires { CanAttach D.Device self device }
+        ensures { Attaches self device result }
     {
         let DetachedKernel {
             core,

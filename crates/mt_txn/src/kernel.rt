@@ -11,8 +11,6 @@ ghost use Rattle.mt_model.specs.declared.operations.Op.{Op};
 ghost use Rattle.mt_base.specs.Limits.{IsRelationCount};
 ghost use Rattle.mt_frame.specs.declared.slots.MasterSlot.{MasterSlot};
 ghost use Rattle.mt_core.specs.Consistent.{IsFresh};
-ghost use Rattle.mt_core.specs.Runs.{state_in};
-ghost use Rattle.mt_txn.specs.Causes.{is_busy};
 ghost use Rattle.mt_txn.specs.Well.{IsWell, Opens, RestartsFrom};
 ghost use Rattle.mt_op.specs.Operations.{operation_log};
 
@@ -45,14 +43,15 @@ pub struct Kernel<D: Device> {
     // whether a call was refused with 2
     pub(crate) failed: bool,
     // whatever the base that the pages hold
-    ghost well: { IsWell D.seen D.may_leave relations counters core },
+    ghost well: { IsWell D.Device relations counters core },
     // it can be restarted, whatever base it began on
-    ghost starts: { ∥ ((first : Base) × RestartsFrom D.seen D.may_leave relations counters first core) ∥₁ },
+    ghost starts: { ∥ ((first : Base) × RestartsFrom D.Device relations counters first core) ∥₁ },
     ghost schema: { IsRelationCount relations },
 }
 
 impl<D: Device> Kernel<D> {
     ghost use Rattle.mt_txn.specs.Shown.{Restarts, Shows, is_failed};
+    ghost use Rattle.mt_txn.specs.Words.{kernel_book, kernel_commits, kernel_state, kernel_is_busy};
 
     /// A kernel without transactions, over operations of a log area without records but the images that it began
     /// with. Their pages hold a base, which is the first of its history. The escrow has that base's counters. It
@@ -67,11 +66,11 @@ impl<D: Device> Kernel<D> {
         requires fresh { IsFresh operations escrow }
         requires schema { IsRelationCount relations }
         requires opens { ∥ ((first : Base)
-            × Opens D.seen D.may_leave operations escrow relations counters first) ∥₁ }
-        ensures shows { (first : Base) → Opens D.seen D.may_leave operations escrow relations counters first
-            → Shows D.seen D.may_leave first (start first) result }
-        ensures restarts { (first : Base) → Opens D.seen D.may_leave operations escrow relations counters first
-            → Restarts D.seen D.may_leave first result }
+            × Opens D.Device operations escrow relations counters first) ∥₁ }
+        ensures shows { (first : Base) → Opens D.Device operations escrow relations counters first
+            → Shows first (start first) result }
+        ensures restarts { (first : Base) → Opens D.Device operations escrow relations counters first
+            → Restarts first result }
         ensures schema { (result.relations ≡ relations) × (result.counters ≡ counters) }
         ensures fails { is_failed result ≡ has_failed (operation_log operations) }
         ensures operations { result.core.operations ≡ operations }
@@ -96,8 +95,8 @@ impl<D: Device> Kernel<D> {
     /// The durable commits of this opening, in their order. They are those of the state that the kernel shows, and
     /// legal from its first base on. Each transaction replied as it does alone after those before it.
     pub fn book(&self) -> &[Committed]
-        ensures book { result.now ≡ self.now.core.book.items }
-        ensures legal { (first : Base) (s : State) → Shows D.seen D.may_leave first s self.now
+        ensures book { result.now ≡ kernel_book self.now }
+        ensures legal { (first : Base) (s : State) → Shows first s self.now
             → ∥ ((s.book ≡ result.now) × IsLegal first result.now) ∥₁ }
     {
         self.core.book()
@@ -107,21 +106,21 @@ impl<D: Device> Kernel<D> {
     /// transactions is explained on what the book leaves, whoever is struck out. It leads to the base that the pages
     /// hold.
     pub fn shows_what_is_kept(&self)
-        ensures { (first : Base) (s : State) → Shows D.seen D.may_leave first s self.now
+        ensures { (first : Base) (s : State) → Shows first s self.now
             → ∥ IsKept first s ∥₁ }
     {}
 
     /// Whatever state a kernel shows has the transactions that are active, and those that run an operation. If none
     /// commits, no commit is under way.
     pub fn shows_who_lives(&self)
-        ensures lives { (first : Base) (s : State) → Shows D.seen D.may_leave first s self.now
-            → (t : ℕ) → is_live s t ≡ is_some (state_in self.now.core.live.members t) }
-        ensures runs { (first : Base) (s : State) → Shows D.seen D.may_leave first s self.now
-            → (t : ℕ) (op : Op) → s.running t ≡ Some op → is_busy self.now.core t ≡ true }
-        ensures idle { (first : Base) (s : State) → Shows D.seen D.may_leave first s self.now
-            → (t : ℕ) → state_in self.now.core.live.members t ≡ Some Open → s.running t ≡ None
-            → is_busy self.now.core t ≡ false }
-        ensures commits { ((t : ℕ) → state_in self.now.core.live.members t ≢ Some Committing)
-            → self.now.core.commits.items ≡ [] }
+        ensures lives { (first : Base) (s : State) → Shows first s self.now
+            → (t : ℕ) → is_live s t ≡ is_some (kernel_state self.now t) }
+        ensures runs { (first : Base) (s : State) → Shows first s self.now
+            → (t : ℕ) (op : Op) → s.running t ≡ Some op → kernel_is_busy self.now t ≡ true }
+        ensures idle { (first : Base) (s : State) → Shows first s self.now
+            → (t : ℕ) → kernel_state self.now t ≡ Some Open → s.running t ≡ None
+            → kernel_is_busy self.now t ≡ false }
+        ensures commits { ((t : ℕ) → kernel_state self.now t ≢ Some Committing)
+            → kernel_commits self.now ≡ [] }
     {}
 }

@@ -1,13 +1,14 @@
 // A kernel that goes on over the other area of its log: it is taken apart, and joined to other operations.
 // mt_restart calls it in a rotation, in which the book and the numbers go on.
-ghost use Rattle.std.specs.Prelude.{◌≡◌, ◌↔◌, ℕ, List, IsTrue};
+ghost use Rattle.std.specs.Prelude.{◌≡◌, ◌<◌, ◌↔◌, ℕ, List, IsTrue, length};
 ghost use Rattle.mt_core.specs.Consistent.{IsFresh};
-ghost use Rattle.mt_log.specs.Words.{area_size, has_failed, used};
+ghost use Rattle.mt_log.specs.Words.{has_failed};
 ghost use Rattle.mt_model.specs.History.{after};
 ghost use Rattle.mt_model.specs.Model.{Base};
 ghost use Rattle.mt_replay.specs.Stands.{CanRestart};
 ghost use Rattle.mt_txn.specs.Shown.{IsFoundIn, Restarts, is_failed, kernel_device, kernel_log};
 ghost use Rattle.mt_txn.specs.Turned.{CanGoOn, HasNobody, IsForced, IsRestOf, Resumes};
+ghost use Rattle.mt_txn.specs.Words.{kernel_book, kernel_commits};
 ghost use Rattle.mt_op.specs.Operations.{operation_log};
 
 use crate::kernel::Kernel;
@@ -25,27 +26,19 @@ impl<D: Device> Kernel<D> {
         self.core.live().count() == 0
     }
 
-    /// How many bytes of the log's area are in use. They are those before the place of the next batch. Each record
-    /// that is in no batch yet takes 5 more and its own length.
-    pub fn used(&self) -> u64
-        ensures { result ≡ used (kernel_log self.now) }
+    /// Whether a commit was appended that is not in the book yet.
+    pub fn is_committing(&self) -> bool
+        ensures { IsTrue result ↔ (0 < length (kernel_commits self.now)) }
     {
-        self.core.log().used()
-    }
-
-    /// How many bytes the log's area has.
-    pub fn area_size(&self) -> u64
-        ensures { result ≡ area_size (kernel_log self.now) }
-    {
-        self.core.log().area_size()
+        self.core.count_commits() > 0
     }
 
     /// If no transaction is active and all that was appended is durable, a restart finds what the whole book leads
     /// to, whatever a crash leaves.
     pub fn rests_on_its_book(&self)
-        ensures { (first : Base) (c : List ℕ) → Restarts D.seen D.may_leave first self.now → HasNobody self.now
+        ensures { (first : Base) (c : List ℕ) → Restarts first self.now → HasNobody self.now
             → IsForced self.now → D.may_leave (kernel_device self.now) c
-            → ∥ CanRestart self.now.relations self.now.counters c (after first self.now.core.book.items) ∥₁ }
+            → ∥ CanRestart self.now.relations self.now.counters c (after first (kernel_book self.now)) ∥₁ }
     {}
 
     /// The kernel goes on over other operations and another escrow, which have what its book leads to: the laws see
@@ -53,8 +46,8 @@ impl<D: Device> Kernel<D> {
     /// takes no memory.
     pub fn join(rest: KernelRest, operations: Operations<D>, escrow: Escrow) -> Kernel<D>
         requires fresh { IsFresh operations escrow }
-        requires goes_on { CanGoOn D.seen D.may_leave rest operations escrow }
-        ensures resumed { Resumes D.seen D.may_leave rest operations escrow result }
+        requires goes_on { CanGoOn D.Device rest operations escrow }
+        ensures resumed { Resumes rest operations escrow result }
         ensures schema { (result.relations ≡ rest.relations) × (result.counters ≡ rest.counters) }
         ensures fails { is_failed result ≡ has_failed (operation_log operations) }
         ensures operations { result.core.operations ≡ operations }
@@ -107,7 +100,7 @@ impl<D: Device + Drop> Kernel<D> {
     /// each whose record is durable.
     pub fn into_device(self) -> D
         ensures device { result ≡ kernel_device self }
-        ensures found { IsFoundIn D.seen D.may_leave self result }
+        ensures found { IsFoundIn self result }
     {
         let (device, _rest) = self.part();
         device

@@ -1,21 +1,15 @@
 // A step of the operation of an open transaction: its tests, and then the core's step.
 // The answer names the transaction that is in the way, if one is.
-ghost use Rattle.std.specs.Prelude.{◌≡◌, ◌≢◌, ◌⊎◌, Ok, IfOk, IfErr, OnOk, None, Some};
+ghost use Rattle.std.specs.Prelude.{◌≡◌, ◌≢◌, ◌⊎◌, IfErr, OnOk, None, Some};
 ghost use Rattle.mt_base.specs.declared.refusal.Refusal.{Refusal};
 ghost use Rattle.mt_live.specs.Machine.{State};
-ghost use Rattle.mt_log.specs.Words.{appended, durable};
 ghost use Rattle.mt_model.specs.Model.{Base};
-ghost use Rattle.mt_pool.specs.Views.{pages};
-ghost use Rattle.mt_core.specs.Steps.{WantsFrame};
-ghost use Rattle.mt_core.specs.Work.{KeepsOthers, steps_in};
-ghost use Rattle.mt_txn.specs.Work.{IsReportedAs, IsForOther, LowersSteps};
-ghost use Rattle.mt_core.specs.Consistent.{SameCommits, SameStates};
-ghost use Rattle.mt_txn.specs.Causes.{IsFault, step_cause};
+ghost use Rattle.mt_txn.specs.Effects.{LeavesStep, MovesStep};
+ghost use Rattle.mt_txn.specs.Work.{IsReportedAs};
 ghost use Rattle.mt_txn.specs.Events.{HasStepped};
-ghost use Rattle.mt_txn.specs.PageLocks.{OfRunning, StepsLocks};
-ghost use Rattle.mt_txn.specs.Writes.{WritesOnePage};
-ghost use Rattle.mt_txn.specs.Shown.{FailsForGood, SameSchema, Shows, StaysRestarting, TellsEachFault, is_failed, kernel_log, kernel_pool};
+ghost use Rattle.mt_txn.specs.Shown.{FailsForGood, SameSchema, Shows, StaysRestarting, TellsEachFault};
 ghost use Rattle.mt_txn.specs.Shown.{CallsOnce, LeavesFound};
+ghost use Rattle.mt_txn.specs.Words.{kernel_running, kernel_step_cause, IsKernelFault};
 
 use crate::answers::Stepped;
 use crate::kernel::{Kernel, is_failure};
@@ -39,32 +33,22 @@ impl<D: Device> Kernel<D> {
     /// no operation under way, and 1 for want of memory. It is refused with 2, too, if the device fails in this
     /// step, so no fault is passed over. The state is as before.
     pub fn step(&mut self, txn: TxnNo) -> Result<Stepped, Refusal>
-        ensures may { OnOk result (step_cause (is_failed self.old) self.old.core txn ≡ None) }
+        ensures may { OnOk result (kernel_step_cause self.old txn ≡ None) }
         ensures cause { IfErr result (λ why. why ≢ Refusal.NoMemory
-            → (step_cause (is_failed self.old) self.old.core txn ≡ Some why)
-            ⊎ IsFault D.faults self.old.core self.new.core why) }
-        ensures work { LowersSteps (pages (kernel_pool self.old)) result
-            (steps_in self.old.core.running.items txn) (steps_in self.new.core.running.items txn) }
-        ensures full { result ≡ Ok Stepped.Flush → WantsFrame self.old.core self.new.core }
-        ensures others { KeepsOthers txn self.old.core.running.items self.new.core.running.items }
-        ensures writes { WritesOnePage (appended (kernel_log self.old)) (appended (kernel_log self.new)) result }
-        ensures commits { SameCommits self.old.core self.new.core }
-        ensures other { IfOk result (λ stepped. IsForOther self.old.core.live.members txn stepped) }
-        ensures locks { step_cause (is_failed self.old) self.old.core txn ≡ None
-            → OfRunning self.old.core.running.items txn
-            (λ r. StepsLocks self.old.core self.new.core r result) }
-        ensures durable { durable (kernel_log self.new) ≡ durable (kernel_log self.old) }
-        ensures states { SameStates self.old.core self.new.core }
+            → (kernel_step_cause self.old txn ≡ Some why)
+            ⊎ IsKernelFault self.old self.new why) }
+        ensures moves { MovesStep self.old txn result self.new }
+        ensures leaves { LeavesStep self.old result self.new }
         ensures fails { FailsForGood self.old result self.new }
-        ensures quiet { TellsEachFault D.faults self.old result self.new }
-        ensures unmoved { (why : Refusal) → step_cause (is_failed self.old) self.old.core txn ≡ Some why
+        ensures quiet { TellsEachFault self.old result self.new }
+        ensures unmoved { (why : Refusal) → kernel_step_cause self.old txn ≡ Some why
             → self.new ≡ self.old }
         ensures schema { SameSchema self.old self.new }
-        ensures restarts { StaysRestarting D.seen D.may_leave self.old self.new }
-        ensures moments { LeavesFound D.seen D.may_leave D.moment D.left_since self.old self.new }
-        ensures once { CallsOnce D.moment self.old self.new }
-        ensures stepped { (first : Base) (s : State) → Shows D.seen D.may_leave first s self.old
-            → HasStepped D.seen D.may_leave first s txn result self.new }
+        ensures restarts { StaysRestarting self.old self.new }
+        ensures moments { LeavesFound self.old self.new }
+        ensures once { CallsOnce self.old self.new }
+        ensures stepped { (first : Base) (s : State) → Shows first s self.old
+            → HasStepped first s txn result self.new }
     {
         if let Some(why) = self.open_cause(txn) {
             return Err(why);
@@ -82,7 +66,7 @@ impl<D: Device> Kernel<D> {
 
     // What a step answers if its operation goes on.
     fn stepped(&self, going: Going) -> Stepped
-        ensures { IsReportedAs self.now.core.running.items going result }
+        ensures { IsReportedAs (kernel_running self.now) going result }
     {
         match going {
             Going::Went => Stepped::Went,

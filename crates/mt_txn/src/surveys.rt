@@ -4,10 +4,10 @@ ghost use Rattle.mt_base.specs.declared.refusal.Refusal.{Refusal};
 ghost use Rattle.mt_core.specs.Consistent.{OnlyOperations};
 ghost use Rattle.mt_live.specs.Machine.{State};
 ghost use Rattle.mt_model.specs.Model.{Base};
-ghost use Rattle.mt_txn.specs.Causes.{IsFault, survey_cause};
-ghost use Rattle.mt_txn.specs.Shown.{FailsForGood, SameSchema, Shows, Stays, StaysRestarting, TellsEachFault, is_failed, kernel_device, kernel_log, kernel_pool};
+ghost use Rattle.mt_txn.specs.Shown.{FailsForGood, SameSchema, Shows, Stays, StaysRestarting, TellsEachFault, kernel_device, kernel_log, kernel_pool};
 ghost use Rattle.mt_txn.specs.Surveyed.{TellsBase, TellsPages};
 ghost use Rattle.mt_txn.specs.Shown.{LeavesFound};
+ghost use Rattle.mt_txn.specs.Words.{kernel_survey_cause, IsKernelFault};
 
 use crate::kernel::{Kernel, is_failure};
 use mt_base::Refusal;
@@ -23,23 +23,23 @@ impl<D: Device> Kernel<D> {
     /// Refused, in this order: 2 if the device has failed, 16 if a transaction lives. Then 1 for want of memory
     /// and 2 if the device fails in this call, so no fault is passed over. The state is as before in any case.
     pub fn survey(&mut self) -> Result<Survey, Refusal>
-        ensures may { OnOk result (survey_cause (is_failed self.old) self.old.core ≡ None) }
+        ensures may { OnOk result (kernel_survey_cause self.old ≡ None) }
         ensures cause { IfErr result (λ why. why ≢ Refusal.NoMemory
-            → (survey_cause (is_failed self.old) self.old.core ≡ Some why)
-            ⊎ IsFault D.faults self.old.core self.new.core why) }
-        ensures base { (first : Base) (s : State) → Shows D.seen D.may_leave first s self.old
+            → (kernel_survey_cause self.old ≡ Some why)
+            ⊎ IsKernelFault self.old self.new why) }
+        ensures base { (first : Base) (s : State) → Shows first s self.old
             → IfOk result (TellsBase self.old.relations self.old.counters s.base) }
-        ensures pages { IfOk result (TellsPages D.seen self.old) }
-        ensures state { Stays D.seen D.may_leave self.old self.new }
+        ensures pages { IfOk result (TellsPages self.old) }
+        ensures state { Stays self.old self.new }
         ensures rest { OnlyOperations self.old.core self.new.core }
         ensures log { kernel_log self.new ≡ kernel_log self.old }
         ensures pool { kernel_pool self.new ≡ kernel_pool self.old }
         ensures content { D.seen (kernel_device self.new) ≡ D.seen (kernel_device self.old) }
         ensures schema { SameSchema self.old self.new }
-        ensures restarts { StaysRestarting D.seen D.may_leave self.old self.new }
-        ensures moments { LeavesFound D.seen D.may_leave D.moment D.left_since self.old self.new }
+        ensures restarts { StaysRestarting self.old self.new }
+        ensures moments { LeavesFound self.old self.new }
         ensures fails { FailsForGood self.old result self.new }
-        ensures quiet { TellsEachFault D.faults self.old result self.new }
+        ensures quiet { TellsEachFault self.old result self.new }
     {
         if self.has_failed() {
             return Err(Refusal::DeviceFailed);

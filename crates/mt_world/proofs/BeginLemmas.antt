@@ -27,10 +27,10 @@ use Rattle.mt_format.specs.Schemas.{counters_in, relations_in, schema_base}
 use Rattle.mt_format.specs.declared.schema.Schema.{Schema}
 use Rattle.mt_txn.proofs.Living.{lives_of}
 use Rattle.mt_txn.specs.Restarted.{FindsCommits, all_commits}
-use Rattle.mt_txn.specs.Shown.{Shows}
+use Rattle.mt_txn.specs.Shown.{Shows, kernel_device}
 use Rattle.mt_txn.specs.declared.kernel.Kernel.{Kernel}
 use Rattle.mt_world.proofs.RunLemmas.{none_under_way}
-use Rattle.mt_world.specs.Crashes.{BeginsOrStands, FindsSince, FoundFromFormat, FoundTo, HasBegun, HasFormatted, StandsFirst, device_under}
+use Rattle.mt_world.specs.Crashes.{BeginsOrStands, FindsSince, FoundFromFormat, FoundTo, HasBegun, HasFormatted, StandsFirst}
 use Rattle.mt_world.specs.declared.events.Answer.{Answer}
 use Rattle.mt_world.specs.declared.events.Event.{Event}
 use Rattle.mt_restart.specs.declared.standing.Standing.{Standing}
@@ -44,30 +44,30 @@ pub if_ok : {T E : Type 0} {P Q : T → Type 0} (r : Result T E) → ((x : T) �
 if_ok (Ok x) f p = f x p
 if_ok (Err e) f p = tt
 
-module _ {D : Type 0} (may_leave : D → List ℕ → Type 0) where
-  stands_of : (s : Schema) (formatted : D) → ((c : List ℕ) → may_leave formatted c → StandsFirst s c) → (c : List ℕ) → StandsStill may_leave (relations_in s) (length (counters_in s)) (schema_base s) formatted c → StandsFirst s c
+module _ {D : Type 0} (g : Ghosts D) where
+  stands_of : (s : Schema) (formatted : D) → ((c : List ℕ) → g.may_leave formatted c → StandsFirst s c) → (c : List ℕ) → StandsStill g (relations_in s) (length (counters_in s)) (schema_base s) formatted c → StandsFirst s c
   stands_of s formatted stands c still = ⊎_elim (λ was. stands c was) (λ can. can) still
 
-  module _ (moment : D → ℕ) (left_since : D → ℕ → List ℕ → Type 0) where
+  module _ where
     -- what a crash leaves while it is opened
     abbrev pub Opening : Schema → D → D → Type 0
-    Opening s formatted next = LeavesOnly moment left_since formatted next (StandsStill may_leave (relations_in s) (length (counters_in s)) (schema_base s) formatted)
+    Opening s formatted next = LeavesOnly g.moment g.left_since formatted next (StandsStill g (relations_in s) (length (counters_in s)) (schema_base s) formatted)
 
     -- where nothing was done
-    pub left_alone : ((d : D) (c : List ℕ) → left_since d (moment d) c → may_leave d c) → (s : Schema) (device : D) → LeavesOnly moment left_since device device (BeginsOrStands s (may_leave device))
-    left_alone only_now s device = started moment left_since device (BeginsOrStands s (may_leave device)) (λ c left. inl (inl (c, only_now device c left, record { size = refl; rest = λ i first second. refl })))
+    pub left_alone : ((d : D) (c : List ℕ) → g.left_since d (g.moment d) c → g.may_leave d c) → (s : Schema) (device : D) → LeavesOnly g.moment g.left_since device device (BeginsOrStands s (g.may_leave device))
+    left_alone only_now s device = started g.moment g.left_since device (BeginsOrStands s (g.may_leave device)) (λ c left. inl (inl (c, only_now device c left, record { size = refl; rest = λ i first second. refl })))
 
-module _ {D : Type 0} {g : Ghosts D} (seen : D → List ℕ) (may_leave : D → List ℕ → Type 0) (moment : D → ℕ) (left_since : D → ℕ → List ℕ → Type 0) where
-  no_commit_yet : (k : Kernel D g) (first : Base) → Shows seen may_leave first (start first) k → ∥ all_commits k.core ≡ [] ∥₁
+module _ {D : Type 0} {g : Ghosts D} where
+  no_commit_yet : (k : Kernel D g) (first : Base) → Shows first (start first) k → ∥ all_commits k.core ≡ [] ∥₁
   no_commit_yet k first shows = ∥∥₁_map shows (λ (origin, base, is, x).
       let ms = k.core.live.members in
-      let none : k.core.commits.items ≡ [] = none_under_way ms k.core.commits.items x.consistent.fit.queued.each (λ t. sym (lives_of seen may_leave k.relations k.counters k.core first (start first) shows t)) in
+      let none : k.core.commits.items ≡ [] = none_under_way ms k.core.commits.items x.consistent.fit.queued.each (λ t. sym (lives_of g k.relations k.counters k.core first (start first) shows t)) in
       let book : k.core.book.items ≡ [] = sym (ap (λ (s : State). s.book) x.state) in
       ap (λ (cs : List Committed). cs ++ in_turn (session_in ms) (txns_of k.core.commits.items) k.core.live.standing) book
       ∙ ap (λ (cs : List CommitUnderWay). in_turn (session_in ms) (txns_of cs) k.core.live.standing) none)
 
   -- what stands for the base that it began on is found with none of its commits
-  finds_first : (k : Kernel D g) (relations counters : ℕ) (first : Base) (c : List ℕ) → IsOpened seen may_leave relations counters first k → CanRestart relations counters c first → ∥ FindsCommits k.relations k.counters first k.core c ∥₁
+  finds_first : (k : Kernel D g) (relations counters : ℕ) (first : Base) (c : List ℕ) → IsOpened relations counters first k → CanRestart relations counters c first → ∥ FindsCommits k.relations k.counters first k.core c ∥₁
   finds_first k relations counters first c opened can = ∥∥₁_map (no_commit_yet k first opened.shows) (λ none. record {
     base = first;
     found = subst (λ (X : Type 0). X) (λ i. CanRestart (sym opened.relations_are i) (sym opened.counters_are i) c first) can;
@@ -78,36 +78,36 @@ module _ {D : Type 0} {g : Ghosts D} (seen : D → List ℕ) (may_leave : D → 
   })
 
   module _ (s : Schema) (device formatted : D) where
-    since_format : (k : Kernel D g) → ((c : List ℕ) → may_leave formatted c → StandsFirst s c) → IsOpened seen may_leave (relations_in s) (length (counters_in s)) (schema_base s) k → Opening may_leave moment left_since s formatted (device_under k) → FindsSince moment left_since formatted (schema_base s) k
+    since_format : (k : Kernel D g) → ((c : List ℕ) → g.may_leave formatted c → StandsFirst s c) → IsOpened (relations_in s) (length (counters_in s)) (schema_base s) k → Opening g s formatted (kernel_device k) → FindsSince formatted (schema_base s) k
     since_format k stands opened run = record {
       later = run.later;
-      each = λ c left. finds_first k (relations_in s) (length (counters_in s)) (schema_base s) c opened (stands_of may_leave s formatted stands c (run.each c left));
+      each = λ c left. finds_first k (relations_in s) (length (counters_in s)) (schema_base s) c opened (stands_of g s formatted stands c (run.each c left));
       before = λ t c le left. ⊎_elim
           (λ was. ∣ inl was ∣₁)
-          (λ still. ∥∥₁_map (finds_first k (relations_in s) (length (counters_in s)) (schema_base s) c opened (stands_of may_leave s formatted stands c still)) (λ f. inr f))
+          (λ still. ∥∥₁_map (finds_first k (relations_in s) (length (counters_in s)) (schema_base s) c opened (stands_of g s formatted stands c still)) (λ f. inr f))
           (run.before t c le left);
     }
 
-    pub begun_of : (r : Result (Kernel D g) (Refusal × D)) → HasFormatted may_leave moment left_since s device formatted → IfOk r (IsOpened seen may_leave (relations_in s) (length (counters_in s)) (schema_base s)) → Opening may_leave moment left_since s formatted (device_of r) → IfOk r (HasBegun may_leave moment left_since s device)
+    pub begun_of : (r : Result (Kernel D g) (Refusal × D)) → HasFormatted g s device formatted → IfOk r (IsOpened (relations_in s) (length (counters_in s)) (schema_base s)) → Opening g s formatted (device_of r) → IfOk r (HasBegun s device)
     begun_of (Ok k) format opened run = record { formatted = formatted; format = format; since = since_format k format.stands opened run }
     begun_of (Err gone) format opened run = tt
 
-    pub left_of : (r : Result (Kernel D g) (Refusal × D)) → HasFormatted may_leave moment left_since s device formatted → Opening may_leave moment left_since s formatted (device_of r) → IfErr r (λ gone. LeavesOnly moment left_since device gone.1 (BeginsOrStands s (may_leave device)))
+    pub left_of : (r : Result (Kernel D g) (Refusal × D)) → HasFormatted g s device formatted → Opening g s formatted (device_of r) → IfErr r (λ gone. LeavesOnly g.moment g.left_since device gone.1 (BeginsOrStands s (g.may_leave device)))
     left_of (Ok k) format run = tt
     left_of (Err gone) format run =
-        runs_both moment left_since device formatted gone.1 (BeginsOrStands s (may_leave device))
-        (leaves_more moment left_since device formatted (FormatBegins s (may_leave device)) (BeginsOrStands s (may_leave device)) format.meanwhile (λ c begins. inl begins))
-        (leaves_more moment left_since formatted gone.1 (StandsStill may_leave (relations_in s) (length (counters_in s)) (schema_base s) formatted) (BeginsOrStands s (may_leave device)) run (λ c still. inr (stands_of may_leave s formatted format.stands c still)))
+        runs_both g.moment g.left_since device formatted gone.1 (BeginsOrStands s (g.may_leave device))
+        (leaves_more g.moment g.left_since device formatted (FormatBegins s (g.may_leave device)) (BeginsOrStands s (g.may_leave device)) format.meanwhile (λ c begins. inl begins))
+        (leaves_more g.moment g.left_since formatted gone.1 (StandsStill g (relations_in s) (length (counters_in s)) (schema_base s) formatted) (BeginsOrStands s (g.may_leave device)) run (λ c still. inr (stands_of g s formatted format.stands c still)))
 
   -- why it is refused
-  pub cause_of : (faults : D → ℕ) (c : List ℕ) (device formatted : D) (r : Result (Kernel D g) (Refusal × D)) (Other : Refusal → Type 0) → faults formatted ≡ faults device
+  pub cause_of : (c : List ℕ) (device formatted : D) (r : Result (Kernel D g) (Refusal × D)) (Other : Refusal → Type 0) → g.faults formatted ≡ g.faults device
       → IfErr r (λ gone. (gone.0 ≡ refusal.NoMemory) ⊎ ((gone.0 ≡ refusal.DeviceFailed) ⊎ (gone.0 ≡ refusal.LogFull))) → IfErr r (λ gone. gone.0 ≡ refusal.LogFull → ⊥)
-      → IfErr r (λ gone. IsCauseToStop c (faults formatted < faults gone.1) gone.0) → IfErr r (λ gone. (gone.0 ≡ refusal.NoMemory) ⊎ (Other gone.0 ⊎ (gone.0 ≡ refusal.DeviceFailed) × (faults device < faults gone.1)))
-  cause_of faults c device formatted (Ok k) Other quiet few full cause = tt
-  cause_of faults c device formatted (Err gone) Other quiet few full cause = ⊎_elim
+      → IfErr r (λ gone. IsCauseToStop c (g.faults formatted < g.faults gone.1) gone.0) → IfErr r (λ gone. (gone.0 ≡ refusal.NoMemory) ⊎ (Other gone.0 ⊎ (gone.0 ≡ refusal.DeviceFailed) × (g.faults device < g.faults gone.1)))
+  cause_of c device formatted (Ok k) Other quiet few full cause = tt
+  cause_of c device formatted (Err gone) Other quiet few full cause = ⊎_elim
       (λ memory. inl memory)
       (⊎_elim
-      (λ fault. inr (inr (fault, subst (λ (n : ℕ). n < faults gone.1) quiet (failed_of c (faults formatted < faults gone.1) gone.0 cause fault))))
+      (λ fault. inr (inr (fault, subst (λ (n : ℕ). n < g.faults gone.1) quiet (failed_of c (g.faults formatted < g.faults gone.1) gone.0 cause fault))))
       (λ is. absurd (full is)))
       few
 
@@ -121,11 +121,11 @@ module _ {D : Type 0} {g : Ghosts D} (seen : D → List ℕ) (may_leave : D → 
 
   -- ---- and then
 
-  pub from_format : (faults : D → ℕ) (s : Schema) (device : D) (k : Kernel D g) (events : List Event) (answers : List Answer) (standing : Standing D g) → HasBegun may_leave moment left_since s device k → (k.relations ≡ relations_in s) × (k.counters ≡ length (counters_in s))
-      → ((since : D) → FindsSince moment left_since since (schema_base s) k → ∥ FoundTo seen may_leave moment left_since faults k.relations k.counters since (schema_base s) events answers standing ∥₁)
-      → ∥ FoundFromFormat seen may_leave moment left_since faults s device events answers standing ∥₁
-  from_format faults s device k events answers standing begun schema found = ∥∥₁_map (found begun.formatted begun.since) (λ u. record {
+  pub from_format : (s : Schema) (device : D) (k : Kernel D g) (events : List Event) (answers : List Answer) (standing : Standing D g) → HasBegun s device k → (k.relations ≡ relations_in s) × (k.counters ≡ length (counters_in s))
+      → ((since : D) → FindsSince since (schema_base s) k → ∥ FoundTo k.relations k.counters since (schema_base s) events answers standing ∥₁)
+      → ∥ FoundFromFormat s device events answers standing ∥₁
+  from_format s device k events answers standing begun schema found = ∥∥₁_map (found begun.formatted begun.since) (λ u. record {
     formatted = begun.formatted;
     format = begun.format;
-    until = subst (λ (X : Type 0). X) (λ i. FoundTo seen may_leave moment left_since faults (schema.0 i) (schema.1 i) begun.formatted (schema_base s) events answers standing) u;
+    until = subst (λ (X : Type 0). X) (λ i. FoundTo (schema.0 i) (schema.1 i) begun.formatted (schema_base s) events answers standing) u;
   })

@@ -81,14 +81,14 @@ back_moves t s _ stands = ([], stays _ _ (abort_went t))
 back_moves t s _ (drops_back op ps runs given) = ([], drops t op ps runs given)
 back_moves t s _ (undoes_back last inverse ps idle effect inverts given) = (_, undoes t last inverse ps idle effect inverts given)
 
-module _ {D : Type 0} {g : Ghosts D} (seen : D → List ℕ) (may_leave : D → List ℕ → Type 0) (moment : D → ℕ) (left_since : D → ℕ → List ℕ → Type 0) (faults : D → ℕ) (k n : Kernel D g) where
+module _ {D : Type 0} {g : Ghosts D} (k n : Kernel D g) where
   abbrev Found : Type 0
-  Found = LeavesFound seen may_leave moment left_since k n
+  Found = LeavesFound k n
 
   abbrev Leads : Base → State → Event → Answer → Type 0
-  Leads first s event answer = ∥ ((acts : List Act) × (z : State) × Moves s event answer acts z × Shows seen may_leave first z n) ∥₁
+  Leads first s event answer = ∥ ((acts : List Act) × (z : State) × Moves s event answer acts z × Shows first z n) ∥₁
 
-  pub still : (event : Event) (answer : Answer) (first : Base) (s : State) → IsStill event answer → Shows seen may_leave first s n → Leads first s event answer
+  pub still : (event : Event) (answer : Answer) (first : Base) (s : State) → IsStill event answer → Shows first s n → Leads first s event answer
   still event answer first s is shows = ∣ ([], s, stays event answer is, shows) ∣₁
 
   -- whether the device has failed, of a call's result
@@ -99,15 +99,15 @@ module _ {D : Type 0} {g : Ghosts D} (seen : D → List ℕ) (may_leave : D → 
   fails_err {T} why fails = ((λ before. let all = fails.0 before in let is : ◌≡◌ {A = Result T Refusal} (Err why) (Err refusal.DeviceFailed) = all.0 in (let same : why ≡ refusal.DeviceFailed = cc in ap (λ (w : Refusal). Refused w) same, all.1)), λ broken. let same : why ≡ refusal.DeviceFailed = cc in fails.1 (ap (λ (w : Refusal). Err w) same))
 
   -- nothing comes of it
-  pub still_made : (event : Event) (answer : Answer) → IsStill event answer → Stays seen may_leave k n → IsDue seen may_leave faults k event answer n → CallsAtEvent moment k event n → SetsPhases k event answer n → SameSchema k n → FailsIn k answer n → StaysRestarting seen may_leave k n → Found
-      → HasMade seen may_leave moment left_since faults k event answer n
+  pub still_made : (event : Event) (answer : Answer) → IsStill event answer → Stays k n → IsDue k event answer n → CallsAtEvent k event n → SetsPhases k event answer n → SameSchema k n → FailsIn k answer n → StaysRestarting k n → Found
+      → HasMade k event answer n
   still_made event answer is same due device phases schema fails restarts found = record { leads = λ first s starts shows. still event answer first s is (same first s shows); due = due; device = device; phases = phases; fails = fails; restarts = restarts; found = found; schema = schema }
 
   -- ---- a begin
 
-  pub begin_made : (session txn : ℕ) → txn ≡ k.core.live.begun + 1 → begin_cause (is_failed k) k.core ≡ None → ((first : Base) (s : State) → Shows seen may_leave first s k → Shows seen may_leave first (begun s session) n)
-      → CallsAtEvent moment k (Begin session) n → SetsPhases k (Begin session) (Begun txn) n → SameSchema k n → FailsIn k (Begun txn) n → StaysRestarting seen may_leave k n → Found
-      → HasMade seen may_leave moment left_since faults k (Begin session) (Begun txn) n
+  pub begin_made : (session txn : ℕ) → txn ≡ k.core.live.begun + 1 → begin_cause (is_failed k) k.core ≡ None → ((first : Base) (s : State) → Shows first s k → Shows first (begun s session) n)
+      → CallsAtEvent k (Begin session) n → SetsPhases k (Begin session) (Begun txn) n → SameSchema k n → FailsIn k (Begun txn) n → StaysRestarting k n → Found
+      → HasMade k (Begin session) (Begun txn) n
   begin_made session txn number may did device phases schema fails restarts found = record {
     leads = λ first s starts shows. ∣ ([], begun s session, subst (λ (t : ℕ). Moves s (Begin session) (Begun t) [] (begun s session)) (next_is first s shows) (begins session), did first s shows) ∣₁;
     due = may;
@@ -119,7 +119,7 @@ module _ {D : Type 0} {g : Ghosts D} (seen : D → List ℕ) (may_leave : D → 
     schema = schema;
   }
     where
-      next_is : (first : Base) (s : State) → Shows seen may_leave first s k → s.next ≡ txn
+      next_is : (first : Base) (s : State) → Shows first s k → s.next ≡ txn
       next_is first s shows = ∥∥₁_elim shows (hlevel props) (λ (origin, base, is, x). ap (λ (z : State). z.next) x.state ∙ sym number)
 
   -- ---- a call
@@ -134,43 +134,43 @@ module _ {D : Type 0} {g : Ghosts D} (seen : D → List ℕ) (may_leave : D → 
       go None e = refl
       go (Some why) e = absurd (let wrong : ◌≡◌ {A = Result Called Refusal} (Ok outcome) (Err why) = early why e in cc)
 
-  pub call_made : (t : ℕ) (op : Op) (outcome : Called) → ((why : Refusal) → Cause t op ≡ Some why → ◌≡◌ {A = Result Called Refusal} (Ok outcome) (Err why)) → (Cause t op ≡ None → IsAnsweredBy seen may_leave k t op (Ok outcome))
-      → ((first : Base) (s : State) → Shows seen may_leave first s k → HasCalled seen may_leave first s t op (Ok outcome) n) → CallsAtEvent moment k (Call t op) n → SamePhases k n → SameSchema k n → FailsIn k (CalledAs outcome) n → StaysRestarting seen may_leave k n → Found
-      → HasMade seen may_leave moment left_since faults k (Call t op) (CalledAs outcome) n
+  pub call_made : (t : ℕ) (op : Op) (outcome : Called) → ((why : Refusal) → Cause t op ≡ Some why → ◌≡◌ {A = Result Called Refusal} (Ok outcome) (Err why)) → (Cause t op ≡ None → IsAnsweredBy k t op (Ok outcome))
+      → ((first : Base) (s : State) → Shows first s k → HasCalled first s t op (Ok outcome) n) → CallsAtEvent k (Call t op) n → SamePhases k n → SameSchema k n → FailsIn k (CalledAs outcome) n → StaysRestarting k n → Found
+      → HasMade k (Call t op) (CalledAs outcome) n
   call_made t op outcome early answer did device phases schema fails restarts found =
       let none = uncaused t op outcome early in
       record { leads = λ first s starts shows. leads outcome first s (did first s shows); due = (none, answer none); device = device; phases = phases; fails = fails; restarts = restarts; found = found; schema = schema }
     where
-      leads : (outcome : Called) (first : Base) (s : State) → HasCalled seen may_leave first s t op (Ok outcome) n → Leads first s (Call t op) (CalledAs outcome)
+      leads : (outcome : Called) (first : Base) (s : State) → HasCalled first s t op (Ok outcome) n → Leads first s (Call t op) (CalledAs outcome)
       leads call.Started first s shows = ∣ ([], called s t op, calls t op, shows) ∣₁
       leads (call.Wait holder) first s shows = still (Call t op) (CalledAs (call.Wait holder)) first s (call_waits t op holder) shows
 
-  pub call_refused : (t : ℕ) (op : Op) (why : Refusal) → ((y : Refusal) → Cause t op ≡ Some y → ◌≡◌ {A = Result Called Refusal} (Err why) (Err y)) → (Cause t op ≡ None → IsAnsweredBy seen may_leave k t op (Err why))
-      → ((first : Base) (s : State) → Shows seen may_leave first s k → HasCalled seen may_leave first s t op (Err why) n) → CallsAtEvent moment k (Call t op) n → SamePhases k n → SameSchema k n → FailsIn k (Refused why) n → StaysRestarting seen may_leave k n → Found
-      → HasMade seen may_leave moment left_since faults k (Call t op) (Refused why) n
+  pub call_refused : (t : ℕ) (op : Op) (why : Refusal) → ((y : Refusal) → Cause t op ≡ Some y → ◌≡◌ {A = Result Called Refusal} (Err why) (Err y)) → (Cause t op ≡ None → IsAnsweredBy k t op (Err why))
+      → ((first : Base) (s : State) → Shows first s k → HasCalled first s t op (Err why) n) → CallsAtEvent k (Call t op) n → SamePhases k n → SameSchema k n → FailsIn k (Refused why) n → StaysRestarting k n → Found
+      → HasMade k (Call t op) (Refused why) n
   call_refused t op why early answer did device phases schema fails restarts found = still_made (Call t op) (Refused why) (is_refused (Call t op) why) did (go (Cause t op) refl) device phases schema fails restarts found
     where
-      go : (c : Option Refusal) → Cause t op ≡ c → IsDue seen may_leave faults k (Call t op) (Refused why) n
+      go : (c : Option Refusal) → Cause t op ≡ c → IsDue k (Call t op) (Refused why) n
       go None e = inr (e, answer e)
       go (Some y) e = inl (inr (e ∙ (let both : ◌≡◌ {A = Result Called Refusal} (Err why) (Err y) = early y e in let same : y ≡ why = cc in ap (λ (x : Refusal). Some x) same)))
 
   -- ---- a step
 
-  pub step_made : (t : ℕ) (outcome : StepOutcome) → IsStepped k t outcome n → CallsOnce moment k n → ((first : Base) (s : State) → Shows seen may_leave first s k → HasStepped seen may_leave first s t (Ok outcome) n) → SamePhases k n → SameSchema k n → FailsIn k (Stepped outcome) n → StaysRestarting seen may_leave k n → Found
-      → HasMade seen may_leave moment left_since faults k (Step t) (Stepped outcome) n
+  pub step_made : (t : ℕ) (outcome : StepOutcome) → IsStepped k t outcome n → CallsOnce k n → ((first : Base) (s : State) → Shows first s k → HasStepped first s t (Ok outcome) n) → SamePhases k n → SameSchema k n → FailsIn k (Stepped outcome) n → StaysRestarting k n → Found
+      → HasMade k (Step t) (Stepped outcome) n
   step_made t outcome due once did phases schema fails restarts found = record { leads = λ first s starts shows. leads outcome first s shows (did first s shows); due = due; device = once; phases = phases; fails = fails; restarts = restarts; found = found; schema = schema }
     where
-      ends_with : (reply : Reply) (first : Base) (s : State) → Shows seen may_leave first s k → (o : Option Op) → s.running t ≡ o → HasStepped seen may_leave first s t (Ok (step.Replied reply)) n → Leads first s (Step t) (Stepped (step.Replied reply))
+      ends_with : (reply : Reply) (first : Base) (s : State) → Shows first s k → (o : Option Op) → s.running t ≡ o → HasStepped first s t (Ok (step.Replied reply)) n → Leads first s (Step t) (Stepped (step.Replied reply))
       ends_with reply first s shows None none did =
           let holds = both_hold (is_failed k) (is_open (state_in k.core.live.members t)) (is_busy k.core t) due.may in
-          let idle = idle_of seen may_leave k.relations k.counters k.core first s shows t (open_state (state_in k.core.live.members t) holds.0) none in
+          let idle = idle_of g k.relations k.counters k.core first s shows t (open_state (state_in k.core.live.members t) holds.0) none in
           absurd (let wrong : true ≡ false = sym holds.1 ∙ idle in cc)
       ends_with reply first s shows (Some op) runs did =
           let ended_so = did op runs in
           ∥∥₁_map ended_so.1 (λ is.
-          subst (λ (r : Reply). (acts : List Act) × (z : State) × Moves s (Step t) (Stepped (step.Replied r)) acts z × Shows seen may_leave first z n) is (_, ended s t op, ends t op runs, ended_so.0))
+          subst (λ (r : Reply). (acts : List Act) × (z : State) × Moves s (Step t) (Stepped (step.Replied r)) acts z × Shows first z n) is (_, ended s t op, ends t op runs, ended_so.0))
 
-      leads : (outcome : StepOutcome) (first : Base) (s : State) → Shows seen may_leave first s k → HasStepped seen may_leave first s t (Ok outcome) n → Leads first s (Step t) (Stepped outcome)
+      leads : (outcome : StepOutcome) (first : Base) (s : State) → Shows first s k → HasStepped first s t (Ok outcome) n → Leads first s (Step t) (Stepped outcome)
       leads (step.Replied reply) first s shows did = ends_with reply first s shows (s.running t) refl did
       leads step.Went first s shows did = still (Step t) (Stepped step.Went) first s (step_went t) did
       leads (step.Wait other) first s shows did = still (Step t) (Stepped (step.Wait other)) first s (step_waits t other) did
@@ -179,11 +179,11 @@ module _ {D : Type 0} {g : Ghosts D} (seen : D → List ℕ) (may_leave : D → 
 
   -- ---- a step of an abort
 
-  pub back_made : (t : ℕ) (outcome : AbortStepped) → IsBacked k t outcome n → CallsOnce moment k n → ((first : Base) (s : State) → Shows seen may_leave first s k → HasAborted seen may_leave first s t (Ok outcome) n) → SetsPhases k (AbortStep t) (Backed outcome) n → SameSchema k n → FailsIn k (Backed outcome) n → StaysRestarting seen may_leave k n → Found
-      → HasMade seen may_leave moment left_since faults k (AbortStep t) (Backed outcome) n
+  pub back_made : (t : ℕ) (outcome : AbortStepped) → IsBacked k t outcome n → CallsOnce k n → ((first : Base) (s : State) → Shows first s k → HasAborted first s t (Ok outcome) n) → SetsPhases k (AbortStep t) (Backed outcome) n → SameSchema k n → FailsIn k (Backed outcome) n → StaysRestarting k n → Found
+      → HasMade k (AbortStep t) (Backed outcome) n
   back_made t outcome due once did phases schema fails restarts found = record { leads = λ first s starts shows. leads outcome first s (did first s shows); due = due; device = once; phases = phases; fails = fails; restarts = restarts; found = found; schema = schema }
     where
-      leads : (outcome : AbortStepped) (first : Base) (s : State) → HasAborted seen may_leave first s t (Ok outcome) n → Leads first s (AbortStep t) (Backed outcome)
+      leads : (outcome : AbortStepped) (first : Base) (s : State) → HasAborted first s t (Ok outcome) n → Leads first s (AbortStep t) (Backed outcome)
       leads abort.More first s did = ∥∥₁_map did (λ (z, back, shows). let moves = back_moves t s z back in (moves.0, z, moves.1, shows))
       leads (abort.Wait other) first s did = still (AbortStep t) (Backed (abort.Wait other)) first s (abort_waits t other) did
       leads abort.Again first s did = still (AbortStep t) (Backed abort.Again) first s (abort_again t) did
@@ -214,11 +214,11 @@ module _ {D : Type 0} {g : Ghosts D} (seen : D → List ℕ) (may_leave : D → 
   flush_reported flush.Force written barred nothing = barred refl
   flush_reported flush.Clean written barred nothing = nothing refl
 
-  pub force_made : (outcome : KernelForced) → CallsOnce moment k n → ((first : Base) (s : State) → Shows seen may_leave first s k → HasForced seen may_leave first s (Ok outcome) n) → IsDue seen may_leave faults k Force (Forced outcome) n → SetsPhases k Force (Forced outcome) n → SameSchema k n → FailsIn k (Forced outcome) n → StaysRestarting seen may_leave k n → Found
-      → HasMade seen may_leave moment left_since faults k Force (Forced outcome) n
+  pub force_made : (outcome : KernelForced) → CallsOnce k n → ((first : Base) (s : State) → Shows first s k → HasForced first s (Ok outcome) n) → IsDue k Force (Forced outcome) n → SetsPhases k Force (Forced outcome) n → SameSchema k n → FailsIn k (Forced outcome) n → StaysRestarting k n → Found
+      → HasMade k Force (Forced outcome) n
   force_made outcome once did due phases schema fails restarts found = record { leads = λ first s starts shows. leads outcome first s (did first s shows); due = due; device = once; phases = phases; fails = fails; restarts = restarts; found = found; schema = schema }
     where
-      leads : (outcome : KernelForced) (first : Base) (s : State) → HasForced seen may_leave first s (Ok outcome) n → Leads first s Force (Forced outcome)
+      leads : (outcome : KernelForced) (first : Base) (s : State) → HasForced first s (Ok outcome) n → Leads first s Force (Forced outcome)
       leads forced.More first s did = still Force (Forced forced.More) first s force_went did
       leads forced.Idle first s did = still Force (Forced forced.Idle) first s force_idle did
       leads (forced.Durable names) first s did = ∣ ([], _, books names, did) ∣₁

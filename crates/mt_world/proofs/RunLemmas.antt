@@ -121,8 +121,8 @@ pub stay_more : (answers : List Answer) (answer : Answer) → StayBroken answers
 stay_more [] answer stay each = (λ broken. tt, tt)
 stay_more (x ∷ answers) answer stay each = (λ broken. each_append IsBroken answers (answer ∷ []) (stay.0 broken) (each.0 broken, tt), stay_more answers answer stay.1 each.1)
 
-module _ {D : Type 0} {g : Ghosts D} (seen : D → List ℕ) (may_leave : D → List ℕ → Type 0) (moment faults : D → ℕ) (first : Base) where
-  makes_acted : (events : List Event) (answers : List Answer) (acts : List Act) (s : State) (n : Kernel D g) → Makes seen may_leave moment faults first events answers acts s n → IsActed first (calls_in acts) × (run first (calls_in acts) ≡ s.base)
+module _ {D : Type 0} {g : Ghosts D} (first : Base) where
+  makes_acted : (events : List Event) (answers : List Answer) (acts : List Act) (s : State) (n : Kernel D g) → Makes first events answers acts s n → IsActed first (calls_in acts) × (run first (calls_in acts) ≡ s.base)
   makes_acted _ _ _ _ n (starts k shows) = (tt, refl)
   makes_acted _ _ _ z n (goes_on events answers acts more s _ k _ event answer before made) =
       let was = makes_acted events answers acts s k before in
@@ -168,7 +168,7 @@ module _ {D : Type 0} {g : Ghosts D} (seen : D → List ℕ) (may_leave : D → 
     refused_reported Flush why same are = same_reported same are
     refused_reported Rotate why same are = same_reported same are
 
-    still_tells : (event : Event) (answer : Answer) → IsStill event answer → IsDue seen may_leave faults k event answer n → SetsPhases k event answer n → AreReported s (Phase k) outcome names → TellsOn s event answer
+    still_tells : (event : Event) (answer : Answer) → IsStill event answer → IsDue k event answer n → SetsPhases k event answer n → AreReported s (Phase k) outcome names → TellsOn s event answer
     still_tells _ _ (is_refused event why) due same are = refused_reported event why same are
     still_tells _ _ (call_waits t op holder) due same are = same_reported same are
     still_tells _ _ (step_went t) due same are = same_reported same are
@@ -190,8 +190,8 @@ module _ {D : Type 0} {g : Ghosts D} (seen : D → List ℕ) (may_leave : D → 
     undone_back : (t : ℕ) → abort_cause (is_failed k) k.core t ≡ None → SamePhases k n → is_forward (Phase n t) ≡ false
     undone_back t may same = ap is_forward (same.0 t) ∙ aborting_back (is_failed k) (Phase k t) may
 
-    moves_reported : (z : State) (event : Event) (answer : Answer) (more : List Act) → Moves s event answer more z → IsDue seen may_leave faults k event answer n → SetsPhases k event answer n
-        → Shows seen may_leave first z n → IsKept first s → All (λ (c : CommitUnderWay). Phase k c.txn ≡ Some IsCommitting) k.core.commits.items → AllPairs (λ (a b : CommitUnderWay). a.txn ≢ b.txn) k.core.commits.items
+    moves_reported : (z : State) (event : Event) (answer : Answer) (more : List Act) → Moves s event answer more z → IsDue k event answer n → SetsPhases k event answer n
+        → Shows first z n → IsKept first s → All (λ (c : CommitUnderWay). Phase k c.txn ≡ Some IsCommitting) k.core.commits.items → AllPairs (λ (a b : CommitUnderWay). a.txn ≢ b.txn) k.core.commits.items
         → AreReported s (Phase k) outcome names → TellsOn z event answer
     moves_reported _ _ _ _ (stays event answer is) due phases shows kept each apart are = still_tells event answer is due phases are
     moves_reported z _ _ _ (begins session) due phases shows kept each apart are = no_names (begun s session) (Phase n) _ (reported_begun first s session (Phase k) (Phase n) outcome names kept phases.0 are)
@@ -206,7 +206,7 @@ module _ {D : Type 0} {g : Ghosts D} (seen : D → List ℕ) (may_leave : D → 
         reported_booked first s ts.items (Phase k) (Phase n) outcome names kept
         (subst AreDistinct (sym due.2) (named_distinct (durable_count k.core.commits.items due.0) k.core.commits.items apart))
         (subst (Each (λ t. Phase k t ≡ Some IsCommitting)) (sym due.2) (named_commit (Phase k) (durable_count k.core.commits.items due.0) k.core.commits.items each))
-        phases (λ u dead. none_back (Phase n u) (sym (lives_of seen may_leave n.relations n.counters n.core first (booked_each s ts.items) shows u) ∙ dead)) are
+        phases (λ u dead. none_back (Phase n u) (sym (lives_of g n.relations n.counters n.core first (booked_each s ts.items) shows u) ∙ dead)) are
 
   -- ---- the commits that have begun
 
@@ -228,7 +228,7 @@ module _ {D : Type 0} {g : Ghosts D} (seen : D → List ℕ) (may_leave : D → 
     refused_queues Flush why same = same_queue same.1
     refused_queues Rotate why same = same_queue same.1
 
-    still_queues : (event : Event) (answer : Answer) → IsStill event answer → IsDue seen may_leave faults k event answer n → SetsPhases k event answer n → Queues event answer
+    still_queues : (event : Event) (answer : Answer) → IsStill event answer → IsDue k event answer n → SetsPhases k event answer n → Queues event answer
     still_queues _ _ (is_refused event why) due same = refused_queues event why same
     still_queues _ _ (call_waits t op holder) due same = same_queue same.1
     still_queues _ _ (step_went t) due same = same_queue same.1
@@ -246,7 +246,7 @@ module _ {D : Type 0} {g : Ghosts D} (seen : D → List ℕ) (may_leave : D → 
     still_queues _ _ (flushed reported_so) due same = same_queue same.1
     still_queues _ _ rotated due same = same_queue same.1
 
-    moves_queue : (z : State) (event : Event) (answer : Answer) (more : List Act) → Moves s event answer more z → IsDue seen may_leave faults k event answer n → SetsPhases k event answer n → Queues event answer
+    moves_queue : (z : State) (event : Event) (answer : Answer) (more : List Act) → Moves s event answer more z → IsDue k event answer n → SetsPhases k event answer n → Queues event answer
     moves_queue _ _ _ _ (stays event answer is) due phases = still_queues event answer is due phases
     moves_queue z _ _ _ (begins session) due phases = same_queue phases.1
     moves_queue z _ _ _ (calls t op) due phases = same_queue phases.1
@@ -257,27 +257,27 @@ module _ {D : Type 0} {g : Ghosts D} (seen : D → List ℕ) (may_leave : D → 
     moves_queue z _ _ _ (books ts) due phases =
         first_leave k.core.commits.items n.core.commits.items ts.items (durable_count k.core.commits.items due.0) due.2 due.3 ∙ sym (append-nil (txns_of k.core.commits.items))
 
-  makes_shows : (events : List Event) (answers : List Answer) (acts : List Act) (s : State) (n : Kernel D g) → Makes seen may_leave moment faults first events answers acts s n → Shows seen may_leave first s n
+  makes_shows : (events : List Event) (answers : List Answer) (acts : List Act) (s : State) (n : Kernel D g) → Makes first events answers acts s n → Shows first s n
   makes_shows _ _ _ _ n (starts k shows) = shows
   makes_shows _ _ _ z n (goes_on events answers acts more s _ k _ event answer before made) = made.shows
 
-  pub makes_same : (events : List Event) (answers : List Answer) (acts : List Act) (s : State) (n : Kernel D g) → Makes seen may_leave moment faults first events answers acts s n → length events ≡ length answers
+  pub makes_same : (events : List Event) (answers : List Answer) (acts : List Act) (s : State) (n : Kernel D g) → Makes first events answers acts s n → length events ≡ length answers
   makes_same _ _ _ _ n (starts k shows) = refl
   makes_same _ _ _ z n (goes_on events answers acts more s _ k _ event answer before made) =
       let same = makes_same events answers acts s k before in
       length-append events (event ∷ []) ∙ ap (λ (l : ℕ). l + 1) same ∙ sym (length-append answers (answer ∷ []))
 
-  makes_reported : (events : List Event) (answers : List Answer) (acts : List Act) (s : State) (n : Kernel D g) → Makes seen may_leave moment faults first events answers acts s n
+  makes_reported : (events : List Event) (answers : List Answer) (acts : List Act) (s : State) (n : Kernel D g) → Makes first events answers acts s n
       → ∥ AreReported s (Phase n) (λ t. reported_of events answers t) (acknowledged answers) ∥₁
   makes_reported _ _ _ _ n (starts k shows) = ∣ record {
-    each = λ t forward. absurd (let back : is_forward (Phase k t) ≡ false = none_back (Phase k t) (sym (lives_of seen may_leave k.relations k.counters k.core first (start first) shows t)) in let wrong : true ≡ false = sym forward ∙ back in cc);
+    each = λ t forward. absurd (let back : is_forward (Phase k t) ≡ false = none_back (Phase k t) (sym (lives_of g k.relations k.counters k.core first (start first) shows t)) in let wrong : true ≡ false = sym forward ∙ back in cc);
     book = refl;
     past = tt;
   } ∣₁
   makes_reported _ _ _ z n (goes_on events answers acts more s _ k _ event answer before made) =
       let shows = makes_shows events answers acts s k before in
       ∥∥₁_elim (makes_reported events answers acts s k before) (hlevel props) (λ are.
-      ∥∥₁_elim (kept_of seen may_leave k.relations k.counters k.core first s shows) (hlevel props) (λ kept.
+      ∥∥₁_elim (kept_of g k.relations k.counters k.core first s shows) (hlevel props) (λ kept.
       ∥∥₁_map shows (λ (origin, base, is, x).
       let queued = x.consistent.fit.queued in
       subst (AreReported z (Phase n) (λ t. reported_of (events ++ event ∷ []) (answers ++ answer ∷ []) t)) (sym (acknowledged_more answers answer))
@@ -285,10 +285,10 @@ module _ {D : Type 0} {g : Ghosts D} (seen : D → List ℕ) (may_leave : D → 
       (moves_reported s k n (λ t. reported_of events answers t) (acknowledged answers) z event answer more made.moves made.due made.phases made.shows kept queued.each queued.apart are)))))
 
   -- the acknowledged ones, and those under way behind them, are all that have begun
-  makes_queue : (events : List Event) (answers : List Answer) (acts : List Act) (s : State) (n : Kernel D g) → Makes seen may_leave moment faults first events answers acts s n
+  makes_queue : (events : List Event) (answers : List Answer) (acts : List Act) (s : State) (n : Kernel D g) → Makes first events answers acts s n
       → ∥ acknowledged answers ++ txns_of n.core.commits.items ≡ committing events answers ∥₁
   makes_queue _ _ _ _ n (starts k shows) = ∥∥₁_map shows (λ (origin, base, is, x).
-      ap (λ (cs : List CommitUnderWay). txns_of cs) (none_under_way k.core.live.members k.core.commits.items x.consistent.fit.queued.each (λ t. sym (lives_of seen may_leave k.relations k.counters k.core first (start first) shows t))))
+      ap (λ (cs : List CommitUnderWay). txns_of cs) (none_under_way k.core.live.members k.core.commits.items x.consistent.fit.queued.each (λ t. sym (lives_of g k.relations k.counters k.core first (start first) shows t))))
   makes_queue _ _ _ z n (goes_on events answers acts more s _ k _ event answer before made) = ∥∥₁_map (makes_queue events answers acts s k before) (λ was.
       let queues = moves_queue s k n z event answer more made.moves made.due made.phases in
       ap (λ (ts : List ℕ). ts ++ txns_of n.core.commits.items) (acknowledged_more answers answer)
@@ -299,7 +299,7 @@ module _ {D : Type 0} {g : Ghosts D} (seen : D → List ℕ) (may_leave : D → 
       ∙ sym (committing_more events answers event answer (makes_same events answers acts s k before)))
 
   -- each with what its session was answered
-  order_of : (events : List Event) (answers : List Answer) (s : State) (n : Kernel D g) → AreReported s (Phase n) (λ t. reported_of events answers t) (acknowledged answers) → Shows seen may_leave first s n
+  order_of : (events : List Event) (answers : List Answer) (s : State) (n : Kernel D g) → AreReported s (Phase n) (λ t. reported_of events answers t) (acknowledged answers) → Shows first s n
       → acknowledged answers ++ txns_of n.core.commits.items ≡ committing events answers → ∥ all_commits n.core ≡ commit_order events answers ∥₁
   order_of events answers s n are shows queue = ∥∥₁_map shows (λ (origin, base, is, x).
       let outcome : ℕ → Reported = λ t. reported_of events answers t in
@@ -333,29 +333,29 @@ module _ {D : Type 0} {g : Ghosts D} (seen : D → List ℕ) (may_leave : D → 
         (each_map (λ x. IsBroken x → is_failed k ≡ true) (λ x. IsBroken x → is_failed n ≡ true) (λ x before broken. let was = before broken in ap (λ (y : Kernel D g). is_failed y) (fails.0 was).1 ∙ was) answers failed) (fails.1, tt),
   )
 
-  pub makes_broken : (events : List Event) (answers : List Answer) (acts : List Act) (s : State) (n : Kernel D g) → Makes seen may_leave moment faults first events answers acts s n → AreBroken answers n
+  pub makes_broken : (events : List Event) (answers : List Answer) (acts : List Act) (s : State) (n : Kernel D g) → Makes first events answers acts s n → AreBroken answers n
   makes_broken _ _ _ _ n (starts k shows) = (tt, tt)
   makes_broken _ _ _ z n (goes_on events answers acts more s _ k _ event answer before made) = broken_more answers k n answer made.fails (makes_broken events answers acts s k before)
 
   -- ---- the events so far
 
   abbrev pub Ran : List Event → List Answer → Kernel D g → Type 0
-  Ran events answers n = ∥ ((acts : List Act) × (s : State) × Makes seen may_leave moment faults first events answers acts s n × Shows seen may_leave first s n) ∥₁
+  Ran events answers n = ∥ ((acts : List Act) × (s : State) × Makes first events answers acts s n × Shows first s n) ∥₁
 
-  pub ran_none : (k : Kernel D g) → Shows seen may_leave first (start first) k → Ran [] [] k
+  pub ran_none : (k : Kernel D g) → Shows first (start first) k → Ran [] [] k
   ran_none k shows = ∣ ([], start first, starts k shows, shows) ∣₁
 
-  pub ran_more : (left_since : D → ℕ → List ℕ → Type 0) (events : List Event) (answers : List Answer) (k n : Kernel D g) (event : Event) (answer : Answer) → HasMade seen may_leave moment left_since faults k event answer n → Restarts seen may_leave first k → Ran events answers k → Ran (events ++ event ∷ []) (answers ++ answer ∷ []) n
-  ran_more left_since events answers k n event answer made restarts ran = ∥∥₁_elim ran (hlevel props) (λ (acts, s, before, shows).
+  pub ran_more : (events : List Event) (answers : List Answer) (k n : Kernel D g) (event : Event) (answer : Answer) → HasMade k event answer n → Restarts first k → Ran events answers k → Ran (events ++ event ∷ []) (answers ++ answer ∷ []) n
+  ran_more events answers k n event answer made restarts ran = ∥∥₁_elim ran (hlevel props) (λ (acts, s, before, shows).
       ∥∥₁_map (made.leads first s restarts shows) (λ (more, z, moves, now).
       (acts ++ more, z, goes_on events answers acts more s z k n event answer before (record { moves = moves; due = made.due; device = made.device; phases = made.phases; fails = made.fails; schema = made.schema; shows = now }), now)))
 
-  pub has_run : (events : List Event) (answers : List Answer) (n : Kernel D g) → Ran events answers n → Restarts seen may_leave first n → ∥ HasRun seen may_leave moment faults first events answers n ∥₁
+  pub has_run : (events : List Event) (answers : List Answer) (n : Kernel D g) → Ran events answers n → Restarts first n → ∥ HasRun first events answers n ∥₁
   has_run events answers n ran restarts = ∥∥₁_elim ran (hlevel props) (λ (acts, s, made, shows).
       ∥∥₁_elim (makes_reported events answers acts s n made) (hlevel props) (λ outcome.
       ∥∥₁_elim (makes_queue events answers acts s n made) (hlevel props) (λ queue.
       ∥∥₁_elim (order_of events answers s n outcome shows queue) (hlevel props) (λ order.
-      ∥∥₁_map (kept_of seen may_leave n.relations n.counters n.core first s shows) (λ kept.
+      ∥∥₁_map (kept_of g n.relations n.counters n.core first s shows) (λ kept.
       let acted = makes_acted events answers acts s n made in record {
         acts = acts;
         state = s;

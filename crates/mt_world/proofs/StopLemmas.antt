@@ -23,7 +23,7 @@ use Rattle.mt_txn.specs.Restarted.{FindsCommits, all_commits}
 use Rattle.mt_txn.specs.declared.kernel.Kernel.{Kernel}
 use Rattle.mt_world.proofs.CrashLemmas.{answered_of}
 use Rattle.mt_world.proofs.RunLemmas.{makes_same}
-use Rattle.mt_world.specs.Crashes.{FoundFromFormat, FoundUntil, device_under}
+use Rattle.mt_world.specs.Crashes.{FoundFromFormat, FoundUntil}
 use Rattle.mt_world.specs.Schedules.{HasEnded, HasRun, HasRunTo, IsOfSchema}
 use Rattle.mt_restart.specs.Standings.{device_at}
 use Rattle.mt_world.specs.Stopped.{BeginsWithin, FindsFirst, IsCrashRun, IsStoppedRun}
@@ -37,6 +37,7 @@ use Rattle.mt_world.specs.declared.events.Event.TheVariants.{Begin, Call, Step, 
 use Rattle.mt_restart.specs.declared.standing.Standing.{Standing}
 use Rattle.mt_restart.specs.declared.standing.Standing.TheVariants.{Stands, Ended}
 use Rattle.mt_world.specs.declared.stopping_device.StoppingDevice.{StoppingDevice}
+use Rattle.mt_txn.specs.Shown.{kernel_device}
 
 -- ---- what a refused event tells
 
@@ -96,12 +97,12 @@ acknowledged_both : (answers outcome : List Answer) → acknowledged (answers ++
 acknowledged_both [] outcome = refl
 acknowledged_both (a ∷ answers) outcome = ap (λ (ts : List ℕ). named a ++ ts) (acknowledged_both answers outcome) ∙ sym (append_assoc (named a) (acknowledged answers) (acknowledged outcome))
 
-module _ {D : Type 0} {g : Ghosts D} (seen : D → List ℕ) (may_leave : D → List ℕ → Type 0) (moment : D → ℕ) (left_since : D → ℕ → List ℕ → Type 0) (faults : D → ℕ) (relations counters : ℕ) (first : Base) (events : List Event) (answers : List Answer) where
+module _ {D : Type 0} {g : Ghosts D} (relations counters : ℕ) (first : Base) (events : List Event) (answers : List Answer) where
   -- ---- where a rotation has ended the kernel
 
-  module _ (device : D) (e : HasEnded g seen may_leave moment left_since faults relations counters first events answers device) where
+  module _ (device : D) (e : HasEnded g relations counters first events answers device) where
     done_same : length e.done ≡ length e.outcome
-    done_same = makes_same seen may_leave moment faults first e.done e.outcome e.ran.acts e.ran.state e.kernel e.ran.made
+    done_same = makes_same first e.done e.outcome e.ran.acts e.ran.state e.kernel e.ran.made
 
     ended_same : length events ≡ length answers
     ended_same =
@@ -132,15 +133,15 @@ module _ {D : Type 0} {g : Ghosts D} (seen : D → List ℕ) (may_leave : D → 
         ap acknowledged e.answers_are ∙ acknowledged_both e.outcome (Refused refusal.DeviceFailed ∷ all_refused e.later)
         ∙ ap (λ (ts : List ℕ). acknowledged e.outcome ++ ts) (acknowledged_behind e.later) ∙ append-nil (acknowledged e.outcome)
 
-  pub same_length : (standing : Standing D g) → ∥ HasRunTo seen may_leave moment left_since faults relations counters first events answers standing ∥₁ → length answers ≡ length events
-  same_length (Stands n) ran = ∥∥₁_elim ran (hlevel props) (λ r. sym (makes_same seen may_leave moment faults first events answers r.acts r.state n r.made))
+  pub same_length : (standing : Standing D g) → ∥ HasRunTo relations counters first events answers standing ∥₁ → length answers ≡ length events
+  same_length (Stands n) ran = ∥∥₁_elim ran (hlevel props) (λ r. sym (makes_same first events answers r.acts r.state n r.made))
   same_length (Ended device) ran = ∥∥₁_elim ran (hlevel props) (λ e. sym (ended_same device e))
 
-module _ {D : Type 0} {g : Ghosts D} (seen : D → List ℕ) (may_leave : D → List ℕ → Type 0) (moment : D → ℕ) (left_since : D → ℕ → List ℕ → Type 0) (counts_now : (d : D) (t : ℕ) (c : List ℕ) → t ≤ moment d → may_leave d c → left_since d t c)
-    (only_now : (d : D) (c : List ℕ) → left_since d (moment d) c → may_leave d c) (faults : D → ℕ) (s : Schema) (since : D) where
+module _ {D : Type 0} {g : Ghosts D} (counts_now : (d : D) (t : ℕ) (c : List ℕ) → t ≤ g.moment d → g.may_leave d c → g.left_since d t c)
+    (only_now : (d : D) (c : List ℕ) → g.left_since d (g.moment d) c → g.may_leave d c) (s : Schema) (since : D) where
   -- ---- what a restart finds of a kernel
 
-  module _ (events : List Event) (answers : List Answer) (k : Kernel D g) (run : HasRun seen may_leave moment faults (schema_base s) events answers k) (relations_are : k.relations ≡ relations_in s) (counters_are : k.counters ≡ length (counters_in s)) where
+  module _ (events : List Event) (answers : List Answer) (k : Kernel D g) (run : HasRun (schema_base s) events answers k) (relations_are : k.relations ≡ relations_in s) (counters_are : k.counters ≡ length (counters_in s)) where
     abbrev Finds : List ℕ → Type 0
     Finds c = FindsFirst s (length (acknowledged answers)) (commit_order events answers) c
 
@@ -157,7 +158,7 @@ module _ {D : Type 0} {g : Ghosts D} (seen : D → List ℕ) (may_leave : D → 
     first_some : (c : List ℕ) → FindsCommits k.relations k.counters (schema_base s) k.core c → Finds c
     first_some c f =
         let order = commit_order events answers in
-        let book = answered_of seen may_leave moment left_since only_now faults since (schema_base s) events answers k ∣ run ∣₁ in
+        let book = answered_of only_now since (schema_base s) events answers k ∣ run ∣₁ in
         let least = f.acknowledged in
         ⊎_elim
         (λ (less : f.count < length order). record {
@@ -174,46 +175,46 @@ module _ {D : Type 0} {g : Ghosts D} (seen : D → List ℕ) (may_leave : D → 
         })
         (cases_lt f.count (length order))
 
-    pub finds_of : (device : D) → FoundUntil seen may_leave moment left_since faults since (schema_base s) events answers k device → (c : List ℕ) → may_leave device c → ∥ Finds c ∥₁
+    pub finds_of : (device : D) → FoundUntil since (schema_base s) events answers k device → (c : List ℕ) → g.may_leave device c → ∥ Finds c ∥₁
     finds_of device u c left =
         let n = length events in
-        let then = counts_now device (moment (device_under (u.behind n))) c (u.later n (omega arith)) left in
+        let then = counts_now device (g.moment (kernel_device (u.behind n))) c (u.later n (omega arith)) left in
         ∥∥₁_map (u.each n c (omega arith) then) (λ f.
         let at : f.made ≡ n = let past = f.past in let within = f.within in omega (arith, past, within) in
         let same : u.behind f.made ≡ k = ap u.behind at ∙ u.last in
         first_some c (subst (λ (m : Kernel D g). FindsCommits m.relations m.counters (schema_base s) m.core c) same f.finds))
 
-module _ {D : Type 0} {g : Ghosts D} (seen : D → List ℕ) (may_leave : D → List ℕ → Type 0) (moment : D → ℕ) (left_since : D → ℕ → List ℕ → Type 0) (counts_now : (d : D) (t : ℕ) (c : List ℕ) → t ≤ moment d → may_leave d c → left_since d t c)
-    (only_now : (d : D) (c : List ℕ) → left_since d (moment d) c → may_leave d c) (faults : D → ℕ) (s : Schema) (device : D) where
+module _ {D : Type 0} {g : Ghosts D} (counts_now : (d : D) (t : ℕ) (c : List ℕ) → t ≤ g.moment d → g.may_leave d c → g.left_since d t c)
+    (only_now : (d : D) (c : List ℕ) → g.left_since d (g.moment d) c → g.may_leave d c) (s : Schema) (device : D) where
   -- ---- whatever stands
 
-  pub found_first : (events : List Event) (answers : List Answer) (standing : Standing D g) → ∥ HasRunTo seen may_leave moment left_since faults (relations_in s) (length (counters_in s)) (schema_base s) events answers standing ∥₁
-      → IsOfSchema (relations_in s) (length (counters_in s)) standing → ∥ FoundFromFormat seen may_leave moment left_since faults s device events answers standing ∥₁ → (c : List ℕ) → may_leave (device_at standing) c
+  pub found_first : (events : List Event) (answers : List Answer) (standing : Standing D g) → ∥ HasRunTo (relations_in s) (length (counters_in s)) (schema_base s) events answers standing ∥₁
+      → IsOfSchema (relations_in s) (length (counters_in s)) standing → ∥ FoundFromFormat s device events answers standing ∥₁ → (c : List ℕ) → g.may_leave (device_at standing) c
       → ∥ FindsFirst s (length (acknowledged answers)) (commit_order events answers) c ∥₁
   found_first events answers (Stands n) ran schema found c left = ∥∥₁_elim ran ∥∥₁_prop (λ run. ∥∥₁_elim found ∥∥₁_prop (λ f.
-      finds_of seen may_leave moment left_since counts_now only_now faults s f.formatted events answers n run schema.0 schema.1 (device_under n) f.until c left))
+      finds_of counts_now only_now s f.formatted events answers n run schema.0 schema.1 (kernel_device n) f.until c left))
   found_first events answers (Ended gone) ran schema found c left = ∥∥₁_elim found ∥∥₁_prop (λ f.
       let e = f.until.ended in
-      let acknowledged_are = ended_acknowledged seen may_leave moment left_since faults (relations_in s) (length (counters_in s)) (schema_base s) events answers gone e in
-      let order_is = ended_order seen may_leave moment left_since faults (relations_in s) (length (counters_in s)) (schema_base s) events answers gone e in
-      ∥∥₁_map (finds_of seen may_leave moment left_since counts_now only_now faults s f.formatted e.done e.outcome e.kernel e.ran e.schema.0 e.schema.1 gone f.until.until c left)
+      let acknowledged_are = ended_acknowledged (relations_in s) (length (counters_in s)) (schema_base s) events answers gone e in
+      let order_is = ended_order (relations_in s) (length (counters_in s)) (schema_base s) events answers gone e in
+      ∥∥₁_map (finds_of counts_now only_now s f.formatted e.done e.outcome e.kernel e.ran e.schema.0 e.schema.1 gone f.until.until c left)
       (λ x. subst (λ (X : Type 0). X) (λ i. FindsFirst s (length (sym acknowledged_are i)) (sym order_is i) c) x))
 
 -- ---- of a device in memory that was stopped
 
 pub stopped_same : {g : Ghosts (StoppingDevice MemDevice)} (s : Schema) (events : List Event) (answers : List Answer) (standing : Standing (StoppingDevice MemDevice) g)
-    → ∥ HasRunTo g.seen g.may_leave g.moment g.left_since g.faults (relations_in s) (length (counters_in s)) (schema_base s) events answers standing ∥₁ → length answers ≡ length events
-stopped_same {g = g} s events answers standing ran = same_length g.seen g.may_leave g.moment g.left_since g.faults (relations_in s) (length (counters_in s)) (schema_base s) events answers standing ran
+    → ∥ HasRunTo (relations_in s) (length (counters_in s)) (schema_base s) events answers standing ∥₁ → length answers ≡ length events
+stopped_same {g = g} s events answers standing ran = same_length (relations_in s) (length (counters_in s)) (schema_base s) events answers standing ran
 
 pub crash_of : {g : Ghosts (StoppingDevice MemDevice)} → ((d : StoppingDevice MemDevice) (t : ℕ) (c : List ℕ) → t ≤ g.moment d → g.may_leave d c → g.left_since d t c) → ((d : StoppingDevice MemDevice) (c : List ℕ) → g.left_since d (g.moment d) c → g.may_leave d c)
     → (s : Schema) (device : StoppingDevice MemDevice) (events : List Event) (answers : List Answer) (standing : Standing (StoppingDevice MemDevice) g) (limit : ℕ) (fill : Fill) (run : CrashRun)
-    → ∥ HasRunTo g.seen g.may_leave g.moment g.left_since g.faults (relations_in s) (length (counters_in s)) (schema_base s) events answers standing ∥₁
-    → IsOfSchema (relations_in s) (length (counters_in s)) standing → ∥ FoundFromFormat g.seen g.may_leave g.moment g.left_since g.faults s device events answers standing ∥₁
+    → ∥ HasRunTo (relations_in s) (length (counters_in s)) (schema_base s) events answers standing ∥₁
+    → IsOfSchema (relations_in s) (length (counters_in s)) standing → ∥ FoundFromFormat s device events answers standing ∥₁
     → StopsAt limit (device_at standing) → g.may_leave (device_at standing) run.content.items → MayLeave (below (device_at standing)) run.content.items → LeftBy (below (device_at standing)) fill run.content.items
     → run.order.items ≡ commit_order events answers → run.acked ≡ length (acknowledged answers) → ∥ IsStoppedRun g s events limit fill run ∥₁
 crash_of {g = g} counts_now only_now s device events answers standing limit fill run ran schema found stops now may left order acked =
     ∥∥₁_elim ran ∥∥₁_prop (λ r.
-    ∥∥₁_map (found_first g.seen g.may_leave g.moment g.left_since counts_now only_now g.faults s device events answers standing ran schema found run.content.items now) (λ f. record {
+    ∥∥₁_map (found_first counts_now only_now s device events answers standing ran schema found run.content.items now) (λ f. record {
       answers = answers;
       standing = standing;
       ran = r;

@@ -3,20 +3,15 @@ use Rattle.std.specs.Prelude.{ℕ, ◌≡◌, ◌⊎◌, ◌+◌, List, [], ◌�
 use Rattle.mt_base.specs.declared.refusal.Refusal.{Refusal}
 use Rattle.mt_base.specs.declared.refusal.Refusal.TheVariants as refusal
 use Rattle.mt_disk.specs.declared.device.Device.{Ghosts}
-use Rattle.mt_core.specs.Consistent.{SameCommits, SameStates, SameStatesBut, SameUncommitted, SetsState}
-use Rattle.mt_core.specs.Runs.{state_in}
-use Rattle.mt_core.specs.Steps.{WantsFrame}
-use Rattle.mt_core.specs.Work.{steps_in, undo_steps}
 use Rattle.mt_core.specs.declared.parts.Commit.{Commit as CommitUnderWay}
 use Rattle.mt_live.specs.Sound.{Each}
 use Rattle.mt_live.specs.declared.transactions.TxnState.TheVariants as state
 use Rattle.mt_log.specs.Words.{appended, durable}
 use Rattle.mt_op.specs.Begun.{AreImages}
-use Rattle.mt_pool.specs.Views.{Cleans, IsWaiting, pages}
+use Rattle.mt_pool.specs.Views.{Cleans, IsWaiting, pages, AreClean}
 use Rattle.mt_pool.specs.declared.flushes.Flushed.{Flushed as FlushOutcome}
 use Rattle.mt_pool.specs.declared.flushes.Flushed.TheVariants as flush
 use Rattle.mt_restart.specs.Rotated.{IsKeptCause, early_cause}
-use Rattle.mt_txn.specs.Causes.{IsFailure, IsFault, abort_cause, begin_cause, call_cause, commit_cause, open_cause, step_cause}
 use Rattle.mt_txn.specs.Events.{IsAnsweredBy, IsForcedBy}
 use Rattle.mt_txn.specs.Shown.{CallsOnce, is_failed, kernel_device, kernel_log, kernel_pool}
 use Rattle.mt_txn.specs.Work.{IsAbortForOther, IsForOther, LowersAbort, LowersSteps}
@@ -25,6 +20,7 @@ use Rattle.mt_txn.specs.declared.answers.AbortStepped.TheVariants as abort
 use Rattle.mt_txn.specs.declared.answers.Stepped.{Stepped as StepOutcome}
 use Rattle.mt_txn.specs.declared.answers.Stepped.TheVariants as step
 use Rattle.mt_txn.specs.declared.kernel.Kernel.{Kernel}
+use Rattle.mt_txn.specs.Words.{kernel_book, kernel_commits, kernel_members, kernel_state, kernel_steps, kernel_undo_steps, kernel_begin_cause, kernel_call_cause, kernel_step_cause, kernel_commit_cause, kernel_open_cause, kernel_abort_cause, IsKernelFault, IsKernelFailure, StatesStay, StatesStayBut, UncommittedStay, StateIsSet, CommitsStay, FrameIsWanted}
 use Rattle.mt_world.specs.declared.events.Answer.{Answer}
 use Rattle.mt_world.specs.declared.events.Answer.TheVariants.{Begun, Called, Stepped, Committing, Aborting, Backed, Forced, Flushed, Rotated, Refused}
 use Rattle.mt_world.specs.declared.events.Event.{Event}
@@ -39,69 +35,71 @@ IsCaused cause why = (why ≡ refusal.NoMemory) ⊎ (cause ≡ Some why)
 module _ {D : Type 0} {g : Ghosts D} where
   -- a step of an operation has fewer left after it if it went on; it waits for another's, or lacks a frame
   pub record IsStepped (k : Kernel D g) (t : ℕ) (outcome : StepOutcome) (n : Kernel D g) : Type 0 where
-    pub may : step_cause (is_failed k) k.core t ≡ None
-    pub work : LowersSteps (pages (kernel_pool k)) (Ok outcome) (steps_in k.core.running.items t) (steps_in n.core.running.items t)
-    pub other : IsForOther k.core.live.members t outcome
-    pub full : outcome ≡ step.Flush → WantsFrame k.core n.core
+    pub may : kernel_step_cause k t ≡ None
+    pub work : LowersSteps (pages (kernel_pool k)) (Ok outcome) (kernel_steps k t) (kernel_steps n t)
+    pub other : IsForOther (kernel_members k) t outcome
+    pub full : outcome ≡ step.Flush → FrameIsWanted k n
 
   -- and so a step of an abort
   pub record IsBacked (k : Kernel D g) (t : ℕ) (outcome : AbortStepped) (n : Kernel D g) : Type 0 where
-    pub may : abort_cause (is_failed k) k.core t ≡ None
-    pub work : LowersAbort (pages (kernel_pool k)) (Ok outcome) (undo_steps k.core t) (undo_steps n.core t)
-    pub other : IsAbortForOther k.core.live.members t outcome
-    pub full : outcome ≡ abort.Flush → WantsFrame k.core n.core
+    pub may : kernel_abort_cause k t ≡ None
+    pub work : LowersAbort (pages (kernel_pool k)) (Ok outcome) (kernel_undo_steps k t) (kernel_undo_steps n t)
+    pub other : IsAbortForOther (kernel_members k) t outcome
+    pub full : outcome ≡ abort.Flush → FrameIsWanted k n
 
   -- a page was written, each page waits for the log, or there is none to be written
   abbrev pub IsFlushed : Kernel D g → FlushOutcome → Kernel D g → Type 0
   IsFlushed k (flush.Page p) n = Cleans (kernel_pool k) (kernel_pool n) (length (durable (kernel_log k))) p
   IsFlushed k flush.Force n = IsWaiting (kernel_pool k) (length (durable (kernel_log k)))
-  IsFlushed k flush.Clean n = (f : ℕ) → get_or (kernel_pool n).dirty.items f false ≡ false
+  IsFlushed k flush.Clean n = AreClean (kernel_pool n)
 
   -- nothing was in the way, and the log has no record but the images that its area began with
   pub record IsTurnedOver (k n : Kernel D g) : Type 0 where
     pub may : early_cause k ≡ None
     pub fresh : AreImages (appended (kernel_log n))
 
-module _ {D : Type 0} {g : Ghosts D} (seen : D → List ℕ) (may_leave : D → List ℕ → Type 0) (faults : D → ℕ) where
+module _ {D : Type 0} {g : Ghosts D} where
   -- The answer is due to the kernel: a refusal has its cause, or memory was wanting, or the device failed in the
   -- call; what is not refused had no cause to be, and answers what was done.
   abbrev pub IsDue : Kernel D g → Event → Answer → Kernel D g → Type 0
-  IsDue k (Begin session) (Refused why) n = IsCaused (begin_cause (is_failed k) k.core) why
-  IsDue k (Begin session) answer n = begin_cause (is_failed k) k.core ≡ None
+  IsDue k (Begin session) (Refused why) n = IsCaused (kernel_begin_cause k) why
+  IsDue k (Begin session) answer n = kernel_begin_cause k ≡ None
   IsDue k (Call t op) (Refused why) n =
-      IsCaused (call_cause k.relations k.counters (is_failed k) k.core t op) why ⊎ ((call_cause k.relations k.counters (is_failed k) k.core t op ≡ None) × IsAnsweredBy seen may_leave k t op (Err why))
-  IsDue k (Call t op) (Called called) n = (call_cause k.relations k.counters (is_failed k) k.core t op ≡ None) × IsAnsweredBy seen may_leave k t op (Ok called)
+      IsCaused (kernel_call_cause k t op) why ⊎ ((kernel_call_cause k t op ≡ None) × IsAnsweredBy k t op (Err why))
+  IsDue k (Call t op) (Called called) n = (kernel_call_cause k t op ≡ None) × IsAnsweredBy k t op (Ok called)
   IsDue k (Call t op) answer n = ⊥
-  IsDue k (Step t) (Refused why) n = IsCaused (step_cause (is_failed k) k.core t) why ⊎ IsFault faults k.core n.core why
+  IsDue k (Step t) (Refused why) n = IsCaused (kernel_step_cause k t) why ⊎ IsKernelFault k n why
   IsDue k (Step t) (Stepped outcome) n = IsStepped k t outcome n
   IsDue k (Step t) answer n = ⊥
-  IsDue k (Commit t) (Refused why) n = IsCaused (commit_cause (is_failed k) k.core t) why
-  IsDue k (Commit t) (Committing place) n = (commit_cause (is_failed k) k.core t ≡ None) × (place ≡ length k.core.book.items + length k.core.commits.items + 1)
+  IsDue k (Commit t) (Refused why) n = IsCaused (kernel_commit_cause k t) why
+  IsDue k (Commit t) (Committing place) n =
+      (kernel_commit_cause k t ≡ None) × (place ≡ length (kernel_book k) + length (kernel_commits k) + 1)
   IsDue k (Commit t) answer n = ⊥
-  IsDue k (AbortBegin t) (Refused why) n = open_cause (is_failed k) k.core t ≡ Some why
-  IsDue k (AbortBegin t) answer n = open_cause (is_failed k) k.core t ≡ None
-  IsDue k (AbortStep t) (Refused why) n = IsCaused (abort_cause (is_failed k) k.core t) why ⊎ IsFault faults k.core n.core why
+  IsDue k (AbortBegin t) (Refused why) n = kernel_open_cause k t ≡ Some why
+  IsDue k (AbortBegin t) answer n = kernel_open_cause k t ≡ None
+  IsDue k (AbortStep t) (Refused why) n = IsCaused (kernel_abort_cause k t) why ⊎ IsKernelFault k n why
   IsDue k (AbortStep t) (Backed outcome) n = IsBacked k t outcome n
   IsDue k (AbortStep t) answer n = ⊥
-  IsDue k Force (Refused why) n = (why ≡ refusal.NoMemory) ⊎ IsFailure faults (is_failed k) k.core n.core why
-  IsDue k Force (Forced outcome) n = IsForcedBy (kernel_log k) k.core.commits.items outcome (kernel_log n) n.core.commits.items
+  IsDue k Force (Refused why) n = (why ≡ refusal.NoMemory) ⊎ IsKernelFailure k n why
+  IsDue k Force (Forced outcome) n =
+      IsForcedBy (kernel_log k) (kernel_commits k) outcome (kernel_log n) (kernel_commits n)
   IsDue k Force answer n = ⊥
-  IsDue k Flush (Refused why) n = IsFailure faults (is_failed k) k.core n.core why
+  IsDue k Flush (Refused why) n = IsKernelFailure k n why
   IsDue k Flush (Flushed outcome) n = IsFlushed k outcome n
   IsDue k Flush answer n = ⊥
-  IsDue k Rotate (Refused why) n = (early_cause k ≡ Some why) × (n ≡ k) ⊎ ((early_cause k ≡ None) × IsKeptCause seen n why)
+  IsDue k Rotate (Refused why) n = (early_cause k ≡ Some why) × (n ≡ k) ⊎ ((early_cause k ≡ None) × IsKeptCause n why)
   IsDue k Rotate Rotated n = IsTurnedOver k n
   IsDue k Rotate answer n = ⊥
 
 -- ---- what is in memory
 
-module _ {D : Type 0} {g : Ghosts D} (moment : D → ℕ) where
+module _ {D : Type 0} {g : Ghosts D} where
   -- A step, a force and a flush call the device once at most, a rotation as often as it has to. No other event does.
   abbrev pub CallsAtEvent : Kernel D g → Event → Kernel D g → Type 0
-  CallsAtEvent k (Step t) n = CallsOnce moment k n
-  CallsAtEvent k (AbortStep t) n = CallsOnce moment k n
-  CallsAtEvent k Force n = CallsOnce moment k n
-  CallsAtEvent k Flush n = CallsOnce moment k n
+  CallsAtEvent k (Step t) n = CallsOnce k n
+  CallsAtEvent k (AbortStep t) n = CallsOnce k n
+  CallsAtEvent k Force n = CallsOnce k n
+  CallsAtEvent k Flush n = CallsOnce k n
   CallsAtEvent k Rotate n = ⊤
   CallsAtEvent k event n = kernel_device n ≡ kernel_device k
 
@@ -110,19 +108,19 @@ module _ {D : Type 0} {g : Ghosts D} (moment : D → ℕ) where
 module _ {D : Type 0} {g : Ghosts D} where
   -- each as before, and the same commits under way
   abbrev pub SamePhases : Kernel D g → Kernel D g → Type 0
-  SamePhases k n = SameStates k.core n.core × SameCommits k.core n.core
+  SamePhases k n = StatesStay k n × CommitsStay k n
 
   -- a commit of the transaction is under way after the others
   abbrev pub IsQueued : Kernel D g → ℕ → Kernel D g → Type 0
-  IsQueued k t n = (c : CommitUnderWay) × (c.txn ≡ t) × (n.core.commits.items ≡ k.core.commits.items ++ c ∷ [])
+  IsQueued k t n = (c : CommitUnderWay) × (c.txn ≡ t) × (kernel_commits n ≡ kernel_commits k ++ c ∷ [])
 
   -- An event sets the state of its own transaction; a force only those of transactions that commit.
   abbrev pub SetsPhases : Kernel D g → Event → Answer → Kernel D g → Type 0
-  SetsPhases k (Begin session) (Begun t) n = SetsState k.core n.core t (Some state.Open) × SameCommits k.core n.core
-  SetsPhases k (Commit t) (Committing place) n = SetsState k.core n.core t (Some state.Committing) × IsQueued k t n
-  SetsPhases k (AbortBegin t) Aborting n = SetsState k.core n.core t (Some state.Aborting) × SameCommits k.core n.core
-  SetsPhases k (AbortStep t) (Backed abort.Ended) n = (state_in n.core.live.members t ≡ None) × SameStatesBut k.core n.core t × SameCommits k.core n.core
-  SetsPhases k Force (Forced outcome) n = SameUncommitted k.core n.core
+  SetsPhases k (Begin session) (Begun t) n = StateIsSet k n t (Some state.Open) × CommitsStay k n
+  SetsPhases k (Commit t) (Committing place) n = StateIsSet k n t (Some state.Committing) × IsQueued k t n
+  SetsPhases k (AbortBegin t) Aborting n = StateIsSet k n t (Some state.Aborting) × CommitsStay k n
+  SetsPhases k (AbortStep t) (Backed abort.Ended) n = (kernel_state n t ≡ None) × StatesStayBut k n t × CommitsStay k n
+  SetsPhases k Force (Forced outcome) n = UncommittedStay k n
   SetsPhases k event answer n = SamePhases k n
 
 -- ---- once the device has failed

@@ -51,7 +51,8 @@ pub data Moves (s : State) : Event → Answer → List Act → State → Type 0 
   drops : (t : ℕ) (op : Op) (ps : List Pending) → s.running t ≡ Some op → GivesBack t op s.pending ps
       → Moves s (AbortStep t) (Backed abort.More) [] (dropped s t ps)
   undoes : (t : ℕ) (last : Entry) (inverse : Op) (ps : List Pending) → s.running t ≡ None
-      → last_effect t s.standing ≡ Some last → inverse_of last.op last.reply ≡ Some inverse → GivesBack t last.op s.pending ps
+      → last_effect t s.standing ≡ Some last → inverse_of last.op last.reply ≡ Some inverse
+      → GivesBack t last.op s.pending ps
       → Moves s (AbortStep t) (Backed abort.More)
       (record { txn = t; op = inverse; reply = reply_of s.base inverse; undoes = true } ∷ []) (undone s t inverse ps)
   aborts : (t : ℕ) → last_effect t s.standing ≡ None → Moves s (AbortStep t) (Backed abort.Ended) [] (gone s t)

@@ -30,7 +30,8 @@ abbrev pub tells : ℕ → Reported → Event → Answer → Reported
 tells t so_far (Begin session) (Begun u) =
     cond (t == u) (record { session = session; started = None; calls = [] }) so_far
 tells t so_far (Call u op) (Called call.Started) = cond (t == u) (record so_far { started = Some op }) so_far
-tells t so_far (Step u) (Stepped (step.Replied reply)) = cond (t == u) (record so_far { started = None; calls = so_far.calls ++ replied so_far.started reply }) so_far
+tells t so_far (Step u) (Stepped (step.Replied reply)) =
+    cond (t == u) (record so_far { started = None; calls = so_far.calls ++ replied so_far.started reply }) so_far
 tells t so_far event answer = so_far
 
 -- and what all of them do, one after the other

@@ -15,7 +15,7 @@ pub(crate) const FRAMES: usize = 64;
 
 // Begins a transaction.
 fn begin<D: Device>(kernel: &mut Kernel<D>, session: u32) -> Answer
-    ensures { HasMade D.seen D.may_leave D.moment D.left_since D.faults kernel.old (event.Begin session) result
+    ensures { HasMade kernel.old (event.Begin session) result
         kernel.new }
 {
     match kernel.begin(session) {
@@ -26,7 +26,7 @@ fn begin<D: Device>(kernel: &mut Kernel<D>, session: u32) -> Answer
 
 // Calls an operation.
 fn call<D: Device>(kernel: &mut Kernel<D>, txn: TxnNo, op: &Op) -> Answer
-    ensures { HasMade D.seen D.may_leave D.moment D.left_since D.faults kernel.old (event.Call txn op.now) result
+    ensures { HasMade kernel.old (event.Call txn op.now) result
         kernel.new }
 {
     match kernel.call(txn, op) {
@@ -37,7 +37,7 @@ fn call<D: Device>(kernel: &mut Kernel<D>, txn: TxnNo, op: &Op) -> Answer
 
 // Makes a step of an operation.
 fn step<D: Device>(kernel: &mut Kernel<D>, txn: TxnNo) -> Answer
-    ensures { HasMade D.seen D.may_leave D.moment D.left_since D.faults kernel.old (event.Step txn) result
+    ensures { HasMade kernel.old (event.Step txn) result
         kernel.new }
 {
     match kernel.step(txn) {
@@ -48,7 +48,7 @@ fn step<D: Device>(kernel: &mut Kernel<D>, txn: TxnNo) -> Answer
 
 // Begins a commit.
 fn commit<D: Device>(kernel: &mut Kernel<D>, txn: TxnNo) -> Answer
-    ensures { HasMade D.seen D.may_leave D.moment D.left_since D.faults kernel.old (event.Commit txn) result
+    ensures { HasMade kernel.old (event.Commit txn) result
         kernel.new }
 {
     match kernel.commit_begin(txn) {
@@ -59,7 +59,7 @@ fn commit<D: Device>(kernel: &mut Kernel<D>, txn: TxnNo) -> Answer
 
 // Begins an abort.
 fn abort<D: Device>(kernel: &mut Kernel<D>, txn: TxnNo) -> Answer
-    ensures { HasMade D.seen D.may_leave D.moment D.left_since D.faults kernel.old (event.AbortBegin txn) result
+    ensures { HasMade kernel.old (event.AbortBegin txn) result
         kernel.new }
 {
     match kernel.abort_begin(txn) {
@@ -70,7 +70,7 @@ fn abort<D: Device>(kernel: &mut Kernel<D>, txn: TxnNo) -> Answer
 
 // Makes a step of an abort.
 fn go_back<D: Device>(kernel: &mut Kernel<D>, txn: TxnNo) -> Answer
-    ensures { HasMade D.seen D.may_leave D.moment D.left_since D.faults kernel.old (event.AbortStep txn) result
+    ensures { HasMade kernel.old (event.AbortStep txn) result
         kernel.new }
 {
     match kernel.abort_step(txn) {
@@ -81,7 +81,7 @@ fn go_back<D: Device>(kernel: &mut Kernel<D>, txn: TxnNo) -> Answer
 
 // Makes a step of a force.
 fn force<D: Device>(kernel: &mut Kernel<D>) -> Answer
-    ensures { HasMade D.seen D.may_leave D.moment D.left_since D.faults kernel.old event.Force result
+    ensures { HasMade kernel.old event.Force result
         kernel.new }
 {
     match kernel.force_step() {
@@ -92,7 +92,7 @@ fn force<D: Device>(kernel: &mut Kernel<D>) -> Answer
 
 // Flushes a frame.
 fn flush<D: Device>(kernel: &mut Kernel<D>) -> Answer
-    ensures { HasMade D.seen D.may_leave D.moment D.left_since D.faults kernel.old event.Flush result
+    ensures { HasMade kernel.old event.Flush result
         kernel.new }
 {
     match kernel.flush_step() {
@@ -104,7 +104,7 @@ fn flush<D: Device>(kernel: &mut Kernel<D>) -> Answer
 // Makes an event by the kernel's call of its name, and gives what that answers; nothing for a rotation, which takes
 // the kernel itself.
 fn make_in_place<D: Device>(kernel: &mut Kernel<D>, event: &Event) -> Option<Answer>
-    ensures { IsMadeInPlace D.seen D.may_leave D.moment D.left_since D.faults kernel.old event.now result kernel.new }
+    ensures { IsMadeInPlace kernel.old event.now result kernel.new }
 {
     match event {
         Event::Begin(session) => Some(begin(kernel, *session)),
@@ -121,7 +121,7 @@ fn make_in_place<D: Device>(kernel: &mut Kernel<D>, event: &Event) -> Option<Ans
 
 // Turns the log over.
 fn turn_over<D: Device + Drop>(alloc: Global, kernel: Kernel<D>) -> (Standing<D>, Answer)
-    ensures { HasBecome D.seen D.may_leave D.moment D.left_since D.faults kernel event.Rotate result.1 result.0 }
+    ensures { HasBecome kernel event.Rotate result.1 result.0 }
 {
     let (standing, outcome) = rotate(alloc, kernel, FRAMES);
     match outcome {
@@ -136,7 +136,7 @@ fn make_on<D: Device + Drop>(
     kernel: Kernel<D>,
     event: &Event,
 ) -> (Standing<D>, Answer)
-    ensures { HasBecome D.seen D.may_leave D.moment D.left_since D.faults kernel event.now result.1 result.0 }
+    ensures { HasBecome kernel event.now result.1 result.0 }
 {
     let mut kernel = kernel;
     match make_in_place(&mut kernel, event) {
@@ -152,7 +152,7 @@ pub(crate) fn make<D: Device + Drop>(
     standing: Standing<D>,
     event: &Event,
 ) -> (Standing<D>, Answer)
-    ensures { GoesTo D.seen D.may_leave D.moment D.left_since D.faults standing event.now result.1 result.0 }
+    ensures { GoesTo standing event.now result.1 result.0 }
 {
     match standing {
         Standing::Stands(kernel) => make_on(alloc, kernel, event),

@@ -9,6 +9,7 @@ ghost use Rattle.mt_txn.specs.Shown.{Restarts, Shows};
 ghost use Rattle.mt_model.specs.Model.{Base};
 ghost use Rattle.mt_world.specs.Crashes.{BeginsOn, BeginsOrStands, FindsSince, FoundFromFormat, FoundTo};
 ghost use Rattle.mt_world.specs.Schedules.{HasRunTo, IsOfSchema};
+ghost use Rattle.mt_txn.specs.Words.{kernel_relations, kernel_counters};
 
 use crate::event_calls::{FRAMES, make};
 use crate::events::{Answer, Event};
@@ -27,14 +28,14 @@ fn make_all<D: Device + Drop>(
 ) -> Standing<D>
     requires none { answers.old.items ≡ [] }
     requires room { vec_len answers.old + length events.now ≤ vec_capacity answers.old }
-    ensures ran { (first : Base) → Shows D.seen D.may_leave first (start first) kernel
-        → Restarts D.seen D.may_leave first kernel → ∥ HasRunTo D.seen D.may_leave D.moment D.left_since D.faults
-        kernel.relations kernel.counters first events.now answers.new.items result ∥₁ }
-    ensures moments { (since : D) (first : Base) → Shows D.seen D.may_leave first (start first) kernel
-        → Restarts D.seen D.may_leave first kernel → FindsSince D.moment D.left_since since first kernel
-        → ∥ FoundTo D.seen D.may_leave D.moment D.left_since D.faults kernel.relations kernel.counters since first
+    ensures ran { (first : Base) → Shows first (start first) kernel
+        → Restarts first kernel → ∥ HasRunTo
+        (kernel_relations kernel) (kernel_counters kernel) first events.now answers.new.items result ∥₁ }
+    ensures moments { (since : D) (first : Base) → Shows first (start first) kernel
+        → Restarts first kernel → FindsSince since first kernel
+        → ∥ FoundTo (kernel_relations kernel) (kernel_counters kernel) since first
         events.now answers.new.items result ∥₁ }
-    ensures schema { IsOfSchema kernel.relations kernel.counters result }
+    ensures schema { IsOfSchema (kernel_relations kernel) (kernel_counters kernel) result }
 {
     let mut standing = Standing::Stands(kernel);
     for event in events {
@@ -51,7 +52,7 @@ pub(crate) fn begin_on<D: Device + Drop>(
     device: D,
     schema: &Schema,
 ) -> Result<Kernel<D>, (Refusal, D)>
-    ensures { BeginsOn D.seen D.may_leave D.moment D.left_since D.faults schema.now device result }
+    ensures { BeginsOn schema.now device result }
 {
     let mut device = device;
     match format(&mut device, schema) {
@@ -66,8 +67,8 @@ pub(crate) fn begin_on<D: Device + Drop>(
 /// Whatever the events, what ended acted once on the model, in the order of the ends. The committed transactions
 /// replied as they do alone, in the order of the commits. What stands of the others is explained, whoever of them is
 /// struck out (Weikum 1991, O'Neil 1986). An event of a transaction that is not there is answered with 15; once an
-/// event was refused with 2, each later one is. A rotation while a transaction lives is refused with 16. The kernel goes
-/// on after one that is refused with that, with 1 or with 11. If the device fails in one after its force, no kernel
+/// event was refused with 2, each later one is. A rotation while a transaction lives is refused with 16. The kernel
+/// goes on after one that is refused with that, with 1 or with 11. If the device fails in one after its force, no kernel
 /// stands, and the device is to be opened again.
 ///
 /// A crash while the device is formatted leaves what [`format`] says. Whatever a crash leaves from then on can be
@@ -83,10 +84,10 @@ pub fn run_schedule<D: Device + Drop>(
     schema: &Schema,
     events: &[Event],
 ) -> Result<(Standing<D>, Vec<Answer>), (Refusal, D)>
-    ensures ran { IfOk result (λ made. ∥ HasRunTo D.seen D.may_leave D.moment D.left_since D.faults
+    ensures ran { IfOk result (λ made. ∥ HasRunTo
         (relations_in schema.now) (length (counters_in schema.now)) (schema_base schema.now) events.now
         made.1.items made.0 ∥₁) }
-    ensures moments { IfOk result (λ made. ∥ FoundFromFormat D.seen D.may_leave D.moment D.left_since D.faults
+    ensures moments { IfOk result (λ made. ∥ FoundFromFormat
         schema.now device events.now made.1.items made.0 ∥₁) }
     ensures err { IfErr result (λ gone. LeavesOnly D.moment D.left_since device gone.1
         (BeginsOrStands schema.now (D.may_leave device))) }

@@ -7,7 +7,7 @@ use Rattle.mt_alone.proofs.forces.force_commit.Given as goal
 
 abbrev pub invariant-loop-step : goal.invariant-loop-step
 invariant-loop-step g l = record {
-  due : (p : Play) (calls : List Call) → IsEnding g.D.Device.seen g.D.Device.may_leave p l.txn calls 8 l.initial.kernel → IsEnding g.D.Device.seen g.D.Device.may_leave p l.txn calls (8 - l._step) l.kernel;
+  due : (p : Play) (calls : List Call) → IsEnding p l.txn calls 8 l.initial.kernel → IsEnding p l.txn calls (8 - l._step) l.kernel;
   schema : SameSchema l.initial.kernel l.kernel;
-  restarts : StaysRestarting g.D.Device.seen g.D.Device.may_leave l.initial.kernel l.kernel;
+  restarts : StaysRestarting l.initial.kernel l.kernel;
 }

@@ -4,7 +4,7 @@ use Rattle.mt_alone.proofs.forces.make_room.Given as goal
 
 abbrev pub invariant-loop : goal.invariant-loop
 invariant-loop g l = record {
-  eases : NobodyCommits l.initial.kernel → Eases g.D.Device.seen g.D.Device.may_leave l.initial.kernel l.kernel;
+  eases : NobodyCommits l.initial.kernel → Eases l.initial.kernel l.kernel;
   schema : SameSchema l.initial.kernel l.kernel;
-  restarts : StaysRestarting g.D.Device.seen g.D.Device.may_leave l.initial.kernel l.kernel;
+  restarts : StaysRestarting l.initial.kernel l.kernel;
 }

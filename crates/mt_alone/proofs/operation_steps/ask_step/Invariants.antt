@@ -9,7 +9,7 @@ use Rattle.mt_alone.proofs.operation_steps.ask_step.Given as goal
 
 abbrev pub invariant-loop : goal.invariant-loop
 invariant-loop g l = record {
-  stands : (p : Play) (calls : List Call) (op : Op) → IsCalling g.D.Device.seen g.D.Device.may_leave p l.txn calls op l.initial.kernel → StandsBy g.D.Device.seen g.D.Device.may_leave g.D.Device.faults p l.txn calls op l.initial.kernel l.kernel;
+  stands : (p : Play) (calls : List Call) (op : Op) → IsCalling p l.txn calls op l.initial.kernel → StandsBy p l.txn calls op l.initial.kernel l.kernel;
   schema : SameSchema l.initial.kernel l.kernel;
-  restarts : StaysRestarting g.D.Device.seen g.D.Device.may_leave l.initial.kernel l.kernel;
+  restarts : StaysRestarting l.initial.kernel l.kernel;
 }

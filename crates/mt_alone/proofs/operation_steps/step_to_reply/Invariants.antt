@@ -9,8 +9,8 @@ use Rattle.mt_alone.proofs.operation_steps.step_to_reply.Given as goal
 
 abbrev pub invariant-loop-step : goal.invariant-loop-step
 invariant-loop-step g l = record {
-  calling : (p : Play) (calls : List Call) (op : Op) → IsCalling g.D.Device.seen g.D.Device.may_leave p l.txn calls op l.initial.kernel → steps_in l.initial.kernel.core.running.items l.txn ≤ 8009
-      → IsCalling g.D.Device.seen g.D.Device.may_leave p l.txn calls op l.kernel × (steps_in l.kernel.core.running.items l.txn + l._step ≤ 8009);
+  calling : (p : Play) (calls : List Call) (op : Op) → IsCalling p l.txn calls op l.initial.kernel → steps_in l.initial.kernel.core.running.items l.txn ≤ 8009
+      → IsCalling p l.txn calls op l.kernel × (steps_in l.kernel.core.running.items l.txn + l._step ≤ 8009);
   schema : SameSchema l.initial.kernel l.kernel;
-  restarts : StaysRestarting g.D.Device.seen g.D.Device.may_leave l.initial.kernel l.kernel;
+  restarts : StaysRestarting l.initial.kernel l.kernel;
 }

@@ -7,8 +7,8 @@ use Rattle.mt_alone.proofs.operation_steps.undo.Given as goal
 
 abbrev pub invariant-loop-step : goal.invariant-loop-step
 invariant-loop-step g l = record {
-  going : (p : Play) → IsGoing g.D.Device.seen g.D.Device.may_leave p l.txn l.initial.kernel → undo_steps l.initial.kernel.core l.txn ≤ 5054310
-      → IsGoing g.D.Device.seen g.D.Device.may_leave p l.txn l.kernel × (undo_steps l.kernel.core l.txn + l._step ≤ 5054310);
+  going : (p : Play) → IsGoing p l.txn l.initial.kernel → undo_steps l.initial.kernel.core l.txn ≤ 5054310
+      → IsGoing p l.txn l.kernel × (undo_steps l.kernel.core l.txn + l._step ≤ 5054310);
   schema : SameSchema l.initial.kernel l.kernel;
-  restarts : StaysRestarting g.D.Device.seen g.D.Device.may_leave l.initial.kernel l.kernel;
+  restarts : StaysRestarting l.initial.kernel l.kernel;
 }

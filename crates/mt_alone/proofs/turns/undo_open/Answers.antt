@@ -7,10 +7,10 @@ returns-in_err-abort_begin-clause-aborted g c = λ p calls o.
     let D = g.D.Device in
     let e = c.in_err-abort_begin.ensures in
     let r = err_from_is_err_and c.from_residual.result c.from_residual.ensures.1 in
-    rw (r.1, r.2) (abort_refused D.seen D.may_leave D.faults p c.args.kernel.now c.abort_begin.new.self c.args.txn calls c.in_err-abort_begin.field-0.0 o e.err e.cause)
+    rw (r.1, r.2) (abort_refused p c.args.kernel.now c.abort_begin.new.self c.args.txn calls c.in_err-abort_begin.field-0.0 o e.err e.cause)
 
 pub returns-clause-aborted : goal.returns-clause-aborted
 returns-clause-aborted g c = λ p calls o.
     let D = g.D.Device in
     let e = c.in_ok-abort_begin.ensures in
-    c.undo.ensures.undone p (abort_goes D.seen D.may_leave D.faults p c.args.kernel.now c.abort_begin.new.self c.args.txn calls o e.state e.aborts) (abort_few D.seen D.may_leave D.faults p c.args.kernel.now c.abort_begin.new.self c.args.txn calls o e.state e.aborts e.running)
+    c.undo.ensures.undone p (abort_goes p c.args.kernel.now c.abort_begin.new.self c.args.txn calls o e.state e.aborts) (abort_few p c.args.kernel.now c.abort_begin.new.self c.args.txn calls o e.state e.aborts e.running)

@@ -1,13 +1,14 @@
-use Rattle.std.proofs.Common.{◌≡◌, ◌≢◌, ◌+◌, ◌-◌, ◌<◌, ◌≤◌, ℕ, length, get_or}
+use Rattle.std.proofs.Common.{◌≢◌, ◌-◌, ◌<◌, ◌≤◌, length, get_or}
+use Rattle.mt_base.specs.Edits.{LastDiffers}
 use Rattle.mt_base.proofs.edits.run_end.Given as goal
 
-abbrev pub invariant-loop-k : goal.invariant-loop-k
-invariant-loop-k l = record {
+abbrev pub invariant-loop-end : goal.invariant-loop-end
+invariant-loop-end l = record {
   after : l.fn.i < l.end;
-  within : l.end ≤ l.k;
+  within : l.end ≤ length l.old;
   last : get_or l.old (l.end - 1) 0 ≢ get_or l.new (l.end - 1) 0;
-  quiet : (m : ℕ) → l.end ≤ m → m < l.end + 15 → m < l.k → get_or l.old m 0 ≡ get_or l.new m 0;
+  next : LastDiffers l.old l.new l.end l.next;
 }
 
-abbrev pub decreases-loop-k : goal.decreases-loop-k
-decreases-loop-k l = length l.old - l.k
+abbrev pub decreases-loop-end : goal.decreases-loop-end
+decreases-loop-end l = length l.old - l.end

@@ -2,7 +2,7 @@ use Rattle.std.proofs.Common.{arith}
 use Rattle.std.proofs.KnownBytes.{Keeps-refl}
 use Rattle.std.proofs.lemmas.List.{length-map}
 use Rattle.mt_folder.proofs.FolderLemmas.{lent_and_back}
-use Rattle.mt_alone.specs.Sessions.{lines_in}
+use Rattle.mt_script.specs.Scripts.{lines_in}
 use Rattle.mt_cli.proofs.AtOnceLemmas.{unreported_at_once}
 use Rattle.mt_cli.specs.Serves.{let_go, no_device_at_once, too_many_at_once}
 use Rattle.mt_cli.proofs.at_once.serve_file_at_once.Goals as goal

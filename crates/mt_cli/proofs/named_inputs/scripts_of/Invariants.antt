@@ -1,5 +1,5 @@
 use Rattle.std.proofs.Common.{◌≡◌, length, map, take, string_bytes}
-use Rattle.mt_alone.specs.Sessions.{lines_in}
+use Rattle.mt_script.specs.Scripts.{lines_in}
 use Rattle.mt_cli.proofs.ReadLemmas.{IsAt}
 use Rattle.mt_cli.proofs.named_inputs.scripts_of.Given as goal
 

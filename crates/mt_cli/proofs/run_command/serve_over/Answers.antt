@@ -2,7 +2,7 @@ use Rattle.std.proofs.Common.{arith, refl}
 use Rattle.std.proofs.KnownBytes.{Keeps-refl}
 use Rattle.std.proofs.lemmas.List.{length-map}
 use Rattle.mt_restart.specs.Resumed.{IsOpened}
-use Rattle.mt_alone.specs.Sessions.{lines_in}
+use Rattle.mt_script.specs.Scripts.{lines_in}
 use Rattle.mt_device_commands.proofs.DumpLemmas.{barred_by, stands_same}
 use Rattle.mt_cli.proofs.ServeLemmas.{served_by, unserved_by}
 use Rattle.mt_cli.specs.Serves.{not_begun, too_many}
@@ -17,19 +17,19 @@ returns-in-Ok-clause-served g c =
     let D = g.D.Device in
     let b = c.in-Ok.ensures.begins in
     rw c.ended.ensures
-    (served_by c.args.stop _ _ _ _ _ (λ n m x. IsOpened D.seen D.may_leave n m x c.in-Ok.kernel) _ _ b.0 b.1 c.in-Ok.ensures.opened c.serve_opened-ran.result.0 c.serve_opened-ran.ensures.served)
+    (served_by c.args.stop _ _ _ _ _ (λ n m x. IsOpened n m x c.in-Ok.kernel) _ _ b.0 b.1 c.in-Ok.ensures.opened c.serve_opened-ran.result.0 c.serve_opened-ran.ensures.served)
 
 pub returns-in-Ok-clause-unserved : goal.returns-in-Ok-clause-unserved
 returns-in-Ok-clause-unserved g c =
     let D = g.D.Device in
     let b = c.in-Ok.ensures.begins in
     rw c.ended.ensures
-    (unserved_by c.args.stop _ _ _ _ _ (λ n m x. IsOpened D.seen D.may_leave n m x c.in-Ok.kernel) _ _ b.0 b.1 c.in-Ok.ensures.opened c.serve_opened-ran.result.0 c.serve_opened-ran.ensures.served c.serve_opened-ran.ensures.short)
+    (unserved_by c.args.stop _ _ _ _ _ (λ n m x. IsOpened n m x c.in-Ok.kernel) _ _ b.0 b.1 c.in-Ok.ensures.opened c.serve_opened-ran.result.0 c.serve_opened-ran.ensures.served c.serve_opened-ran.ensures.short)
 
 pub returns-in-Err-clause-unserved : goal.returns-in-Err-clause-unserved
 returns-in-Err-clause-unserved g c =
     let D = g.D.Device in
     let new = c.in-Err.device in
     not_begun c.in-Err.refusal (barred_by _ _ c.in-Err.refusal c.in-Err.ensures.cause)
-    (stands_same D.seen D.may_leave D.moment D.left_since c.args.device new c.requires.settled c.in-Err.ensures.moments (λ t le. g.met.D.Device.counts_now new t (D.seen new) le (g.met.D.Device.present new)))
+    (stands_same D c.args.device new c.requires.settled c.in-Err.ensures.moments (λ t le. g.met.D.Device.counts_now new t (D.seen new) le (g.met.D.Device.present new)))
     (λ early. c.in-Err.ensures.unwritten early.1) (Keeps-refl (g.O.Write.contents c.args.out.now))

@@ -1,6 +1,6 @@
 use Rattle.std.proofs.Common.{◌≡◌, take}
 use Rattle.std.specs.List.{sum_by}
-use Rattle.mt_core.specs.Runs.{left_of}
+use Rattle.mt_op.specs.World.{left_of}
 use Rattle.mt_core.proofs.reservations.left_in.Given as goal
 
 abbrev pub invariant-loop-one : goal.invariant-loop-one

@@ -11,7 +11,7 @@ survey_opened-requires g c = record { opened = c.in-Ok.ensures.begins }
 pub returns-in-Ok-clause-outcome : goal.returns-in-Ok-clause-outcome
 returns-in-Ok-clause-outcome g c =
     let D = g.D.Device in
-    dumps_of (D.seen c.args.device) c.survey_opened.result.0 (λ n m b. IsOpened D.seen D.may_leave n m b c.in-Ok.kernel) c.survey_opened.ensures.outcome _ _ c.in-Ok.ensures.begins.0 c.in-Ok.ensures.begins.1 c.in-Ok.ensures.opened
+    dumps_of (D.seen c.args.device) c.survey_opened.result.0 (λ n m b. IsOpened n m b c.in-Ok.kernel) c.survey_opened.ensures.outcome _ _ c.in-Ok.ensures.begins.0 c.in-Ok.ensures.begins.1 c.in-Ok.ensures.opened
 
 pub returns-in-Ok-clause-cause : goal.returns-in-Ok-clause-cause
 returns-in-Ok-clause-cause g c = IfErr-weaker c.survey_opened.result.0 _ _ (λ why unmade. barred_unmade _ why unmade) c.survey_opened.ensures.why
@@ -21,7 +21,7 @@ returns-in-Ok-clause-stands g c =
     let D = g.D.Device in
     let new = c.in-Ok.kernel.core.operations.store.device in
     subst (StandAs (D.seen c.args.device)) (sym c.survey_opened.ensures.content)
-    (stands_same D.seen D.may_leave D.moment D.left_since c.args.device new c.requires.settled c.in-Ok.ensures.moments (λ t le. g.met.D.Device.counts_now new t (D.seen new) le (g.met.D.Device.present new)))
+    (stands_same D c.args.device new c.requires.settled c.in-Ok.ensures.moments (λ t le. g.met.D.Device.counts_now new t (D.seen new) le (g.met.D.Device.present new)))
 
 pub returns-in-Ok-clause-early : goal.returns-in-Ok-clause-early
 returns-in-Ok-clause-early g c = IfErr-weaker c.survey_opened.result.0 _ _ (λ why unmade early. absurd (not_early why unmade early)) c.survey_opened.ensures.why
@@ -33,7 +33,7 @@ pub returns-in-Err-clause-stands : goal.returns-in-Err-clause-stands
 returns-in-Err-clause-stands g c =
     let D = g.D.Device in
     let new = c.in-Err.device in
-    stands_same D.seen D.may_leave D.moment D.left_since c.args.device new c.requires.settled c.in-Err.ensures.moments (λ t le. g.met.D.Device.counts_now new t (D.seen new) le (g.met.D.Device.present new))
+    stands_same D c.args.device new c.requires.settled c.in-Err.ensures.moments (λ t le. g.met.D.Device.counts_now new t (D.seen new) le (g.met.D.Device.present new))
 
 pub returns-in-Err-clause-early : goal.returns-in-Err-clause-early
 returns-in-Err-clause-early g c = λ early. c.in-Err.ensures.unwritten early.1

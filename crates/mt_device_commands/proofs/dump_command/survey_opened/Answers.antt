@@ -6,9 +6,9 @@ use Rattle.mt_device_commands.proofs.dump_command.survey_opened.Goals as goal
 pub returns-clause-outcome : goal.returns-clause-outcome
 returns-clause-outcome g c = λ relations counters b opened.
     let D = g.D.Device in
-    ok_both c.survey-outcome.result (λ survey base outcome. tells_of D.seen D.may_leave relations counters b c.args.kernel survey opened base outcome) (c.survey-outcome.ensures.base b (start b) opened.shows) c.survey-outcome.ensures.pages
+    ok_both c.survey-outcome.result (λ survey base outcome. tells_of relations counters b c.args.kernel survey opened base outcome) (c.survey-outcome.ensures.base b (start b) opened.shows) c.survey-outcome.ensures.pages
 
 pub returns-clause-why : goal.returns-clause-why
 returns-clause-why g c =
     let D = g.D.Device in
-    unmade_of D.faults _ c.args.kernel.core c.survey-outcome.new.self.core c.survey-outcome.result (nobody D.seen D.may_leave c.requires.opened.0 c.args.kernel c.requires.opened.1.shows) c.survey-outcome.ensures.cause
+    unmade_of D _ c.args.kernel.core c.survey-outcome.new.self.core c.survey-outcome.result (nobody c.requires.opened.0 c.args.kernel c.requires.opened.1.shows) c.survey-outcome.ensures.cause

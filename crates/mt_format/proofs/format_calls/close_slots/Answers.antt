@@ -20,11 +20,11 @@ returns-clause-shut g c =
 
 pub returns-in_err-write_at-clause-moments : goal.returns-in_err-write_at-clause-moments
 returns-in_err-write_at-clause-moments g c =
-    closes_one g.D.Device.moment g.D.Device.left_since g.D.Device.may_leave g.met.D.Device.only_now c.args.device.now c.write_at.new.self c.write_at.ensures.time c.write_at.ensures.crash
+    closes_one g.D.Device g.met.D.Device.only_now c.args.device.now c.write_at.new.self c.write_at.ensures.time c.write_at.ensures.crash
 
 pub returns-in_err-write_at-2-clause-moments : goal.returns-in_err-write_at-2-clause-moments
 returns-in_err-write_at-2-clause-moments g c =
-    closes_two g.D.Device.moment g.D.Device.left_since g.D.Device.may_leave g.met.D.Device.only_now c.args.device.now c.write_at.new.self c.write_at-2.new.self c.write_at.ensures.time c.write_at.ensures.crash c.write_at-2.ensures.time c.write_at-2.ensures.crash
+    closes_two g.D.Device g.met.D.Device.only_now c.args.device.now c.write_at.new.self c.write_at-2.new.self c.write_at.ensures.time c.write_at.ensures.crash c.write_at-2.ensures.time c.write_at-2.ensures.crash
 
 pub returns-clause-moments : goal.returns-clause-moments
 returns-clause-moments g c =
@@ -35,6 +35,6 @@ returns-clause-moments g c =
     let mid = c.write_at.new.self in
     let new = c.write_at-2.new.self in
     goes_on m l old new c.sync.new.self (ButForGates (may old)) (may c.sync.new.self)
-    (closes_two m l may g.met.D.Device.only_now old mid new c.write_at.ensures.time c.write_at.ensures.crash c.write_at-2.ensures.time c.write_at-2.ensures.crash)
+    (closes_two g.D.Device g.met.D.Device.only_now old mid new c.write_at.ensures.time c.write_at.ensures.crash c.write_at-2.ensures.time c.write_at-2.ensures.crash)
     c.sync.ensures.time
     (λ k left. gates_second (may old) (may mid) (may new) (gates_first (may old) (may mid) c.write_at.ensures.crash) c.write_at-2.ensures.crash k (c.sync.ensures.crash k left))

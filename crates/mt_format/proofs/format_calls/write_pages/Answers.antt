@@ -19,8 +19,8 @@ loop-number-preserved g c =
     let size : length page ≡ 4096 = search rules in
     record {
       written = pages_more c.args.schema.now n page (seen old) (seen new) wrote size c.page_of-page.ensures inv.written;
-      moments = shut_on g.D.Device.moment g.D.Device.left_since may g.met.D.Device.only_now c.slot_at.result (length page) c.args.device.now old new inv.moments (shut_follows 8192 _ (may c.args.device.now) (may old) (omega arith) (inr (omega arith)) inv.tears.later c.requires.shut) c.write_at.ensures.time (omega (arith, at)) (inr (omega (arith, at))) c.write_at.ensures.crash;
-      tears = tears_both seen may 8192 _ c.args.device.now old new inv.tears (tears_within seen may c.slot_at.result (length page) 8192 _ old new (omega (arith, at)) (let inside = c.loop-number-test.true in omega (arith, at, size, inside)) (record { now = c.in_ok-write_at.ensures.rest; later = c.in_ok-write_at.ensures.crash }));
+      moments = shut_on g.D.Device g.met.D.Device.only_now c.slot_at.result (length page) c.args.device.now old new inv.moments (shut_follows 8192 _ (may c.args.device.now) (may old) (omega arith) (inr (omega arith)) inv.tears.later c.requires.shut) c.write_at.ensures.time (omega (arith, at)) (inr (omega (arith, at))) c.write_at.ensures.crash;
+      tears = tears_both g.D.Device 8192 _ c.args.device.now old new inv.tears (tears_within g.D.Device c.slot_at.result (length page) 8192 _ old new (omega (arith, at)) (let inside = c.loop-number-test.true in omega (arith, at, size, inside)) (record { now = c.in_ok-write_at.ensures.rest; later = c.in_ok-write_at.ensures.crash }));
       faults = c.in_ok-write_at.ensures.cause.quiet (refl {a = true}) ∙ inv.faults;
     }
 
@@ -29,8 +29,8 @@ loop-number-init g c =
     let d = c.args.device.now in
     record {
       written = λ p none. absurd (omega arith);
-      moments = shut_starts g.D.Device.moment g.D.Device.left_since g.D.Device.may_leave g.met.D.Device.only_now d c.requires.shut;
-      tears = tears_none g.D.Device.seen g.D.Device.may_leave 8192 _ d;
+      moments = shut_starts g.D.Device g.met.D.Device.only_now d c.requires.shut;
+      tears = tears_none g.D.Device 8192 _ d;
       faults = refl;
     }
 
@@ -40,4 +40,4 @@ returns-in_err-write_at-clause-moments g c =
     let inv = c.loop-number.invariant in
     let old = c.loop-number.device in
     let at = c.slot_at.ensures in
-    shut_on g.D.Device.moment g.D.Device.left_since may g.met.D.Device.only_now c.slot_at.result _ c.args.device.now old c.write_at.new.self inv.moments (shut_follows 8192 _ (may c.args.device.now) (may old) (omega arith) (inr (omega arith)) inv.tears.later c.requires.shut) c.write_at.ensures.time (omega (arith, at)) (inr (omega (arith, at))) c.write_at.ensures.crash
+    shut_on g.D.Device g.met.D.Device.only_now c.slot_at.result _ c.args.device.now old c.write_at.new.self inv.moments (shut_follows 8192 _ (may c.args.device.now) (may old) (omega arith) (inr (omega arith)) inv.tears.later c.requires.shut) c.write_at.ensures.time (omega (arith, at)) (inr (omega (arith, at))) c.write_at.ensures.crash

@@ -9,6 +9,6 @@ abbrev pub invariant-loop-number : goal.invariant-loop-number
 invariant-loop-number g l = record {
   written : (p : ℕ) → p < l.number → IsFirstPage l.schema p (slot 8192 (g.D.Device.seen l.device) p);
   moments : LeavesOnly g.D.Device.moment g.D.Device.left_since l.fn.device l.device IsShut;
-  tears : Tears g.D.Device.seen g.D.Device.may_leave 8192 (4096 * pages_in l.schema) l.fn.device l.device;
+  tears : Tears g.D.Device 8192 (4096 * pages_in l.schema) l.fn.device l.device;
   faults : g.D.Device.faults l.device ≡ g.D.Device.faults l.fn.device;
 }

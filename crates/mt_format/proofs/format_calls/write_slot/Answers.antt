@@ -17,7 +17,7 @@ text_is g c = ap (λ (l : List ℕ). take 16 (drop 1 l)) c.encode_slot-slot.ensu
 pub returns : goal.returns
 returns g c =
     let D = g.D.Device in let n = length (take 16 (drop 1 c.encode_slot-slot.result)) in
-    subst (λ (l : List ℕ). WritesDurably D.seen D.may_leave D.moment D.left_since D.faults 1 l c.args.device.now c.sync.new.self c.sync.result) (text_is g (goal.at.returns g c).After-write_at) (record {
+    subst (λ (l : List ℕ). WritesDurably D 1 l c.args.device.now c.sync.new.self c.sync.result) (text_is g (goal.at.returns g c).After-write_at) (record {
       written = let seen = g.D.Device.seen in
           if_ok c.sync.result (subst (Wrote 1 (take 16 (drop 1 c.encode_slot-slot.result)) (seen c.args.device.now)) (sym c.sync.ensures.seen) c.in_ok-write_at.ensures.written);
       durable = search rules;

@@ -11,19 +11,19 @@ pub overflow_cast-counters : goal.overflow_cast-counters
 overflow_cast-counters g c = let few : IsCounterCount (length (counters_in c.args.schema.now)) = c.args.schema.now.counter_count in let same = ap (λ (cs : List Count). length cs) c.counters.ensures.counters in omega (arith, few, same)
 
 pub assemble-requires-clause-fresh : goal.assemble-requires-clause-fresh
-assemble-requires-clause-fresh g c = fresh_of g.D.Device.seen g.D.Device.may_leave c.args.schema.now c.in-Ok.operations c.in-Ok.escrow c.in-Ok.ensures.fresh
+assemble-requires-clause-fresh g c = fresh_of g.D.Device c.args.schema.now c.in-Ok.operations c.in-Ok.escrow c.in-Ok.ensures.fresh
 
 pub assemble-requires-clause-schema : goal.assemble-requires-clause-schema
 assemble-requires-clause-schema g c = subst IsRelationCount (sym c.relations.ensures) c.args.schema.now.relation_count
 
 pub assemble-requires-clause-opens : goal.assemble-requires-clause-opens
-assemble-requires-clause-opens g c = ∣ (schema_base c.args.schema.now, opens_of g.D.Device.seen g.D.Device.may_leave c.args.schema.now c.in-Ok.operations c.in-Ok.escrow c.in-Ok.ensures.fresh c.relations.result (length c.counters.result.now) (sym c.relations.ensures) (ap (λ (cs : List Count). length cs) (sym c.counters.ensures.counters))) ∣₁
+assemble-requires-clause-opens g c = ∣ (schema_base c.args.schema.now, opens_of g.D.Device c.args.schema.now c.in-Ok.operations c.in-Ok.escrow c.in-Ok.ensures.fresh c.relations.result (length c.counters.result.now) (sym c.relations.ensures) (ap (λ (cs : List Count). length cs) (sym c.counters.ensures.counters))) ∣₁
 
 pub returns-in-Ok-clause-shows : goal.returns-in-Ok-clause-shows
-returns-in-Ok-clause-shows g c = c.assemble.ensures.shows (schema_base c.args.schema.now) (opens_of g.D.Device.seen g.D.Device.may_leave c.args.schema.now c.in-Ok.operations c.in-Ok.escrow c.in-Ok.ensures.fresh c.relations.result (length c.counters.result.now) (sym c.relations.ensures) (ap (λ (cs : List Count). length cs) (sym c.counters.ensures.counters)))
+returns-in-Ok-clause-shows g c = c.assemble.ensures.shows (schema_base c.args.schema.now) (opens_of g.D.Device c.args.schema.now c.in-Ok.operations c.in-Ok.escrow c.in-Ok.ensures.fresh c.relations.result (length c.counters.result.now) (sym c.relations.ensures) (ap (λ (cs : List Count). length cs) (sym c.counters.ensures.counters)))
 
 pub returns-in-Ok-clause-restarts : goal.returns-in-Ok-clause-restarts
-returns-in-Ok-clause-restarts g c = c.assemble.ensures.restarts (schema_base c.args.schema.now) (opens_of g.D.Device.seen g.D.Device.may_leave c.args.schema.now c.in-Ok.operations c.in-Ok.escrow c.in-Ok.ensures.fresh c.relations.result (length c.counters.result.now) (sym c.relations.ensures) (ap (λ (cs : List Count). length cs) (sym c.counters.ensures.counters)))
+returns-in-Ok-clause-restarts g c = c.assemble.ensures.restarts (schema_base c.args.schema.now) (opens_of g.D.Device c.args.schema.now c.in-Ok.operations c.in-Ok.escrow c.in-Ok.ensures.fresh c.relations.result (length c.counters.result.now) (sym c.relations.ensures) (ap (λ (cs : List Count). length cs) (sym c.counters.ensures.counters)))
 
 pub returns-in-Ok-clause-frames : goal.returns-in-Ok-clause-frames
 returns-in-Ok-clause-frames g c = ap (λ (o : Operations g.row.D.Denot). operation_frames o) c.assemble.ensures.operations ∙ c.in-Ok.ensures.frames

@@ -2,7 +2,7 @@ use Rattle.std.proofs.Common.{◌∙◌, ℕ, length, sym, ap, subst}
 use Rattle.mt_log.specs.Words.{appended, used, area_size, has_failed}
 use Rattle.mt_op.proofs.Opened.{no_images}
 use Rattle.mt_op.specs.Begun.{FitsPages}
-use Rattle.mt_pool.specs.Begun.{store_frames}
+use Rattle.mt_pool.specs.Kept.{store_frames}
 use Rattle.mt_pool.specs.Images.{slot}
 use Rattle.mt_pool.specs.declared.store.Store.{Store}
 use Rattle.mt_steps.proofs.Formatting.{formatted_good}
@@ -15,7 +15,7 @@ pub returns-clause-operations : goal.returns-clause-operations
 returns-clause-operations g c =
     let s = c.args.schema.now in
     let opening = slot 8192 (g.D.Device.seen c.args.device) in
-    let f = begun g.D.Device.seen g.D.Device.may_leave s c.requires.pool.0 _ c.requires.log c.requires.pool.1 c.new.ensures c.first_slot_of.ensures c.requires.formatted c.requires.durable in
+    let f = begun g.D.Device s c.requires.pool.0 _ c.requires.log c.requires.pool.1 c.new.ensures c.first_slot_of.ensures c.requires.formatted c.requires.durable in
     let e = c.join.ensures in
     let good = subst (λ (n : ℕ). IsGood (relations_in s) (length (counters_in s)) n opening) (sym f.page_count) (formatted_good (relations_in s) (length (counters_in s)) (pages_in s) opening c.requires.formatted.pages) in
     let fits = subst (λ (n : ℕ). FitsPages n opening c.args.idle) (sym f.page_count) (c.requires.idle.fits opening c.requires.formatted.pages) in

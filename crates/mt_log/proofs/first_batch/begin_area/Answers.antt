@@ -21,7 +21,7 @@ returns-in_err-prepared-clause-begins g c = let d = c.args.device.now in
 
 pub returns-in_err-prepared-clause-moments : goal.returns-in_err-prepared-clause-moments
 returns-in_err-prepared-clause-moments g c =
-    frame_none g.D.Device.moment g.D.Device.left_since g.D.Device.may_leave g.met.D.Device.only_now c.args.place.start (c.args.place.end - c.args.place.start) c.args.device.now
+    frame_none g.D.Device g.met.D.Device.only_now c.args.place.start (c.args.place.end - c.args.place.start) c.args.device.now
 
 pub returns-clause-begins : goal.returns-clause-begins
 returns-clause-begins g c = c.begin_prepared.ensures.begins c.args.place [] c.in_ok-prepared.ensures.first

@@ -56,7 +56,7 @@ returns-in_err-write_durably-clause-begins g c p images is = let e = first_facts
 
 pub returns-in_err-write_durably-clause-moments : goal.returns-in_err-write_durably-clause-moments
 returns-in_err-write_durably-clause-moments g c p images is = let e = first_facts p images c.args.prepared is in
-    frame_within g.D.Device.moment g.D.Device.left_since (g.D.Device.may_leave c.args.device.now) c.args.device.now c.write_durably.new.device c.args.prepared.next 1 p.start (p.end - p.start) (low p images _ e) (high p images _ e) c.write_durably.ensures.moments
+    frame_within g.D.Device (g.D.Device.may_leave c.args.device.now) c.args.device.now c.write_durably.new.device c.args.prepared.next 1 p.start (p.end - p.start) (low p images _ e) (high p images _ e) c.write_durably.ensures.moments
 
 pub returns-in_err-write_durably-clause-elsewhere : goal.returns-in_err-write_durably-clause-elsewhere
 returns-in_err-write_durably-clause-elsewhere g c p images is = let e = first_facts p images c.args.prepared is in
@@ -69,7 +69,7 @@ returns-in_err-write_durably-clause-rest g c p images is = let e = first_facts p
 pub returns-in_err-force_all-clause-begins : goal.returns-in_err-force_all-clause-begins
 returns-in_err-force_all-clause-begins g c p images is = let e = first_facts p images c.args.prepared is in
     let log = c.args.prepared in let may = g.D.Device.may_leave in
-    area_begins g.D.Device.moment g.D.Device.left_since c.args.device.now c.write_durably.new.device c.force_all.new.device (may c.args.device.now) p.start p.end
+    area_begins g.D.Device c.args.device.now c.write_durably.new.device c.force_all.new.device (may c.args.device.now) p.start p.end
     (area_start log) (area_end log) images (in_flight log) (durable_batches log) e.start e.end e.batches e.flying
     (subst (λ (n : ℕ). LeavesOnly g.D.Device.moment g.D.Device.left_since c.args.device.now c.write_durably.new.device (TornFrom (may c.args.device.now) n 1)) e.gate c.write_durably.ensures.moments) c.force_all.ensures.scans
 
@@ -89,15 +89,15 @@ pub returns-in_err-force_all-clause-moments : goal.returns-in_err-force_all-clau
 returns-in_err-force_all-clause-moments g c p images is = let e = first_facts p images c.args.prepared is in
     let m = g.D.Device.moment in let l = g.D.Device.left_since in let may = g.D.Device.may_leave in let log = c.args.prepared in
     let mid = c.write_durably.new.device in let new = c.force_all.new.device in
-    frame_then m l may g.met.D.Device.only_now p.start (p.end - p.start) c.args.device.now mid new
-    (frame_within m l (may c.args.device.now) c.args.device.now mid log.next 1 p.start (p.end - p.start) (low p images _ e) (high p images _ e) c.write_durably.ensures.moments)
+    frame_then g.D.Device g.met.D.Device.only_now p.start (p.end - p.start) c.args.device.now mid new
+    (frame_within g.D.Device (may c.args.device.now) c.args.device.now mid log.next 1 p.start (p.end - p.start) (low p images _ e) (high p images _ e) c.write_durably.ensures.moments)
     (follows_within log.next 1 p.start p.end (may c.args.device.now) (may mid) (low p images _ e) (let gate = e.gate in let some = p.some_bytes in omega arith) c.write_durably.ensures.elsewhere)
     (subst (λ (k : ℕ). LeavesOnly m l mid new (TornFrom (may mid) k (p.end - p.start))) e.start (subst (λ (k : ℕ). LeavesOnly m l mid new (TornFrom (may mid) (area_start log) k)) e.size c.force_all.ensures.moments))
 
 pub returns-clause-begins : goal.returns-clause-begins
 returns-clause-begins g c p images is = let e = first_facts p images c.args.prepared is in
     let log = c.args.prepared in let may = g.D.Device.may_leave in
-    area_begins g.D.Device.moment g.D.Device.left_since c.args.device.now c.write_durably.new.device c.force_all.new.device (may c.args.device.now) p.start p.end
+    area_begins g.D.Device c.args.device.now c.write_durably.new.device c.force_all.new.device (may c.args.device.now) p.start p.end
     (area_start log) (area_end log) images (in_flight log) (durable_batches log) e.start e.end e.batches e.flying
     (subst (λ (n : ℕ). LeavesOnly g.D.Device.moment g.D.Device.left_since c.args.device.now c.write_durably.new.device (TornFrom (may c.args.device.now) n 1)) e.gate c.write_durably.ensures.moments) c.force_all.ensures.scans
 
@@ -117,8 +117,8 @@ pub returns-clause-moments : goal.returns-clause-moments
 returns-clause-moments g c p images is = let e = first_facts p images c.args.prepared is in
     let m = g.D.Device.moment in let l = g.D.Device.left_since in let may = g.D.Device.may_leave in let log = c.args.prepared in
     let mid = c.write_durably.new.device in let new = c.force_all.new.device in
-    frame_then m l may g.met.D.Device.only_now p.start (p.end - p.start) c.args.device.now mid new
-    (frame_within m l (may c.args.device.now) c.args.device.now mid log.next 1 p.start (p.end - p.start) (low p images _ e) (high p images _ e) c.write_durably.ensures.moments)
+    frame_then g.D.Device g.met.D.Device.only_now p.start (p.end - p.start) c.args.device.now mid new
+    (frame_within g.D.Device (may c.args.device.now) c.args.device.now mid log.next 1 p.start (p.end - p.start) (low p images _ e) (high p images _ e) c.write_durably.ensures.moments)
     (follows_within log.next 1 p.start p.end (may c.args.device.now) (may mid) (low p images _ e) (let gate = e.gate in let some = p.some_bytes in omega arith) c.write_durably.ensures.elsewhere)
     (subst (λ (k : ℕ). LeavesOnly m l mid new (TornFrom (may mid) k (p.end - p.start))) e.start (subst (λ (k : ℕ). LeavesOnly m l mid new (TornFrom (may mid) (area_start log) k)) e.size c.force_all.ensures.moments))
 
@@ -128,4 +128,4 @@ returns-clause-begun g c p images is = λ k left.
     let now : IsBegun p images new = c.in_ok-force_all.ensures.log ∙ ap landed is.seen in
     let b = begun_facts p images new now in
     subst (λ (x : LogSeen). Scans k x.start x.end x.batches) now
-    (scans_at_rest g.D.Device.seen g.D.Device.may_leave new c.force_all.new.device c.force_all.ensures.on b.calls b.well k left)
+    (scans_at_rest g.D.Device new c.force_all.new.device c.force_all.ensures.on b.calls b.well k left)

@@ -37,8 +37,8 @@ loop-init g c =
       well = c.requires.well;
       same = refl;
       faults = refl;
-      scans = started g.D.Device.moment g.D.Device.left_since d _ (λ k left. scans_forced g.D.Device.seen g.D.Device.may_leave log d c.requires.on k (g.met.D.Device.only_now d k left));
-      moments = frame_none g.D.Device.moment g.D.Device.left_since g.D.Device.may_leave g.met.D.Device.only_now (area_start log) (area_size log) d;
+      scans = started g.D.Device.moment g.D.Device.left_since d _ (λ k left. scans_forced g.D.Device log d c.requires.on k (g.met.D.Device.only_now d k left));
+      moments = frame_none g.D.Device g.met.D.Device.only_now (area_start log) (area_size log) d;
       elsewhere = λ k left. (k, left, torn_refl (area_start log) (area_size log) k);
       rest = torn_refl (area_start log) (area_size log) (g.D.Device.seen d);
     }
@@ -62,9 +62,9 @@ loop-preserved g c =
       well = t.well refl;
       same = same_on (seen_of was) (seen_of old) (seen_of new) inv.calls inv.same steps;
       faults = c.in_ok-force_step.ensures.cause.quiet refl ∙ inv.faults;
-      scans = scans_more D.moment D.left_since o m n (area_start was) (area_start old) (area_end was) (area_end old) (durable_batches was) (durable_batches old) (in_flight was) (coming old)
+      scans = scans_more D o m n (area_start was) (area_start old) (area_end was) (area_end old) (durable_batches was) (durable_batches old) (in_flight was) (coming old)
           start (ap (λ (x : LogSeen). x.end) inv.same) (ap (λ (x : LogSeen). x.batches) inv.same) (coming-in_flight old inv.calls ∙ ap (λ (x : LogSeen). x.flight) inv.same) inv.scans e.moments;
-      moments = frame_more D.moment D.left_since D.may_leave g.met.D.Device.only_now (area_start was) (area_size was) o m n (area_start old) (area_size old) start size inv.moments inv.elsewhere e.within.time e.within.elsewhere;
+      moments = frame_more D g.met.D.Device.only_now (area_start was) (area_size was) o m n (area_start old) (area_size old) start size inv.moments inv.elsewhere e.within.time e.within.elsewhere;
       elsewhere = follows_more (D.may_leave o) (D.may_leave m) (D.may_leave n) (area_start was) (area_size was) (area_start old) (area_size old) start size inv.elsewhere e.within.elsewhere;
       rest = torn_more (D.seen o) (D.seen m) (D.seen n) (area_start was) (area_size was) (area_start old) (area_size old) start size inv.rest e.within.rest;
     }
@@ -89,8 +89,8 @@ returns g c =
       log = end.0;
       alone = c.in_ok-force_step.ensures.alone end.1;
       quiet = c.in_ok-force_step.ensures.cause.quiet refl ∙ inv.faults;
-      moments = frame_more D.moment D.left_since D.may_leave g.met.D.Device.only_now (area_start was) (area_size was) o m n (area_start old) (area_size old) start size inv.moments inv.elsewhere e.within.time e.within.elsewhere;
-      scans = scans_more D.moment D.left_since o m n (area_start was) (area_start old) (area_end was) (area_end old) (durable_batches was) (durable_batches old) (in_flight was) (coming old)
+      moments = frame_more D g.met.D.Device.only_now (area_start was) (area_size was) o m n (area_start old) (area_size old) start size inv.moments inv.elsewhere e.within.time e.within.elsewhere;
+      scans = scans_more D o m n (area_start was) (area_start old) (area_end was) (area_end old) (durable_batches was) (durable_batches old) (in_flight was) (coming old)
           start (ap (λ (x : LogSeen). x.end) inv.same) (ap (λ (x : LogSeen). x.batches) inv.same) (coming-in_flight old inv.calls ∙ ap (λ (x : LogSeen). x.flight) inv.same) inv.scans e.moments;
       elsewhere = follows_more (D.may_leave o) (D.may_leave m) (D.may_leave n) (area_start was) (area_size was) (area_start old) (area_size old) start size inv.elsewhere e.within.elsewhere;
       rest = torn_more (D.seen o) (D.seen m) (D.seen n) (area_start was) (area_size was) (area_start old) (area_size old) start size inv.rest e.within.rest;
@@ -116,8 +116,8 @@ returns-in_err-force_step g c =
       log = search rules;
       alone = search rules;
       quiet = search rules;
-      moments = frame_more D.moment D.left_since D.may_leave g.met.D.Device.only_now (area_start was) (area_size was) o m n (area_start old) (area_size old) start size inv.moments inv.elsewhere e.within.time e.within.elsewhere;
-      scans = scans_more D.moment D.left_since o m n (area_start was) (area_start old) (area_end was) (area_end old) (durable_batches was) (durable_batches old) (in_flight was) (coming old)
+      moments = frame_more D g.met.D.Device.only_now (area_start was) (area_size was) o m n (area_start old) (area_size old) start size inv.moments inv.elsewhere e.within.time e.within.elsewhere;
+      scans = scans_more D o m n (area_start was) (area_start old) (area_end was) (area_end old) (durable_batches was) (durable_batches old) (in_flight was) (coming old)
           start (ap (λ (x : LogSeen). x.end) inv.same) (ap (λ (x : LogSeen). x.batches) inv.same) (coming-in_flight old inv.calls ∙ ap (λ (x : LogSeen). x.flight) inv.same) inv.scans e.moments;
       elsewhere = follows_more (D.may_leave o) (D.may_leave m) (D.may_leave n) (area_start was) (area_size was) (area_start old) (area_size old) start size inv.elsewhere e.within.elsewhere;
       rest = torn_more (D.seen o) (D.seen m) (D.seen n) (area_start was) (area_size was) (area_start old) (area_size old) start size inv.rest e.within.rest;

@@ -3,7 +3,7 @@ use Rattle.std.specs.Prelude.{IfSome}
 use Rattle.std.specs.List.{AllByRecursion}
 use Rattle.mt_frame.specs.declared.records.Record.{Record}
 use Rattle.mt_frame.specs.Grammar.{IsBody}
-use Rattle.mt_frame.specs.History.{MayFollow}
+use Rattle.mt_area_rules.specs.History.{MayFollow}
 use Rattle.mt_frame.proofs.Rows.{one_body}
 use Rattle.mt_log.specs.Holds.{HasItsPage}
 use Rattle.mt_log.proofs.scan_state.admitted.Goals as goal

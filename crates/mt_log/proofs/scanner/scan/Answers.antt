@@ -46,7 +46,7 @@ loop-reading-init g c = record {
   read = c.new-reading.ensures.read (g.D.Device.seen c.args.device.now);
   place = c.new-reading.ensures.place;
   pages = c.new-reading.ensures.pages;
-  reads = reads_none g.D.Device.seen g.D.Device.may_leave g.D.Device.moment g.D.Device.left_since g.met.D.Device.only_now c.args.device.now;
+  reads = reads_none g.D.Device g.met.D.Device.only_now c.args.device.now;
   faults = refl;
 }
 

@@ -8,7 +8,7 @@ invariant-loop-reading g l = record {
   read : HasRead (g.D.Device.seen l.fn.device) l.reading;
   place : l.reading.place ≡ l.place;
   pages : l.reading.pages ≡ l.pages;
-  reads : OnlyReads g.D.Device.seen g.D.Device.may_leave g.D.Device.moment g.D.Device.left_since l.fn.device l.device;
+  reads : OnlyReads g.D.Device l.fn.device l.device;
   faults : g.D.Device.faults l.device ≡ g.D.Device.faults l.fn.device;
 }
 

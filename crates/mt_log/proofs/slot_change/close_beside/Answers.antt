@@ -41,11 +41,11 @@ returns g c = record {
       let d = c.args.device.now in let mid = c.gate_is_open.new.device in let new = c.write_durably.new.device in
       let turned = slots_turned at other c.requires.slots in
       let reads = c.gate_is_open.ensures.reads in
-      let only : Only (seen mid) (may mid) = subst (λ (x : List ℕ). Only x (may mid)) (sym reads.same) (λ k left. c.requires.durable k (reads.less k left)) in
-      then_turns seen may m l ruling d mid new
-      (read_turns seen may m l ruling d mid c.requires.durable (rules_own (seen d) other at ruling turned r) reads)
-      (follows_less 0 8192 (may d) (may mid) reads.less)
-      (write_turns seen may m l ruling at 1 mid new (let below = slots_below at other c.requires.slots in omega (arith, below)) only
+      let only : Only (seen mid) (may mid) = subst (λ (x : List ℕ). Only x (may mid)) (sym reads.same) (λ k left. c.requires.durable k ((reads.crash k).0 left)) in
+      then_turns g.D.Device ruling d mid new
+      (read_turns g.D.Device ruling d mid c.requires.durable (rules_own (seen d) other at ruling turned r) reads)
+      (follows_less 0 8192 (may d) (may mid) (λ k left. (reads.crash k).0 left))
+      (write_turns g.D.Device ruling at 1 mid new (let below = slots_below at other c.requires.slots in omega (arith, below)) only
       (λ k torn. inl (rules_own k other at ruling turned (rules_on g (goal.at.returns g c).After-write_durably ruling r k torn))) c.write_durably.ensures.moments);
   elsewhere = search rules;
   rest = search rules;

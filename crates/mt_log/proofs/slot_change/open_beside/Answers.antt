@@ -24,8 +24,7 @@ returns-in_err-write_durably g c = record {
   rules = search rules;
   durable = search rules;
   moments = let D = g.D.Device in
-      behind_turns c.args.at c.args.other c.requires.slots c.args.ruling.now c.requires.epoch c.encode_slot-text.result (text_is g (goal.at.returns-in_err-write_durably g c).After-write_durably)
-      D.seen D.may_leave D.moment D.left_since c.args.device.now c.write_durably.new.device c.requires.durable c.requires.rules c.requires.closed c.write_durably.ensures.moments;
+      behind_turns c.args.at c.args.other c.requires.slots c.args.ruling.now c.requires.epoch c.encode_slot-text.result (text_is g (goal.at.returns-in_err-write_durably g c).After-write_durably) D c.args.device.now c.write_durably.new.device c.requires.durable c.requires.rules c.requires.closed c.write_durably.ensures.moments;
   elsewhere = search rules;
   rest = search rules;
   cause = search rules;
@@ -42,10 +41,10 @@ returns g c = record {
       let at = c.args.at in let other = c.args.other in let ruling = c.args.ruling.now in let text = c.encode_slot-text.result in
       let d = c.args.device.now in let mid = c.write_durably.new.device in let new = c.write_durably-2.new.device in
       let after = (goal.at.returns g c).After-write_durably in
-      then_turns seen may m l ruling d mid new
-      (behind_turns at other c.requires.slots ruling c.requires.epoch text (text_is g after) seen may m l d mid c.requires.durable c.requires.rules c.requires.closed c.write_durably.ensures.moments)
+      then_turns g.D.Device ruling d mid new
+      (behind_turns at other c.requires.slots ruling c.requires.epoch text (text_is g after) g.D.Device d mid c.requires.durable c.requires.rules c.requires.closed c.write_durably.ensures.moments)
       (follows_within (at + 1) (length (take 16 (drop 1 text))) 0 8192 (may d) (may mid) (omega arith) (let below = slots_below at other c.requires.slots in let n = behind_size text (next_slot ruling) (text_is g after) in omega (arith, below, n)) c.write_durably.ensures.elsewhere)
-      (write_turns seen may m l ruling at 1 mid new (let below = slots_below at other c.requires.slots in omega (arith, below)) c.in_ok-write_durably.ensures.durable
+      (write_turns g.D.Device ruling at 1 mid new (let below = slots_below at other c.requires.slots in omega (arith, below)) c.in_ok-write_durably.ensures.durable
       (λ k torn. one_rules at other c.requires.slots ruling c.requires.epoch text (text_is g after) (seen mid) k (before_gate g after) c.in_ok-write_durably.ensures.written.has torn) c.write_durably-2.ensures.moments);
   elsewhere = search rules;
   rest = search rules;

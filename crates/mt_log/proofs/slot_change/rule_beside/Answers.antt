@@ -16,7 +16,7 @@ pub returns : goal.returns
 returns g c = record {
   rules = search rules;
   durable = search rules;
-  moments = then_turns g.D.Device.seen g.D.Device.may_leave g.D.Device.moment g.D.Device.left_since c.args.ruling.now c.args.device.now c.close_beside.new.device c.open_beside.new.device
+  moments = then_turns g.D.Device c.args.ruling.now c.args.device.now c.close_beside.new.device c.open_beside.new.device
       (c.close_beside.ensures.moments c.args.ruling.now c.requires.rules) c.close_beside.ensures.elsewhere c.open_beside.ensures.moments;
   elsewhere = search rules;
   rest = search rules;

@@ -27,14 +27,14 @@ pub returns-then-is_first-clause-moments : goal.returns-then-is_first-clause-mom
 returns-then-is_first-clause-moments g c =
     let m = g.D.Device.moment in let l = g.D.Device.left_since in let may = g.D.Device.may_leave in let seen = g.D.Device.seen in
     let ruling = c.args.ruling.now in let d = c.args.device.now in let mid = c.holds_slot.new.device in
-    then_turns seen may m l ruling d mid c.rule_beside.new.device
-    (read_turns seen may m l ruling d mid c.requires.durable (c.requires.rules (seen d) (g.met.D.Device.present d)) c.holds_slot.ensures.reads)
-    (follows_less 0 8192 (may d) (may mid) c.holds_slot.ensures.reads.less) c.rule_beside.ensures.moments
+    then_turns g.D.Device ruling d mid c.rule_beside.new.device
+    (read_turns g.D.Device ruling d mid c.requires.durable (c.requires.rules (seen d) (g.met.D.Device.present d)) c.holds_slot.ensures.reads)
+    (follows_less 0 8192 (may d) (may mid) (λ k left. (c.holds_slot.ensures.reads.crash k).0 left)) c.rule_beside.ensures.moments
 
 pub returns-else-is_first-clause-moments : goal.returns-else-is_first-clause-moments
 returns-else-is_first-clause-moments g c =
     let m = g.D.Device.moment in let l = g.D.Device.left_since in let may = g.D.Device.may_leave in let seen = g.D.Device.seen in
     let ruling = c.args.ruling.now in let d = c.args.device.now in let mid = c.holds_slot.new.device in
-    then_turns seen may m l ruling d mid c.rule_beside-else-is_first.new.device
-    (read_turns seen may m l ruling d mid c.requires.durable (c.requires.rules (seen d) (g.met.D.Device.present d)) c.holds_slot.ensures.reads)
-    (follows_less 0 8192 (may d) (may mid) c.holds_slot.ensures.reads.less) c.rule_beside-else-is_first.ensures.moments
+    then_turns g.D.Device ruling d mid c.rule_beside-else-is_first.new.device
+    (read_turns g.D.Device ruling d mid c.requires.durable (c.requires.rules (seen d) (g.met.D.Device.present d)) c.holds_slot.ensures.reads)
+    (follows_less 0 8192 (may d) (may mid) (λ k left. (c.holds_slot.ensures.reads.crash k).0 left)) c.rule_beside-else-is_first.ensures.moments

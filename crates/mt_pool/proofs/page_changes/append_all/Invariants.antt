@@ -1,8 +1,9 @@
 use Rattle.std.proofs.Common.{◌≡◌, ◌≤◌, ◌<◌, ◌+◌, ◌++◌, ℕ, List, length, drop, false}
 use Rattle.std.specs.List.{AllByRecursion}
+use Rattle.mt_base.specs.Edits.{patched}
 use Rattle.mt_frame.specs.declared.records.Record.{Record}
 use Rattle.mt_frame.specs.Grammar.{IsRecord}
-use Rattle.mt_frame.specs.History.{MayFollow}
+use Rattle.mt_area_rules.specs.History.{MayFollow}
 use Rattle.mt_frame.specs.PageRecords.{change_records, lent_image}
 use Rattle.mt_log.specs.Holds.{HasItsPage}
 use Rattle.mt_log.specs.Sound.{IsSound}
@@ -12,7 +13,7 @@ use Rattle.mt_pool.proofs.page_changes.append_all.Given as goal
 
 abbrev pub invariant-loop-edit : goal.invariant-loop-edit
 invariant-loop-edit l =
-    let rest = change_records l.change.txn l.change.op l.change.page (lent_image l.image) l.change.old.now l.change.new.now (drop l.edit-index l.edits) in
+    let rest = change_records l.change.txn l.change.op l.change.page (lent_image l.image) l.change.old.now (patched l.edits l.change.old.now) (drop l.edit-index l.edits) in
     record {
       done : (front : List Record) × (lent_records l.change l.edits ≡ front ++ rest) × IsLonger l.fn.log l.log front × (used l.log ≡ used l.fn.log + records_size front);
       place : 0 < l.edit-index → l.place ≡ length (appended l.log);

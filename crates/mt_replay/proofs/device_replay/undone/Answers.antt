@@ -3,9 +3,9 @@ use Rattle.std.specs.Prelude.{Err}
 use Rattle.std.proofs.lemmas.Result.{err_from_is_err_and}
 use Rattle.mt_base.specs.declared.refusal.Refusal.{Refusal}
 use Rattle.mt_base.specs.declared.refusal.Refusal.TheVariants.{BadFormat, NoMemory}
-use Rattle.mt_replay.specs.Checks.{AreChecked}
+use Rattle.mt_page_rules.specs.Checks.{AreChecked}
 use Rattle.mt_replay.specs.Losers.{HasUndone, StopsAt}
-use Rattle.mt_replay.specs.Faults.{IsFaulty}
+use Rattle.mt_page_rules.specs.Faults.{IsFaulty}
 use Rattle.mt_replay.specs.Refused.{AreUndone}
 use Rattle.mt_replay.specs.Stands.{ShowsBase}
 use Rattle.mt_replay.proofs.Areas.{if_ok, not_broken, not_stopped, only_memory, shows}

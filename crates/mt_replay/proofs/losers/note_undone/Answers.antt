@@ -1,7 +1,7 @@
 use Rattle.std.proofs.Common.{ap, ◌∙◌, ℕ, ◌==◌, ◌&&◌, ◌||◌}
 use Rattle.std.specs.BTreeSet.{contains}
-use Rattle.mt_frame.specs.Known.{pair_cmp}
-use Rattle.mt_frame.proofs.RuleLaws.{put_pair}
+use Rattle.mt_area_rules.specs.Known.{pair_cmp}
+use Rattle.mt_area_rules.proofs.RuleLaws.{put_pair}
 use Rattle.mt_replay.proofs.losers.note_undone.Goals as goal
 
 pub returns-in-Ok : goal.returns-in-Ok

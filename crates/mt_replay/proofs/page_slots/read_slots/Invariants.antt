@@ -1,7 +1,7 @@
 use Rattle.std.proofs.Common.{◌≡◌, ◌<◌, ℕ, [], false, length, get_or}
 use Rattle.mt_log.specs.Quiet.{OnlyReads}
 use Rattle.mt_pool.specs.Images.{slot}
-use Rattle.mt_replay.specs.Memory.{AreWhole}
+use Rattle.mt_page_rules.specs.Whole.{AreWhole}
 use Rattle.mt_replay.proofs.page_slots.read_slots.Given as goal
 
 abbrev pub invariant-loop-page : goal.invariant-loop-page
@@ -10,5 +10,5 @@ invariant-loop-page g l = record {
   count : length l.slots.items ≡ l.page;
   read : (p : ℕ) → p < l.page → get_or l.imaged p false ≡ false → get_or l.slots.items p [] ≡ slot 8192 (g.D.Device.seen l.fn.device) p;
   quiet : g.D.Device.faults l.device ≡ g.D.Device.faults l.fn.device;
-  reads : OnlyReads g.D.Device.seen g.D.Device.may_leave g.D.Device.moment g.D.Device.left_since l.fn.device l.device;
+  reads : OnlyReads g.D.Device l.fn.device l.device;
 }

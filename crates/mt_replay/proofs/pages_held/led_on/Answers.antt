@@ -14,4 +14,4 @@ returns-clause-held c = λ opening gives.
     c.lay_images.ensures.laid p inside
     ∙ ap (λ (l : List (List ℕ)). page_in (carried (joined (records_of c.args.batches.now))) p (get_or l p [])) copy
     ∙ gives p (subst (λ (l : List (List ℕ)). p < length l) copy inside) in
-    c.take_back.ensures.held opening (c.in_ok-repeat_all.ensures.repeated.shown (record { pages = opening; unfinished = [] }) (c.over-repeating.ensures.shown opening first))
+    c.in_ok-take_back.ensures.held opening (c.in_ok-repeat_all.ensures.repeated.shown (record { pages = opening; unfinished = [] }) (c.over-repeating.ensures.shown opening first))

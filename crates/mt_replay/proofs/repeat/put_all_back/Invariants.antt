@@ -1,8 +1,8 @@
 use Rattle.std.proofs.Common.{◌≡◌, ◌≤◌, drop, length, map}
 use Rattle.mt_space.specs.Changes.{PageBytes}
-use Rattle.mt_steps.specs.Repeated.{put_back}
-use Rattle.mt_replay.specs.Memory.{AreFirst, AreWhole}
-use Rattle.mt_replay.specs.Passes.{change_of}
+use Rattle.mt_page_rules.specs.Whole.{AreWhole}
+use Rattle.mt_replay.specs.Memory.{AreFirst}
+use Rattle.mt_replay.specs.Passes.{before_of, with_before}
 use Rattle.mt_replay.proofs.repeat.put_all_back.Given as goal
 
 abbrev pub invariant-loop-i : goal.invariant-loop-i
@@ -10,7 +10,7 @@ invariant-loop-i l = record {
   inside : l.i ≤ length l.list;
   whole : AreWhole l.pages.items;
   count : length l.pages.items ≡ length l.fn.pages.items;
-  back : (f : PageBytes) → AreFirst l.fn.pages.items f → AreFirst l.pages.items (put_back (map change_of (drop l.i l.list)) f);
+  back : (f : PageBytes) → AreFirst l.fn.pages.items f → AreFirst l.pages.items (with_before (map before_of (drop l.i l.list)) f);
 }
 
 abbrev pub decreases-loop-i : goal.decreases-loop-i

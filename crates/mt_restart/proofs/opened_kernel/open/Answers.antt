@@ -16,7 +16,7 @@ kernel_over-requires g c = record { recovered = (c.args.frames, c.in-Ok.ensures.
 pub returns-in-Ok-clause-opened : goal.returns-in-Ok-clause-opened
 returns-in-Ok-clause-opened g c = λ relations counters b can.
     let r = c.in-Ok.recovered in let e = c.in-Ok.ensures in
-    opened_as g.D.Device.seen g.D.Device.may_leave c.only_own_pages_matter.ensures relations counters c.args.frames b r.restored.pages.items r.beside c.kernel_over.result e.recovered.beside (e.shows relations counters b can)
+    opened_as c.only_own_pages_matter.ensures relations counters c.args.frames b r.restored.pages.items r.beside c.kernel_over.result e.recovered.beside (e.shows relations counters b can)
     (λ holds. c.kernel_over.ensures.opened b holds (base_in_bounds relations counters (g.D.Device.seen c.args.device) b can))
 
 pub returns-in-Ok-clause-begins : goal.returns-in-Ok-clause-begins
@@ -45,12 +45,12 @@ returns-in-Ok-clause-counted g c =
     let r = c.in-Ok.recovered in
     let pages = bytes_of r.restored.pages.items in let checked = c.in-Ok.ensures.recovered.checked in
     let based = base_of_good checked.relations checked.counters (length r.restored.pages.items) pages checked.good in
-    (based.0, begins_on g.D.Device.seen g.D.Device.may_leave c.kernel_over.result pages r.beside.relations r.beside.counters based.0 c.in-Ok.ensures.recovered.beside.counters based.1 based.2 c.kernel_over.ensures.opened)
+    (based.0, begins_on c.kernel_over.result pages r.beside.relations r.beside.counters based.0 c.in-Ok.ensures.recovered.beside.counters based.1 based.2 c.kernel_over.ensures.opened)
 
 pub returns-in-Ok-clause-moments : goal.returns-in-Ok-clause-moments
 returns-in-Ok-clause-moments g c = λ relations counters b can.
     let D = g.D.Device in
-    subst (λ (d : _). LeavesOnly D.moment D.left_since c.args.device d (StandsStill D.may_leave relations counters b c.args.device)) (sym c.kernel_over.ensures.device) (c.recover.ensures.moments relations counters b can)
+    subst (λ (d : _). LeavesOnly D.moment D.left_since c.args.device d (StandsStill D relations counters b c.args.device)) (sym c.kernel_over.ensures.device) (c.recover.ensures.moments relations counters b can)
 
 pub returns-in-Ok-clause-stands : goal.returns-in-Ok-clause-stands
 returns-in-Ok-clause-stands g c = λ relations counters b can x left.

@@ -30,7 +30,7 @@ returns-in_err-replayed g c = record {
   no_other_refusal = λ relations counters b found.
       let p = err_from_is_err_and c.from_residual.result c.from_residual.ensures.1 in
       rw (p.1, p.2) (⊎_elim (λ memory. inl memory) (λ fault. inr (inl fault)) (c.in_err-replayed.ensures.no_other_refusal relations counters b found));
-  reads = let r = c.replay.ensures in record { same = r.seen; less = r.crash; moments = r.moments };
+  reads = let r = c.replay.ensures in record { same = r.seen; crash = r.crash; moments = r.moments };
   cause = search rules;
   quiet = search rules;
 }
@@ -40,7 +40,7 @@ returns-in_err-images g c = record {
   found = search rules;
   shows = search rules;
   no_other_refusal = search rules;
-  reads = let r = c.replay.ensures in record { same = r.seen; less = r.crash; moments = r.moments };
+  reads = let r = c.replay.ensures in record { same = r.seen; crash = r.crash; moments = r.moments };
   cause = let D = g.D.Device in let p = err_from_is_err_and c.from_residual-in_err-images.result c.from_residual-in_err-images.ensures.1 in
       rw (p.1, p.2) (subst (IsCauseToStop (D.seen c.args.device.now) (D.faults c.args.device.now < D.faults c.replay.new.device)) (sym c.in_err-images.ensures.only_memory) (inl tt));
   quiet = λ not. c.in_ok-replayed.ensures.quiet (λ e. cc);
@@ -51,7 +51,7 @@ returns-then-not-can_turn g c = record {
   found = search rules;
   shows = search rules;
   no_other_refusal = search rules;
-  reads = let r = c.replay.ensures in record { same = r.seen; less = r.crash; moments = r.moments };
+  reads = let r = c.replay.ensures in record { same = r.seen; crash = r.crash; moments = r.moments };
   cause = let D = g.D.Device in let x = c.in_ok-replayed.replayed in let r = c.in_ok-replayed.ensures in
       inr (
         refl,
@@ -73,7 +73,7 @@ returns-in_err-prepared g c = record {
   found = search rules;
   shows = search rules;
   no_other_refusal = search rules;
-  reads = let r = c.replay.ensures in record { same = r.seen; less = r.crash; moments = r.moments };
+  reads = let r = c.replay.ensures in record { same = r.seen; crash = r.crash; moments = r.moments };
   cause = search rules;
   quiet = λ not. c.in_ok-replayed.ensures.quiet (λ e. cc);
 }
@@ -83,7 +83,7 @@ returns-in_err-beside g c = record {
   found = search rules;
   shows = search rules;
   no_other_refusal = search rules;
-  reads = let r = c.replay.ensures in record { same = r.seen; less = r.crash; moments = r.moments };
+  reads = let r = c.replay.ensures in record { same = r.seen; crash = r.crash; moments = r.moments };
   cause = search rules;
   quiet = λ not. c.in_ok-replayed.ensures.quiet (λ e. cc);
 }
@@ -102,7 +102,7 @@ returns g c = record {
       };
   shows = λ relations counters b can. c.in_ok-replayed.ensures.found relations counters b can;
   no_other_refusal = search rules;
-  reads = let r = c.replay.ensures in record { same = r.seen; less = r.crash; moments = r.moments };
+  reads = let r = c.replay.ensures in record { same = r.seen; crash = r.crash; moments = r.moments };
   cause = search rules;
   quiet = search rules;
 }

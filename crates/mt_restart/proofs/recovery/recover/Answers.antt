@@ -12,7 +12,7 @@ use Rattle.mt_restart.proofs.Again.{over_stands, read_stands, read_synced, when_
 use Rattle.mt_restart.proofs.recovery.recover.Goals as goal
 
 pub turn-requires-clause-only : goal.turn-requires-clause-only
-turn-requires-clause-only g c = λ x left. c.in_ok-sync.ensures.durable x (c.find.ensures.reads.less x left) ∙ sym (c.find.ensures.reads.same ∙ c.sync.ensures.seen)
+turn-requires-clause-only g c = λ x left. c.in_ok-sync.ensures.durable x ((c.find.ensures.reads.crash x).0 left) ∙ sym (c.find.ensures.reads.same ∙ c.sync.ensures.seen)
 
 pub returns-in_err-found : goal.returns-in_err-found
 returns-in_err-found g c = record {
@@ -26,9 +26,9 @@ returns-in_err-found g c = record {
   moments = search rules;
   settled = λ relations counters b found other.
       let D = g.D.Device in
-      read_stands D.seen D.may_leave D.moment D.left_since g.met.D.Device.only_now g.met.D.Device.counts_now c.args.device.now c.sync.new.self c.find.new.device c.sync.ensures.seen c.find.ensures.reads relations counters b found c.in_ok-sync.ensures.durable;
+      read_stands D g.met.D.Device.only_now g.met.D.Device.counts_now c.args.device.now c.sync.new.self c.find.new.device c.sync.ensures.seen c.find.ensures.reads relations counters b found c.in_ok-sync.ensures.durable;
   reads = let D = g.D.Device in let p = err_from_is_err_and c.from_residual-in_err-found.result c.from_residual-in_err-found.ensures.1 in
-      rw (p.1, p.2) (λ not. read_synced D.seen D.may_leave D.moment D.left_since g.met.D.Device.only_now c.args.device.now c.sync.new.self c.find.new.device c.sync.ensures.seen c.sync.ensures.time c.sync.ensures.crash c.find.ensures.reads);
+      rw (p.1, p.2) (λ not. read_synced D g.met.D.Device.only_now c.args.device.now c.sync.new.self c.find.new.device c.sync.ensures.seen c.sync.ensures.time c.sync.ensures.crash c.find.ensures.reads);
   -- the same cause, of a device that failed in no call before
   cause = let D = g.D.Device in let p = err_from_is_err_and c.from_residual-in_err-found.result c.from_residual-in_err-found.ensures.1 in let new = c.find.new.device in
       rw (p.1, p.2) (subst (λ (n : ℕ). IsCauseToStop (D.seen c.args.device.now) (n < D.faults new) c.in_err-found.field-0.0) (c.in_ok-sync.ensures.cause.quiet refl)
@@ -48,12 +48,12 @@ returns-in_err-log g c = record {
   next = search rules;
   moments = λ relations counters b found.
       let D = g.D.Device in let o = c.args.device.now in let s = c.sync.new.self in let n = c.find.new.device in
-      when_over D.seen D.may_leave D.moment D.left_since g.met.D.Device.only_now g.met.D.Device.counts_now o s n c.sync.ensures.seen c.find.ensures.reads relations counters b found
+      when_over D g.met.D.Device.only_now g.met.D.Device.counts_now o s n c.sync.ensures.seen c.find.ensures.reads relations counters b found
       c.slots_are_read_back.ensures c.only_own_pages_matter.ensures c.args.frames c.in_ok-found.found c.in_ok-found.ensures.found (c.in_ok-found.ensures.shows relations counters b (subst (λ (x : List ℕ). CanRestart relations counters x b) (sym c.sync.ensures.seen) found))
       c.deref.result.now c.deref.ensures.value c.turn.new.device c.turn.ensures.moments c.sync.ensures.time c.sync.ensures.crash;
   settled = λ relations counters b found other.
       let D = g.D.Device in let o = c.args.device.now in let s = c.sync.new.self in let n = c.find.new.device in
-      over_stands D.seen D.may_leave D.moment D.left_since g.met.D.Device.only_now g.met.D.Device.counts_now o s n c.sync.ensures.seen c.find.ensures.reads relations counters b found
+      over_stands D g.met.D.Device.only_now g.met.D.Device.counts_now o s n c.sync.ensures.seen c.find.ensures.reads relations counters b found
       c.slots_are_read_back.ensures c.only_own_pages_matter.ensures c.args.frames c.in_ok-found.found c.in_ok-found.ensures.found (c.in_ok-found.ensures.shows relations counters b (subst (λ (x : List ℕ). CanRestart relations counters x b) (sym c.sync.ensures.seen) found))
       c.deref.result.now c.deref.ensures.value c.turn.new.device c.turn.ensures.moments;
   reads = let p = err_from_is_err_and c.from_residual-in_err-log.result c.from_residual-in_err-log.ensures.1 in
@@ -79,7 +79,7 @@ returns g c = record {
         checked = is.checked;
         images = is.marked.images;
         beside = is.beside;
-        turned = subst (λ (x : List (List ℕ)). HasTurned D.seen D.may_leave f.ruling x f.marks.images.items c.turn.new.device c.in_ok-log.log) c.deref.ensures.value c.in_ok-log.ensures.turned;
+        turned = subst (λ (x : List (List ℕ)). HasTurned D f.ruling x f.marks.images.items c.turn.new.device c.in_ok-log.log) c.deref.ensures.value c.in_ok-log.ensures.turned;
       };
   restored = let f = c.in_ok-found.found in
       subst (λ (x : List ℕ). AreRestored x f.restored.pages.items) c.sync.ensures.seen c.in_ok-found.ensures.found.restored;
@@ -90,12 +90,12 @@ returns g c = record {
       c.slot_after.ensures ∙ ap next_slot (one_rules c.slots_are_read_back.ensures mid f.ruling slot c.in_ok-found.ensures.found.marked.rules (subst (λ (x : List ℕ). IsRuling x slot) (sym c.sync.ensures.seen) rules));
   moments = λ relations counters b found.
       let D = g.D.Device in let o = c.args.device.now in let s = c.sync.new.self in let n = c.find.new.device in
-      when_over D.seen D.may_leave D.moment D.left_since g.met.D.Device.only_now g.met.D.Device.counts_now o s n c.sync.ensures.seen c.find.ensures.reads relations counters b found
+      when_over D g.met.D.Device.only_now g.met.D.Device.counts_now o s n c.sync.ensures.seen c.find.ensures.reads relations counters b found
       c.slots_are_read_back.ensures c.only_own_pages_matter.ensures c.args.frames c.in_ok-found.found c.in_ok-found.ensures.found (c.in_ok-found.ensures.shows relations counters b (subst (λ (x : List ℕ). CanRestart relations counters x b) (sym c.sync.ensures.seen) found))
       c.deref.result.now c.deref.ensures.value c.turn.new.device c.turn.ensures.moments c.sync.ensures.time c.sync.ensures.crash;
   settled = λ relations counters b found other.
       let D = g.D.Device in let o = c.args.device.now in let s = c.sync.new.self in let n = c.find.new.device in
-      over_stands D.seen D.may_leave D.moment D.left_since g.met.D.Device.only_now g.met.D.Device.counts_now o s n c.sync.ensures.seen c.find.ensures.reads relations counters b found
+      over_stands D g.met.D.Device.only_now g.met.D.Device.counts_now o s n c.sync.ensures.seen c.find.ensures.reads relations counters b found
       c.slots_are_read_back.ensures c.only_own_pages_matter.ensures c.args.frames c.in_ok-found.found c.in_ok-found.ensures.found (c.in_ok-found.ensures.shows relations counters b (subst (λ (x : List ℕ). CanRestart relations counters x b) (sym c.sync.ensures.seen) found))
       c.deref.result.now c.deref.ensures.value c.turn.new.device c.turn.ensures.moments;
   reads = search rules;

@@ -9,7 +9,7 @@ abbrev pub invariant-loop-step : goal.invariant-loop-step
 invariant-loop-step g l =
     let D = g.D.Device in
     record {
-      keeps : Keeps D.seen D.may_leave D.moment D.left_since l.initial.kernel l.kernel;
+      keeps : Keeps l.initial.kernel l.kernel;
       well : is_failed l.kernel ≡ false;
       nobody : HasNobody l.kernel;
       grows : Grows l.initial.kernel l.kernel;

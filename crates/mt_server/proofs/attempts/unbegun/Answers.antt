@@ -9,6 +9,6 @@ returns-in-DeviceFailed-clause-runs c = λ b session booked pass lines. begin_fa
 
 pub returns-in_ok-refuse-in_default : goal.returns-in_ok-refuse-in_default
 returns-in_ok-refuse-in_default c = record {
-  runs = λ b session booked pass lines. begin_refused b session booked pass pass lines c.args.why _ _ (lets_go_on c.args.why c.in_default.not-DeviceFailed) refl c.in_ok-refuse-in_default.ensures.ok;
+  runs = λ b session booked pass lines. begin_refused b session booked pass pass lines c.args.why _ _ (lets_go_on c.args.why c.in_default.not-DeviceFailed, c.requires) refl c.in_ok-refuse-in_default.ensures.ok;
   lives = tt;
 }

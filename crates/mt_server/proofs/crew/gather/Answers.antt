@@ -1,7 +1,7 @@
 use Rattle.std.proofs.Common.{ℕ, ◌≡◌, ◌+◌, List, All, [], arith, ap, map, subst, sym, refl}
 use Rattle.std.proofs.lemmas.List.Elements.{All-pop}
 use Rattle.mt_server.specs.Crews.{HasDone, IsBoard}
-use Rattle.mt_alone.specs.Sessions.{lines_in}
+use Rattle.mt_script.specs.Scripts.{lines_in}
 use Rattle.mt_server.proofs.CrewLemmas.{pass_placed, popped}
 use Rattle.mt_locked.specs.Whole.{all_own}
 use Rattle.mt_server.proofs.crew.gather.Goals as goal

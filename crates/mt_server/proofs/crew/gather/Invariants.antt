@@ -3,7 +3,7 @@ use mathlib.Core.List.{IsPrefix}
 use Rattle.mt_mark.specs.Rule.{dones}
 use Rattle.mt_model.specs.declared.history.Committed.{Committed}
 use Rattle.mt_server.specs.Crews.{HasDone, IsBoard}
-use Rattle.mt_alone.specs.Sessions.{lines_in}
+use Rattle.mt_script.specs.Scripts.{lines_in}
 use Rattle.mt_locked.specs.Seen.{PassSeen}
 use Rattle.mt_locked.specs.Whole.{all_own}
 use Rattle.mt_server.proofs.crew.gather.Given as goal

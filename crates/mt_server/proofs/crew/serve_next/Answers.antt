@@ -1,6 +1,6 @@
 use Rattle.std.proofs.Common.{◌≡◌, ◌<◌, ◌++◌, ◌∷◌, [], arith, length, map, ap, subst, sym, ◌∙◌}
 use Rattle.std.proofs.lemmas.List.{get_or-map, length-map}
-use Rattle.mt_alone.specs.Sessions.{lines_in}
+use Rattle.mt_script.specs.Scripts.{lines_in}
 use Rattle.mt_server.specs.declared.board.Reported.{Reported}
 use Rattle.mt_server.proofs.CrewLemmas.{heard_more}
 use Rattle.mt_server.proofs.crew.serve_next.Goals as goal

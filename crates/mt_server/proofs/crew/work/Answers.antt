@@ -1,5 +1,5 @@
 use Rattle.std.proofs.Common.{map}
-use Rattle.mt_alone.specs.Sessions.{lines_in}
+use Rattle.mt_script.specs.Scripts.{lines_in}
 use Rattle.mt_server.proofs.CrewLemmas.{none_heard}
 use Rattle.mt_server.proofs.crew.work.Goals as goal
 

@@ -1,6 +1,6 @@
 use Rattle.std.proofs.Common.{map}
 use Rattle.mt_server.specs.Crews.{AreHeard}
-use Rattle.mt_alone.specs.Sessions.{lines_in}
+use Rattle.mt_script.specs.Scripts.{lines_in}
 use Rattle.mt_server.proofs.crew.work.Given as goal
 
 abbrev pub invariant-turns : goal.invariant-turns

@@ -11,7 +11,7 @@ returns-in_ok-tell_committed-in-Ok-clause-turns g c =
 pub returns-in-Some-clause-turns : goal.returns-in-Some-clause-turns
 returns-in-Some-clause-turns g c =
     reported_refused g.J.Naming.base c.args.txn c.args.pass.now c.requires.own line.Commit c.in-Err.field-0.why _ _ c.refused.new.pass c.refused.result
-    (lets_go_on c.in-Err.field-0.why (λ failed. gone_not_back _ c.in-Some.back (c.in-Err.ensures.gone.1 failed) c.in-Some.is))
+    (lets_go_on c.in-Err.field-0.why (λ failed. gone_not_back _ c.in-Some.back (c.in-Err.ensures.gone.1 failed) c.in-Some.is), c.in-Err.ensures.why)
     (same_telling c.commit.new.pass c.args.pass.now _ _ c.refused.new.pass (Refused c.in-Err.field-0.why) c.refused.result c.in-Some.back c.args.txn c.in-Err.ensures.same (subst (λ o. IfSome o (λ t. t ≡ c.args.txn)) c.in-Some.is c.in-Err.ensures.back) c.refused.ensures.tells)
 
 pub returns-in-None-clause-turns : goal.returns-in-None-clause-turns

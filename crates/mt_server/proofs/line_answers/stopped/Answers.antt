@@ -4,11 +4,14 @@ use Rattle.mt_script.specs.declared.lines.Line.TheVariants as line
 use Rattle.mt_server.proofs.line_answers.stopped.Goals as goal
 
 pub returns-in-DeviceFailed-clause-turns : goal.returns-in-DeviceFailed-clause-turns
-returns-in-DeviceFailed-clause-turns g c = λ op.
+returns-in-DeviceFailed-clause-turns g c = λ op may.
     stops_behind c.args.pass.now c.take_back.new.pass _ _ c.fail.result c.take_back.ensures c.fail.ensures.stops
+
+pub returns-in-Die-clause-turns : goal.returns-in-Die-clause-turns
+returns-in-Die-clause-turns g c = λ op may. c.died.ensures.turns op
 
 pub returns-in_default : goal.returns-in_default
 returns-in_default g c = record {
-  turns = λ op. reported_refused g.J.Naming.base c.args.txn c.args.pass.now c.requires.own (line.Call op) c.args.why _ _ c.refused.new.pass c.refused.result (lets_live c.args.why c.in_default.not-Die c.in_default.not-DeviceFailed) c.refused.ensures.tells;
+  turns = λ op may. reported_refused g.J.Naming.base c.args.txn c.args.pass.now c.requires.own (line.Call op) c.args.why _ _ c.refused.new.pass c.refused.result (lets_live c.args.why c.in_default.not-Die c.in_default.not-DeviceFailed, may) c.refused.ensures.tells;
   lives = λ never. c.refused.ensures.lives;
 }

@@ -1,6 +1,6 @@
 use Rattle.std.proofs.Common.{arith, ap, length, map, refl, sym, ◌∙◌}
 use Rattle.mt_server.proofs.ServingLemmas.{board_reported}
-use Rattle.mt_alone.specs.Sessions.{lines_in}
+use Rattle.mt_script.specs.Scripts.{lines_in}
 use Rattle.mt_locked.specs.Whole.{all_own}
 use Rattle.mt_txn.specs.Shown.{is_failed}
 use Rattle.mt_server.proofs.service.close.Goals as goal

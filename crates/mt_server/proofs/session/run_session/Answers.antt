@@ -1,7 +1,7 @@
 use Rattle.std.proofs.Common.{false, true, ◌≡◌, ◌+◌, ◌≤◌, ℕ, List, Err, length, drop, arith, ap, refl, subst, sym}
 use Rattle.mt_model.specs.History.{Call}
 use Rattle.mt_script.specs.declared.lines.Line.{Line}
-use Rattle.mt_alone.specs.Sessions.{lines_in}
+use Rattle.mt_script.specs.Scripts.{lines_in}
 use Rattle.mt_server.specs.Hearing.{HasFailed, HasRan, IsSession, Running, between}
 use Rattle.mt_server.specs.declared.attempts.Ran.{Ran}
 use Rattle.mt_server.specs.declared.attempts.Ran.TheVariants as ran

@@ -1,4 +1,4 @@
-use Rattle.mt_alone.specs.Sessions.{lines_in}
+use Rattle.mt_script.specs.Scripts.{lines_in}
 use Rattle.mt_server.proofs.SessionRuns.{Stands}
 use Rattle.mt_server.proofs.session.run_session.Given as goal
 

@@ -7,9 +7,9 @@ use Rattle.mt_world.proofs.event_calls.abort.Goals as goal
 pub returns-in-Ok : goal.returns-in-Ok
 returns-in-Ok g c =
     let D = g.D.Device in let k = c.args.kernel.now in let n = c.abort_begin.new.self in let e = c.in-Ok.ensures in
-    still_made D.seen D.may_leave D.moment D.left_since D.faults k n (AbortBegin c.args.txn) Aborting (abort_begun _) e.state e.may e.device (e.aborts, e.commits) e.schema (fails_ok D.seen D.may_leave D.moment D.left_since D.faults k n _ _ e.fails (λ broken. cc)) e.restarts e.moments
+    still_made k n (AbortBegin c.args.txn) Aborting (abort_begun _) e.state e.may e.device (e.aborts, e.commits) e.schema (fails_ok k n _ _ e.fails (λ broken. cc)) e.restarts e.moments
 
 pub returns-in-Err : goal.returns-in-Err
 returns-in-Err g c =
     let D = g.D.Device in let k = c.args.kernel.now in let n = c.abort_begin.new.self in let e = c.in-Err.ensures in
-    still_made D.seen D.may_leave D.moment D.left_since D.faults k n (AbortBegin c.args.txn) (Refused c.in-Err.refusal) (is_refused _ _) e.state e.cause e.device (kernel_phases D.seen D.may_leave D.moment D.left_since D.faults k n e.err) e.schema (fails_err D.seen D.may_leave D.moment D.left_since D.faults k n c.in-Err.refusal e.fails) e.restarts e.moments
+    still_made k n (AbortBegin c.args.txn) (Refused c.in-Err.refusal) (is_refused _ _) e.state e.cause e.device (kernel_phases k n e.err) e.schema (fails_err k n c.in-Err.refusal e.fails) e.restarts e.moments

@@ -10,9 +10,9 @@ use Rattle.mt_world.proofs.event_calls.begin.Goals as goal
 pub returns-in-Ok : goal.returns-in-Ok
 returns-in-Ok g c =
     let D = g.D.Device in let k = c.args.kernel.now in let n = c.begin.new.self in let e = c.in-Ok.ensures in
-    begin_made D.seen D.may_leave D.moment D.left_since D.faults k n c.args.session c.in-Ok.txn e.number e.may e.begun e.device (e.opened, e.commits) e.schema (fails_ok D.seen D.may_leave D.moment D.left_since D.faults k n _ _ e.fails (λ broken. cc)) e.restarts e.moments
+    begin_made k n c.args.session c.in-Ok.txn e.number e.may e.begun e.device (e.opened, e.commits) e.schema (fails_ok k n _ _ e.fails (λ broken. cc)) e.restarts e.moments
 
 pub returns-in-Err : goal.returns-in-Err
 returns-in-Err g c =
     let D = g.D.Device in let k = c.args.kernel.now in let n = c.begin.new.self in let e = c.in-Err.ensures in
-    still_made D.seen D.may_leave D.moment D.left_since D.faults k n (Begin c.args.session) (Refused c.in-Err.refusal) (is_refused _ _) (parts_stay D.seen D.may_leave k n e.err e.schema) (caused (begin_cause (is_failed k) k.core) c.in-Err.refusal e.cause) e.device (parts_phases D.seen D.may_leave D.moment D.left_since D.faults k n e.err) e.schema (fails_err D.seen D.may_leave D.moment D.left_since D.faults k n c.in-Err.refusal e.fails) e.restarts e.moments
+    still_made k n (Begin c.args.session) (Refused c.in-Err.refusal) (is_refused _ _) (parts_stay k n e.err e.schema) (caused (begin_cause (is_failed k) k.core) c.in-Err.refusal e.cause) e.device (parts_phases k n e.err) e.schema (fails_err k n c.in-Err.refusal e.fails) e.restarts e.moments

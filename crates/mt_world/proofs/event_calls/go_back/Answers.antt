@@ -10,10 +10,10 @@ use Rattle.mt_world.proofs.event_calls.go_back.Goals as goal
 pub returns-in-Ok : goal.returns-in-Ok
 returns-in-Ok g c =
     let D = g.D.Device in let k = c.args.kernel.now in let n = c.abort_step.new.self in let e = c.in-Ok.ensures in
-    back_made D.seen D.may_leave D.moment D.left_since D.faults k n c.args.txn c.in-Ok.stepped (record { may = e.may; work = e.work; other = e.other; full = λ is. e.full (ap Ok is) }) e.once e.aborted
-    (back_phases D.seen D.may_leave D.moment D.left_since D.faults k n c.args.txn c.in-Ok.stepped e.states e.commits (λ is. e.out (ap Ok is))) e.schema (fails_ok D.seen D.may_leave D.moment D.left_since D.faults k n _ _ e.fails (λ broken. cc)) e.restarts e.moments
+    back_made k n c.args.txn c.in-Ok.stepped (record { may = e.may; work = e.moves.work; other = e.moves.other; full = λ is. e.moves.full (ap Ok is) }) e.once e.aborted
+    (back_phases k n c.args.txn c.in-Ok.stepped e.leaves.states e.leaves.commits (λ is. e.leaves.out (ap Ok is))) e.schema (fails_ok k n _ _ e.fails (λ broken. cc)) e.restarts e.moments
 
 pub returns-in-Err : goal.returns-in-Err
 returns-in-Err g c =
     let D = g.D.Device in let k = c.args.kernel.now in let n = c.abort_step.new.self in let e = c.in-Err.ensures in
-    still_made D.seen D.may_leave D.moment D.left_since D.faults k n (AbortStep c.args.txn) (Refused c.in-Err.refusal) (is_refused _ _) e.aborted (caused_or (abort_cause (is_failed k) k.core c.args.txn) c.in-Err.refusal e.cause) e.once (e.err_states, e.commits) e.schema (fails_err D.seen D.may_leave D.moment D.left_since D.faults k n c.in-Err.refusal e.fails) e.restarts e.moments
+    still_made k n (AbortStep c.args.txn) (Refused c.in-Err.refusal) (is_refused _ _) e.aborted (caused_or (abort_cause (is_failed k) k.core c.args.txn) c.in-Err.refusal e.cause) e.once (e.leaves.err_states, e.leaves.commits) e.schema (fails_err k n c.in-Err.refusal e.fails) e.restarts e.moments

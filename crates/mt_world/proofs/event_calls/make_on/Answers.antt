@@ -8,4 +8,4 @@ returns-in-Some g c = c.in-Some.ensures
 pub returns-in-None : goal.returns-in-None
 returns-in-None g c =
     let D = g.D.Device in let e = c.in-None.ensures in
-    subst (λ (X : Type 0). X) (λ i. HasBecome D.seen D.may_leave D.moment D.left_since D.faults (e.1 i) (sym e.0 i) c.turn_over.result.1 c.turn_over.result.0) c.turn_over.ensures
+    subst (λ (X : Type 0). X) (λ i. HasBecome (e.1 i) (sym e.0 i) c.turn_over.result.1 c.turn_over.result.0) c.turn_over.ensures

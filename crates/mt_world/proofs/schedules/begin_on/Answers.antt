@@ -8,7 +8,7 @@ use Rattle.mt_world.proofs.BeginLemmas.{begun_of, cause_of, if_ok, left_of, long
 use Rattle.mt_world.specs.Crashes.{BeginsOrStands, HasFormatted, StandsFirst}
 use Rattle.mt_world.proofs.schedules.begin_on.Goals as goal
 
-has_formatted : (g : _) (c : goal.After-open g) → HasFormatted g.D.Device.may_leave g.D.Device.moment g.D.Device.left_since c.args.schema.now c.args.device c.format.new.device
+has_formatted : (g : _) (c : goal.After-open g) → HasFormatted g.D.Device c.args.schema.now c.args.device c.format.new.device
 has_formatted g c = record {
   meanwhile = c.format.ensures.moments;
   stands = λ x left. subst (StandsFirst c.args.schema.now) (sym (c.in-Ok.ensures.durable x left)) c.in-Ok.ensures.stands;
@@ -24,11 +24,11 @@ returns-in-Ok g c =
       shows = if_ok c.open.result (λ k o. o.shows) opened;
       restarts = if_ok c.open.result (λ k o. o.restarts) opened;
       schema = if_ok c.open.result (λ k o. (o.relations_are, o.counters_are)) opened;
-      begun = begun_of D.seen D.may_leave D.moment D.left_since s c.args.device c.format.new.device c.open.result (has_formatted g c) opened moments;
-      err = left_of D.seen D.may_leave D.moment D.left_since s c.args.device c.format.new.device c.open.result (has_formatted g c) moments;
-      cause = cause_of D.seen D.may_leave D.moment D.left_since D.faults (D.seen c.format.new.device) c.args.device c.format.new.device c.open.result (λ (why : Refusal). (why ≡ refusal.BadLength) × (length (D.seen c.args.device) < device_bytes s)) c.in-Ok.ensures.quiet
+      begun = begun_of s c.args.device c.format.new.device c.open.result (has_formatted g c) opened moments;
+      err = left_of s c.args.device c.format.new.device c.open.result (has_formatted g c) moments;
+      cause = cause_of (D.seen c.format.new.device) c.args.device c.format.new.device c.open.result (λ (why : Refusal). (why ≡ refusal.BadLength) × (length (D.seen c.args.device) < device_bytes s)) c.in-Ok.ensures.quiet
           (c.open.ensures.no_other_refusal (relations_in s) (length (counters_in s)) (schema_base s) stands) (c.open.ensures.never_full s c.in-Ok.ensures.formatted) c.open.ensures.cause;
-      short = long_of D.seen D.may_leave D.moment D.left_since c.args.device c.open.result (c.open.ensures.no_other_refusal (relations_in s) (length (counters_in s)) (schema_base s) stands);
+      short = long_of c.args.device c.open.result (c.open.ensures.no_other_refusal (relations_in s) (length (counters_in s)) (schema_base s) stands);
     }
 
 pub returns-in-Err : goal.returns-in-Err

@@ -9,8 +9,8 @@ use Rattle.mt_world.proofs.schedules.make_all.Given as goal
 
 abbrev pub invariant-loop-event : goal.invariant-loop-event
 invariant-loop-event g l = let D = g.D.Device in let k = l.fn.kernel in record {
-  runs : (since : _) (first : Base) → Shows D.seen D.may_leave first (start first) k → Restarts D.seen D.may_leave first k → FindsSince D.moment D.left_since since first k
-      → RunsTo D D.seen D.may_leave D.moment D.left_since g.met.D.Device.only_now D.faults k.relations k.counters since first (take l.event-index l.events) l.answers.items l.standing;
+  runs : (since : _) (first : Base) → Shows first (start first) k → Restarts first k → FindsSince since first k
+      → RunsTo D g.met.D.Device.only_now k.relations k.counters since first (take l.event-index l.events) l.answers.items l.standing;
   schema : IsOfSchema k.relations k.counters l.standing;
   room : vec_len l.answers + (length l.events - l.event-index) ≤ vec_capacity l.answers;
 }

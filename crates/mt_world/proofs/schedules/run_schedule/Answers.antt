@@ -8,12 +8,12 @@ pub returns-clause-ran : goal.returns-clause-ran
 returns-clause-ran g c =
     let D = g.D.Device in let s = c.args.schema.now in let e = c.in_ok-kernel.ensures in
     let answers = c.make_all-standing.new.answers.items in let standing = c.make_all-standing.result in
-    subst (λ (n : ℕ). ∥ HasRunTo D.seen D.may_leave D.moment D.left_since D.faults (relations_in s) n (schema_base s) c.args.events.now answers standing ∥₁) e.schema.1
-    (subst (λ (n : ℕ). ∥ HasRunTo D.seen D.may_leave D.moment D.left_since D.faults n c.in_ok-kernel.kernel.counters (schema_base s) c.args.events.now answers standing ∥₁) e.schema.0
+    subst (λ (n : ℕ). ∥ HasRunTo (relations_in s) n (schema_base s) c.args.events.now answers standing ∥₁) e.schema.1
+    (subst (λ (n : ℕ). ∥ HasRunTo n c.in_ok-kernel.kernel.counters (schema_base s) c.args.events.now answers standing ∥₁) e.schema.0
     (c.make_all-standing.ensures.ran (schema_base s) e.shows e.restarts))
 
 pub returns-clause-moments : goal.returns-clause-moments
 returns-clause-moments g c =
     let D = g.D.Device in let s = c.args.schema.now in let e = c.in_ok-kernel.ensures in
-    from_format D.seen D.may_leave D.moment D.left_since D.faults s c.args.device c.in_ok-kernel.kernel c.args.events.now c.make_all-standing.new.answers.items c.make_all-standing.result e.begun e.schema
+    from_format s c.args.device c.in_ok-kernel.kernel c.args.events.now c.make_all-standing.new.answers.items c.make_all-standing.result e.begun e.schema
     (λ since finds. c.make_all-standing.ensures.moments since (schema_base s) e.shows e.restarts finds)

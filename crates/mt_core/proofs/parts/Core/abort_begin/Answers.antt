@@ -19,7 +19,7 @@ use Rattle.mt_core.proofs.parts.Core.abort_begin.Goals as goal
 
 pub returns-clause-state : goal.returns-clause-state
 returns-clause-state g c = λ origin base safe. let e = c.set_state.ensures in let k = c.args.self.now in let was = c.requires in
-    changed_in g.D.Device.seen g.D.Device.may_leave origin base k (record k { live = c.set_state.new.self }) c.args.txn (λ m. with_state m Aborting) safe e.member e.begun e.standing e.count (λ m. refl)
+    changed_in g.D.Device origin base k (record k { live = c.set_state.new.self }) c.args.txn (λ m. with_state m Aborting) safe e.member e.begun e.standing e.count (λ m. refl)
     (λ last records m outcome. record { many = outcome.many; numbers = outcome.numbers; rising = outcome.rising; due = outcome.due }) (λ m. refl) (λ m. refl)
     (reopened k.live.members c.set_state.new.self.members c.args.txn was e.member)
     (λ u h. changed_keeps has_room (λ m. with_state m Aborting) k.live.members c.set_state.new.self.members c.args.txn (λ m. refl) e.member u ∙ h)
@@ -33,11 +33,11 @@ returns-clause-aborts g c = let k = c.args.self.now in states_set k.live.members
 pub returns-clause-few : goal.returns-clause-few
 returns-clause-few g c = λ origin base safe. let k = c.args.self.now in let all = pages k.operations.store.pool in
     subst (λ (es : List Entry). abort_steps all k.running.items c.args.txn (effects_left all es c.args.txn) ≤ most_steps k c.args.txn) (sym c.set_state.ensures.standing)
-    (few_steps g.D.Device.seen g.D.Device.may_leave origin base k c.args.txn safe c.requires)
+    (few_steps g.D.Device origin base k c.args.txn safe c.requires)
 
 pub returns-clause-restartable : goal.returns-clause-restartable
 returns-clause-restartable g c = λ origin base later safe_k safe_n r. let e = c.set_state.ensures in let k = c.args.self.now in let seen = g.D.Device.seen in let may_leave = g.D.Device.may_leave in
     let n : Core g.row.D.Denot = record k { live = c.set_state.new.self } in
-    stays_same seen may_leave origin k n base later safe_k safe_n (quiet_store seen may_leave origin k n refl) (record { book = refl; commits = refl }) e.standing
+    stays_same g.D.Device origin k n base later safe_k safe_n (quiet_store g.D.Device origin k n refl) (record { book = refl; commits = refl }) e.standing
     (kept_num k.live.members n.live.members c.args.txn (option_map (λ m. with_state m Aborting) (member_of k.live.members c.args.txn)) e.member (same_at_work (member_of k.live.members c.args.txn) Aborting (open_works (member_of k.live.members c.args.txn) c.requires) refl))
     (let count = e.count in let few = r.few in omega (arith, few, count)) r

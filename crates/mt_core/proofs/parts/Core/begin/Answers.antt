@@ -16,7 +16,7 @@ overflow_add-self g c = let sum = c.if-not-log_takes.ensures.sum in omega arith
 
 pub returns-clause-begun : goal.returns-clause-begun
 returns-clause-begun g c = λ origin base safe. let e = c.in_ok-txn.ensures in let k = c.args.self.now in
-    begun_in g.D.Device.seen g.D.Device.may_leave origin base k (record k { live = c.begin.new.self; reserved = k.reserved + 128 }) c.in_ok-txn.txn c.args.session safe c.requires.few e.number e.begun e.unused e.member e.standing e.count refl
+    begun_in g.D.Device origin base k (record k { live = c.begin.new.self; reserved = k.reserved + 128 }) c.in_ok-txn.txn c.args.session safe c.requires.few e.number e.begun e.unused e.member e.standing e.count refl
     (let takes = c.if-not-log_takes.ensures.takes in omega arith)
 
 pub log_takes-requires : goal.log_takes-requires
@@ -28,6 +28,6 @@ returns-clause-opened g c = states_put c.args.self.now.live.members c.begin.new.
 pub returns-clause-restartable : goal.returns-clause-restartable
 returns-clause-restartable g c = λ few origin base later safe_k safe_n r. let e = c.in_ok-txn.ensures in let k = c.args.self.now in let seen = g.D.Device.seen in let may_leave = g.D.Device.may_leave in
     let n : Core g.row.D.Denot = record k { live = c.begin.new.self; reserved = k.reserved + 128 } in
-    stays_same seen may_leave origin k n base later safe_k safe_n (quiet_store seen may_leave origin k n refl) (record { book = refl; commits = refl }) e.standing
+    stays_same g.D.Device origin k n base later safe_k safe_n (quiet_store g.D.Device origin k n refl) (record { book = refl; commits = refl }) e.standing
     (kept_num k.live.members n.live.members c.in_ok-txn.txn (Some (fresh c.in_ok-txn.txn c.args.session)) e.member (sym (ap numbers_of e.unused)))
     (let count = e.count in omega (arith, few, count)) r

@@ -21,14 +21,14 @@ loop-booked-init g c = let within = c.durable_count-count.ensures.within in let 
 }
 
 pub leave_first-txn-requires-clause-safe : goal.leave_first-txn-requires-clause-safe
-leave_first-txn-requires-clause-safe g c = left_sound g.D.Device.seen g.D.Device.may_leave c.args.self.now c.loop-booked.self c.loop-booked._booked c.args.names.now.items c.loop-booked.names.items c.requires.safe c.loop-booked.invariant.left
+leave_first-txn-requires-clause-safe g c = left_sound g.D.Device c.args.self.now c.loop-booked.self c.loop-booked._booked c.args.names.now.items c.loop-booked.names.items c.requires.safe c.loop-booked.invariant.left
 
 pub leave_first-txn-requires-clause-some : goal.leave_first-txn-requires-clause-some
 leave_first-txn-requires-clause-some g c = let k = c.args.self.now in let d : Commit = record { txn = 0; place = 0 } in let was = c.loop-booked.invariant in
     let within : c.loop-booked._booked < length k.commits.items = let count = was.count in let less = c.loop-booked-test.true in omega arith in (
       get_or k.commits.items c.loop-booked._booked d,
       drop (suc c.loop-booked._booked) k.commits.items,
-      next_left g.D.Device.seen g.D.Device.may_leave k c.loop-booked.self c.loop-booked._booked c.args.names.now.items c.loop-booked.names.items d was.left within,
+      next_left g.D.Device k c.loop-booked.self c.loop-booked._booked c.args.names.now.items c.loop-booked.names.items d was.left within,
     )
 
 pub push_reserved-requires : goal.push_reserved-requires
@@ -37,10 +37,10 @@ push_reserved-requires g c = let was = c.loop-booked.invariant in let room = was
 pub loop-booked-preserved : goal.loop-booked-preserved
 loop-booked-preserved g c = let k = c.args.self.now in let d : Commit = record { txn = 0; place = 0 } in let was = c.loop-booked.invariant in let at = c.loop-booked._booked in
     let within : at < length k.commits.items = let count = was.count in let less = c.loop-booked-test.true in omega arith in
-    let queue = next_left g.D.Device.seen g.D.Device.may_leave k c.loop-booked.self at c.args.names.now.items c.loop-booked.names.items d was.left within in
+    let queue = next_left g.D.Device k c.loop-booked.self at c.args.names.now.items c.loop-booked.names.items d was.left within in
     let e = c.leave_first-txn.ensures in let p = c.push_reserved.ensures in
     let own = e.rest (get_or k.commits.items at d) (drop (suc at) k.commits.items) queue in record {
-      left = left_more g.D.Device.seen g.D.Device.may_leave k c.loop-booked.self c.leave_first-txn.new.self at c.leave_first-txn.result c.args.names.now.items c.loop-booked.names.items c.push_reserved.new.self.items d was.left within e.left own p.items;
+      left = left_more g.D.Device k c.loop-booked.self c.leave_first-txn.new.self at c.leave_first-txn.result c.args.names.now.items c.loop-booked.names.items c.push_reserved.new.self.items d was.left within e.left own p.items;
       room = let room = was.room in let len = p.len in let capacity = p.capacity in omega arith;
       store = e.store ∙ was.store;
       running = e.running ∙ was.running;
@@ -57,7 +57,7 @@ loop-booked-preserved g c = let k = c.args.self.now in let d : Commit = record {
 
 pub returns-clause-left : goal.returns-clause-left
 returns-clause-left g c = λ origin base safe. let k = c.args.self.now in
-    subst (λ n. IsIn g.D.Device.seen g.D.Device.may_leave origin base (booked_each (state_of k base) (txns_of (take n k.commits.items))) c.loop-booked.self) (let last = c.loop-booked.auto._booked-end in let done = c.loop-booked-test.false in let all : c.loop-booked._booked ≡ c.durable_count-count.result = omega arith in all ∙ c.durable_count-count.ensures.count ∙ ap (λ (xs : List Commit). durable_count xs c.args.place) c.as_slice.ensures.value) (c.loop-booked.invariant.left.state origin base safe)
+    subst (λ n. IsIn g.D.Device origin base (booked_each (state_of k base) (txns_of (take n k.commits.items))) c.loop-booked.self) (let last = c.loop-booked.auto._booked-end in let done = c.loop-booked-test.false in let all : c.loop-booked._booked ≡ c.durable_count-count.result = omega arith in all ∙ c.durable_count-count.ensures.count ∙ ap (λ (xs : List Commit). durable_count xs c.args.place) c.as_slice.ensures.value) (c.loop-booked.invariant.left.state origin base safe)
 
 pub returns-clause-names : goal.returns-clause-names
 returns-clause-names g c = let k = c.args.self.now in c.loop-booked.invariant.left.tells ∙ ap (λ n. c.args.names.now.items ++ txns_of (take n k.commits.items)) (let last = c.loop-booked.auto._booked-end in let done = c.loop-booked-test.false in let all : c.loop-booked._booked ≡ c.durable_count-count.result = omega arith in all ∙ c.durable_count-count.ensures.count ∙ ap (λ (xs : List Commit). durable_count xs c.args.place) c.as_slice.ensures.value)

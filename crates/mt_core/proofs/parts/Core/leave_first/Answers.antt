@@ -20,31 +20,31 @@ use Rattle.mt_core.proofs.parts.Core.leave_first.Goals as goal
 pub all_pages_kept-requires : goal.all_pages_kept-requires
 all_pages_kept-requires g c = ∥∥₁_elim c.requires.safe (hlevel props) (λ (origin, base, safe). let (first, cs, queue) = c.requires.some in let k = c.args.self.now in
     let it = first_txn k.commits.items c.remove-txn.result first cs queue c.remove-txn.ensures.value in
-    let s = left_sums g.D.Device.seen g.D.Device.may_leave origin base k c.remove-txn.result.txn first cs safe queue (sym it) c.leave-done.result.calls c.leave-done.ensures.calls in
+    let s = left_sums g.D.Device origin base k c.remove-txn.result.txn first cs safe queue (sym it) c.leave-done.result.calls c.leave-done.ensures.calls in
     let same = ap (sum_by call_pages) c.as_slice-calls.ensures in let few = s.few in let pages = s.pages in let enough = s.claims in omega arith)
 
 pub give_back-requires : goal.give_back-requires
 give_back-requires g c = ∥∥₁_elim c.requires.safe (hlevel props) (λ (origin, base, safe). let (first, cs, queue) = c.requires.some in let k = c.args.self.now in
     let it = first_txn k.commits.items c.remove-txn.result first cs queue c.remove-txn.ensures.value in
-    let s = left_sums g.D.Device.seen g.D.Device.may_leave origin base k c.remove-txn.result.txn first cs safe queue (sym it) c.leave-done.result.calls c.leave-done.ensures.calls in
+    let s = left_sums g.D.Device origin base k c.remove-txn.result.txn first cs safe queue (sym it) c.leave-done.result.calls c.leave-done.ensures.calls in
     let same = ap (sum_by call_pages) c.as_slice-calls.ensures in let is = c.all_pages_kept.ensures in let pages = s.pages in let enough = s.claims in omega arith)
 
 pub all_bytes_kept-requires : goal.all_bytes_kept-requires
 all_bytes_kept-requires g c = ∥∥₁_elim c.requires.safe (hlevel props) (λ (origin, base, safe). let (first, cs, queue) = c.requires.some in let k = c.args.self.now in
     let it = first_txn k.commits.items c.remove-txn.result first cs queue c.remove-txn.ensures.value in
-    let s = left_sums g.D.Device.seen g.D.Device.may_leave origin base k c.remove-txn.result.txn first cs safe queue (sym it) c.leave-done.result.calls c.leave-done.ensures.calls in
+    let s = left_sums g.D.Device origin base k c.remove-txn.result.txn first cs safe queue (sym it) c.leave-done.result.calls c.leave-done.ensures.calls in
     let same = ap (sum_by call_bytes) c.as_slice-calls.ensures in let bytes = s.bytes in let enough = s.reserved in omega arith)
 
 pub overflow_add-self : goal.overflow_add-self
 overflow_add-self g c = ∥∥₁_elim c.requires.safe (hlevel props) (λ (origin, base, safe). let (first, cs, queue) = c.requires.some in let k = c.args.self.now in
     let it = first_txn k.commits.items c.remove-txn.result first cs queue c.remove-txn.ensures.value in
-    let s = left_sums g.D.Device.seen g.D.Device.may_leave origin base k c.remove-txn.result.txn first cs safe queue (sym it) c.leave-done.result.calls c.leave-done.ensures.calls in
+    let s = left_sums g.D.Device origin base k c.remove-txn.result.txn first cs safe queue (sym it) c.leave-done.result.calls c.leave-done.ensures.calls in
     let same = ap (sum_by call_bytes) c.as_slice-calls.ensures in let is = c.all_bytes_kept.ensures in let bytes = s.bytes in let enough = s.reserved in omega arith)
 
 pub overflow_sub-self-2 : goal.overflow_sub-self-2
 overflow_sub-self-2 g c = ∥∥₁_elim c.requires.safe (hlevel props) (λ (origin, base, safe). let (first, cs, queue) = c.requires.some in let k = c.args.self.now in
     let it = first_txn k.commits.items c.remove-txn.result first cs queue c.remove-txn.ensures.value in
-    let s = left_sums g.D.Device.seen g.D.Device.may_leave origin base k c.remove-txn.result.txn first cs safe queue (sym it) c.leave-done.result.calls c.leave-done.ensures.calls in
+    let s = left_sums g.D.Device origin base k c.remove-txn.result.txn first cs safe queue (sym it) c.leave-done.result.calls c.leave-done.ensures.calls in
     let same = ap (sum_by call_bytes) c.as_slice-calls.ensures in let is = c.all_bytes_kept.ensures in let bytes = s.bytes in let enough = s.reserved in omega arith)
 
 pub returns : goal.returns
@@ -55,14 +55,14 @@ returns g c = record {
       let is : found ≡ first = first_is k.commits.items found first cs queue r.value in
       let queue_found : k.commits.items ≡ found ∷ cs = queue ∙ (λ i. sym is i ∷ cs) in
       let rest : c.remove-txn.new.self.items ≡ cs = r.items ∙ first_rest k.commits.items first cs queue in
-      let s = left_sums seen may_leave origin base k found.txn found cs safe queue_found refl c.leave-done.result.calls m.calls in
+      let s = left_sums g.D.Device origin base k found.txn found cs safe queue_found refl c.leave-done.result.calls m.calls in
       let same_pages = ap (sum_by call_pages) c.as_slice-calls.ensures in let same_bytes = ap (sum_by call_bytes) c.as_slice-calls.ensures in
       let is_pages = c.all_pages_kept.ensures in let is_bytes = c.all_bytes_kept.ensures in let pages = s.pages in let bytes = s.bytes in let claims = s.claims in let enough = s.reserved in let back = b.claimed in
       let n : Core g.row.D.Denot = record k { operations = c.give_back.new.self; live = c.leave-done.new.self; book = c.push_reserved.new.self; locks = c.release.new.self; escrow = c.commit.new.self; commits = c.remove-txn.new.self; reserved = k.reserved - (114 + c.all_bytes_kept.result) } in
-      let booked_now = booked_in seen may_leave origin base k n found cs c.leave-done.result safe queue_found rest p.items p.len p.capacity m.calls m.standing m.member m.begun m.count c.release.ensures.released e.counters e.moved e.pending
+      let booked_now = booked_in g.D.Device origin base k n found cs c.leave-done.result safe queue_found rest p.items p.len p.capacity m.calls m.standing m.member m.begun m.count c.release.ensures.released e.counters e.moved e.pending
       (b.right origin.pages origin.relations origin.counters safe.fit.right) b.store b.locks (omega arith) (omega arith) in
       let session : c.leave-done.result.session ≡ session_in k.live.members found.txn = whose c.leave-done.result.session found.txn k.live.members m.session in
-      subst (λ (X : Type 0). X) (λ i. IsIn seen may_leave origin base (booked (state_of k base) (is i).txn ((session ∙ ap (λ (x : Commit). session_in k.live.members x.txn) is) i)) n) booked_now;
+      subst (λ (X : Type 0). X) (λ i. IsIn g.D.Device origin base (booked (state_of k base) (is i).txn ((session ∙ ap (λ (x : Commit). session_in k.live.members x.txn) is) i)) n) booked_now;
   store = c.give_back.ensures.store;
   rest = λ first cs queue. let k = c.args.self.now in let r = c.remove-txn.ensures in
       (ap (λ (x : Commit). x.txn) (first_is k.commits.items c.remove-txn.result first cs queue r.value), r.items ∙ first_rest k.commits.items first cs queue);
@@ -70,7 +70,7 @@ returns g c = record {
       let found = c.remove-txn.result in
       let is : found ≡ first = first_is k.commits.items found first cs queue r.value in
       let n : Core g.row.D.Denot = record k { operations = c.give_back.new.self; live = c.leave-done.new.self; book = c.push_reserved.new.self; locks = c.release.new.self; escrow = c.commit.new.self; commits = c.remove-txn.new.self; reserved = k.reserved - (114 + c.all_bytes_kept.result) } in
-      leaves g.D.Device.seen g.D.Device.may_leave origin k n base later found cs c.leave-done.result safe_k safe_n c.give_back.ensures.store (queue ∙ (λ i. sym is i ∷ cs)) (r.items ∙ first_rest k.commits.items first cs queue)
+      leaves g.D.Device origin k n base later found cs c.leave-done.result safe_k safe_n c.give_back.ensures.store (queue ∙ (λ i. sym is i ∷ cs)) (r.items ∙ first_rest k.commits.items first cs queue)
       c.push_reserved.ensures.items m.calls m.member m.count m.standing (subst (λ (x : Commit). x.place ≤ length (durable k.operations.store.log)) (sym is) there) restartable;
   running = refl;
   undo = let k = c.args.self.now in
@@ -78,12 +78,12 @@ returns g c = record {
       undo_leaves k n (others c.remove-txn.result.txn) c.give_back.ensures.store refl c.leave-done.ensures.standing;
   states = let (first, cs, queue) = c.requires.some in let k = c.args.self.now in
       let it : c.remove-txn.result.txn ≡ first.txn = ap (λ (x : Commit). x.txn) (first_is k.commits.items c.remove-txn.result first cs queue c.remove-txn.ensures.value) in
-      first_leaves g.D.Device.seen g.D.Device.may_leave k c.requires.safe c.leave-done.new.self.members first cs queue (λ u. c.leave-done.ensures.member u ∙ ap (λ (t : ℕ). put (member_of k.live.members) t None u) it);
+      first_leaves g.D.Device k c.requires.safe c.leave-done.new.self.members first cs queue (λ u. c.leave-done.ensures.member u ∙ ap (λ (t : ℕ). put (member_of k.live.members) t None u) it);
 }
 
 pub leave-done-requires : goal.leave-done-requires
 leave-done-requires g c = let (first, cs, queue) = c.requires.some in let k = c.args.self.now in
-    ap (λ (t : ℕ). is_member k.live.members t) (first_txn k.commits.items c.remove-txn.result first cs queue c.remove-txn.ensures.value) ∙ first_lives g.D.Device.seen g.D.Device.may_leave c.args.self.now c.requires.safe first cs queue
+    ap (λ (t : ℕ). is_member k.live.members t) (first_txn k.commits.items c.remove-txn.result first cs queue c.remove-txn.ensures.value) ∙ first_lives g.D.Device c.args.self.now c.requires.safe first cs queue
 
 pub push_reserved-requires : goal.push_reserved-requires
-push_reserved-requires g c = let (first, cs, queue) = c.requires.some in first_booked g.D.Device.seen g.D.Device.may_leave c.args.self.now c.requires.safe first cs queue
+push_reserved-requires g c = let (first, cs, queue) = c.requires.some in first_booked g.D.Device c.args.self.now c.requires.safe first cs queue

@@ -35,7 +35,7 @@ give_back-requires g c = ∥∥₁_elim c.requires.ready (hlevel props) (λ (ori
     let fore = c.requires.forward r c.remove-scope.ensures.value in
     let owned : IsOwned k.live.members k.live.standing r = subst (IsOwned k.live.members k.live.standing) (sym y.alone.there) (y.fit.owned c.args.place r y.alone.within) in
     let copy : undo_pages c.end-op.result ≡ undo_pages r.op = ap undo_pages c.end-op.ensures.op in
-    let enough = undo_claimed g.D.Device.seen g.D.Device.may_leave origin base k c.args.place r y.alone.within y.alone.there fore y.claims in
+    let enough = undo_claimed g.D.Device origin base k c.args.place r y.alone.within y.alone.there fore y.claims in
     let pages = c.pages_to_undo.ensures.pages in let same = c.end-op.ensures.claimed in omega arith)
 
 pub overflow_sub-self-2 : goal.overflow_sub-self-2
@@ -43,7 +43,7 @@ overflow_sub-self-2 g c = ∥∥₁_elim c.requires.ready (hlevel props) (λ (or
     let fore = c.requires.forward r c.remove-scope.ensures.value in
     let owned : IsOwned k.live.members k.live.standing r = subst (IsOwned k.live.members k.live.standing) (sym y.alone.there) (y.fit.owned c.args.place r y.alone.within) in
     let copy : undo_bytes c.end-op.result ≡ undo_bytes r.op = ap undo_bytes c.end-op.ensures.op in
-    let enough = kept_enough g.D.Device.seen g.D.Device.may_leave origin base k c.args.place r y.fit y.alone.within y.alone.there fore in
+    let enough = kept_enough g.D.Device origin base k c.args.place r y.fit y.alone.within y.alone.there fore in
     let bytes = c.log_bytes_for.ensures in omega arith)
 
 pub note-requires : goal.note-requires
@@ -71,7 +71,7 @@ returns g c = record {
       let fore = c.requires.forward r c.remove-scope.ensures.value in
       let owned : IsOwned k.live.members k.live.standing r = subst (IsOwned k.live.members k.live.standing) (sym y.alone.there) (y.fit.owned c.args.place r y.alone.within) in
       let right = e.right origin.pages origin.relations origin.counters y.fit.right y.alone.own in
-      let ended_now = ended_given seen g.D.Device.may_leave origin.pages origin.relations origin.counters k.operations c.end-op.new.self c.give_back.new.self r
+      let ended_now = ended_given g.D.Device origin.pages origin.relations origin.counters k.operations c.end-op.new.self c.give_back.new.self r
       (record { right = right; held = e.held origin.pages; others = λ u ku other. e.others origin.pages origin.relations origin.counters u ku other; locks = e.locks; store = e.store })
       (f.right origin.pages origin.relations origin.counters right) f.store f.locks in
       let n : Core g.row.D.Denot = record k { operations = c.give_back.new.self; live = c.note.new.self; running = c.remove-scope.new.self; reserved = k.reserved - (c.log_bytes_for.result - c.bytes_kept.result) } in
@@ -79,13 +79,13 @@ returns g c = record {
       let copy_pages : undo_pages c.end-op.result ≡ undo_pages r.op = ap undo_pages e.op in
       let copy_bytes : undo_bytes c.end-op.result ≡ undo_bytes r.op = ap undo_bytes e.op in
       let less_pages = weighs_less undo_pages entry in let less_bytes = weighs_less undo_bytes entry in
-      let claimed_enough = undo_claimed seen g.D.Device.may_leave origin base k c.args.place r y.alone.within y.alone.there fore y.claims in
-      let enough = kept_enough seen g.D.Device.may_leave origin base k c.args.place r y.fit y.alone.within y.alone.there fore in
+      let claimed_enough = undo_claimed g.D.Device origin base k c.args.place r y.alone.within y.alone.there fore y.claims in
+      let enough = kept_enough g.D.Device origin base k c.args.place r y.fit y.alone.within y.alone.there fore in
       let pages = c.pages_to_undo.ensures.pages in let stay_pages : c.pages_kept.result ≡ call_pages (r.op, c.args.reply) = c.pages_kept.ensures ∙ ap (λ (o : Op). call_pages (o, c.args.reply)) e.op in let bytes = c.log_bytes_for.ensures in let stay_bytes : c.bytes_kept.result ≡ call_bytes (r.op, c.args.reply) = c.bytes_kept.ensures ∙ ap (λ (o : Op). call_bytes (o, c.args.reply)) e.op in
       let same = e.claimed in let back = f.claimed in
       let here : r ≡ x = c.remove-scope.ensures.value ∙ sym (get_or_default k.running.items c.args.place x r y.alone.within) ∙ sym is in
-      subst (λ (z : OpScope). IsIn seen g.D.Device.may_leave origin (base_after base z.op) (ended (state_of k base) z.txn z.op) n) here
-      (noted_in seen g.D.Device.may_leave origin base k n c.args.place r c.args.reply y fore c.remove-scope.ensures.items ended_now (omega arith) (omega arith)
+      subst (λ (z : OpScope). IsIn g.D.Device origin (base_after base z.op) (ended (state_of k base) z.txn z.op) n) here
+      (noted_in g.D.Device origin base k n c.args.place r c.args.reply y fore c.remove-scope.ensures.items ended_now (omega arith) (omega arith)
       (m.standing ∙ (λ i. k.live.standing ++ record { txn = c.txn-txn.ensures i; op = c.end-op.ensures.op i; reply = c.args.reply } ∷ []))
       (subst (λ (X : Type 0). X) (λ i. IsChanged k.live.members c.note.new.self.members (c.txn-txn.ensures i) (λ z. with_call z (c.number-number.ensures i) (c.end-op.ensures.op i, c.args.reply))) m.member) m.begun m.count);
   notes = λ x is.

@@ -47,8 +47,8 @@ returns g c = record {
       let seen = g.D.Device.seen in
       let n : Core g.row.D.Denot = record k { operations = c.end-inverse.new.self; live = c.undone.new.self; running = c.remove-scope.new.self; escrow = c.let_inverted_go.new.escrow } in
       let here : r ≡ x = c.remove-scope.ensures.value ∙ sym (get_or_default k.running.items c.args.place x r y.alone.within) ∙ sym is in
-      subst (λ (z : OpScope). UndoesIn seen g.D.Device.may_leave origin base (state_of k base) n z.txn z.op) here
-      (undone_in seen g.D.Device.may_leave origin base k n c.args.place r reply y (c.requires.back r c.remove-scope.ensures.value) c.remove-scope.ensures.items
+      subst (λ (z : OpScope). UndoesIn g.D.Device origin base (state_of k base) n z.txn z.op) here
+      (undone_in g.D.Device origin base k n c.args.place r reply y (c.requires.back r c.remove-scope.ensures.value) c.remove-scope.ensures.items
       (record { right = e.right origin.pages origin.relations origin.counters y.fit.right y.alone.own; held = e.held origin.pages; others = λ u ku other. e.others origin.pages origin.relations origin.counters u ku other; locks = e.locks; store = e.store }) e.claimed
       (f.standing ∙ (λ i. cut_back (c.txn-txn.ensures i) k.live.standing))
       (subst (λ (X : Type 0). X) (λ i. IsChanged k.live.members c.undone.new.self.members (c.txn-txn.ensures i) taken_back) f.member) f.begun f.count

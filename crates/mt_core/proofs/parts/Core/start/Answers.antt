@@ -29,7 +29,7 @@ returns-then-not-takes g c = record {
       let pages : c.pages_for.result + c.pages_to_undo.result ≡ pages_asked c.args.op c.args.split = (λ i. c.pages_for.ensures i + c.pages_to_undo.ensures.pages i) in
       let bytes : c.log_bytes_for-bytes.result ≡ undo_bytes c.args.op = c.log_bytes_for-bytes.ensures in
       let full = c.if-not-takes.ensures.full in (
-        subst (λ n. claimed k.operations + n ≤ pages_free seen origin k) pages (c.in-Ok.ensures.fits origin.pages origin.relations origin.counters granted.was.fit.right),
+        subst (λ n. claimed k.operations + n ≤ pages_free g.D.Device origin k) pages (c.in-Ok.ensures.fits origin.pages origin.relations origin.counters granted.was.fit.right),
         omega (arith, bytes, full),
       );
   back = search rules;
@@ -76,13 +76,13 @@ returns-in-Ok-begin_op g c = record {
       let seen = g.D.Device.seen in let k = c.args.self.now in let e = c.in-Ok-begin_op.ensures in let f = c.in-Ok.ensures in let m = c.claim.ensures in let s = c.in-Ok-begin_op.scope in
       let fit = granted.was.fit in
       let right = m.right origin.pages origin.relations origin.counters fit.right in
-      let fresh_old : IsFresh (world seen origin.pages k.operations) c.args.txn (k.last + 1) 0 = next_fresh seen g.D.Device.may_leave origin base (without_call locks escrow k) c.args.txn (k.last + 1) fit granted.may.at_work (omega arith) in
-      let fresh : IsFresh (world seen origin.pages c.claim.new.self) c.args.txn c.new.result 0 = subst (λ (n : ℕ). IsFresh (world seen origin.pages c.claim.new.self) c.args.txn n 0) (sym c.new.ensures) (fresh_same seen k.operations c.claim.new.self origin.pages c.args.txn (k.last + 1) 0 m.store m.locks fresh_old) in
+      let fresh_old : IsFresh (world g.D.Device origin.pages k.operations) c.args.txn (k.last + 1) 0 = next_fresh g.D.Device origin base (without_call locks escrow k) c.args.txn (k.last + 1) fit granted.may.at_work (omega arith) in
+      let fresh : IsFresh (world g.D.Device origin.pages c.claim.new.self) c.args.txn c.new.result 0 = subst (λ (n : ℕ). IsFresh (world g.D.Device origin.pages c.claim.new.self) c.args.txn n 0) (sym c.new.ensures) (fresh_same g.D.Device k.operations c.claim.new.self origin.pages c.args.txn (k.last + 1) 0 m.store m.locks fresh_old) in
       let pages : c.pages_for.result + c.pages_to_undo.result ≡ own_needs c.args.op c.args.split + undo_pages c.args.op = (λ i. c.pages_for.ensures i + c.pages_to_undo.ensures.pages i) in
       let bytes : c.log_bytes_for-bytes.result ≡ undo_bytes c.args.op = c.log_bytes_for-bytes.ensures in
       let left : s.left ≡ undo_bytes c.args.op = e.left in
       let n : Core g.row.D.Denot = record k { operations = c.claim.new.self; running = c.push_reserved.new.self; reserved = k.reserved + c.log_bytes_for-bytes.result } in
-      called_in seen g.D.Device.may_leave origin base locks escrow k n c.args.txn c.args.op c.args.split s
+      called_in g.D.Device origin base locks escrow k n c.args.txn c.args.op c.args.split s
       granted c.push_reserved.ensures.items
       (record {
         right = right;
@@ -102,7 +102,7 @@ returns-in-Ok-begin_op g c = record {
       let pages : c.pages_for.result + c.pages_to_undo.result ≡ pages_asked c.args.op c.args.split = (λ i. c.pages_for.ensures i + c.pages_to_undo.ensures.pages i) in
       let bytes : c.log_bytes_for-bytes.result ≡ undo_bytes c.args.op = c.log_bytes_for-bytes.ensures in
       let takes = c.if-not-takes.ensures.takes in (
-        subst (λ n. claimed k.operations + n ≤ pages_free seen origin k) pages (c.in-Ok.ensures.fits origin.pages origin.relations origin.counters granted.was.fit.right),
+        subst (λ n. claimed k.operations + n ≤ pages_free g.D.Device origin k) pages (c.in-Ok.ensures.fits origin.pages origin.relations origin.counters granted.was.fit.right),
         omega (arith, bytes, takes),
       );
   cause = search rules;
@@ -129,8 +129,8 @@ returns-in-Err g c = record {
   may = search rules;
   cause = λ origin base locks escrow granted. let k = c.args.self.now in let seen = g.D.Device.seen in let f = c.in-Err.ensures in
       let pages : c.pages_for.result + c.pages_to_undo.result ≡ pages_asked c.args.op c.args.split = (λ i. c.pages_for.ensures i + c.pages_to_undo.ensures.pages i) in
-      subst (IsUnreserved seen origin k (log_kept k) c.args.op c.args.split) (sym f.why)
-      (subst (λ n. pages_free seen origin k < claimed k.operations + n) pages (f.cause origin.pages origin.relations origin.counters granted.was.fit.right));
+      subst (IsUnreserved g.D.Device origin k (log_kept k) c.args.op c.args.split) (sym f.why)
+      (subst (λ n. pages_free g.D.Device origin k < claimed k.operations + n) pages (f.cause origin.pages origin.relations origin.counters granted.was.fit.right));
   back = search rules;
   err = search rules;
   live = search rules;
@@ -142,9 +142,9 @@ returns-in-Err g c = record {
 
 pub begin_op-requires-clause-pool : goal.begin_op-requires-clause-pool
 begin_op-requires-clause-pool g c = ∥∥₁_elim c.requires.granted (Pool-prop c.claim.new.self.store.pool) (λ (origin, base, locks, escrow, granted).
-    (steady g.D.Device.seen g.D.Device.may_leave c.claim.new.self.store ∣ (origin.pages, (c.claim.ensures.right origin.pages origin.relations origin.counters granted.was.fit.right).kept) ∣₁).frames)
+    (steady g.D.Device c.claim.new.self.store ∣ (origin.pages, (c.claim.ensures.right origin.pages origin.relations origin.counters granted.was.fit.right).kept) ∣₁).frames)
 
 pub begin_op-requires-clause-numbers : goal.begin_op-requires-clause-numbers
 begin_op-requires-clause-numbers g c = ∥∥₁_elim c.requires.granted (hlevel props) (λ (origin, base, locks, escrow, granted).
-    let named = txn_named g.D.Device.seen g.D.Device.may_leave origin base (without_call locks escrow c.args.self.now) c.args.txn granted.was.fit granted.may.at_work in
+    let named = txn_named g.D.Device origin base (without_call locks escrow c.args.self.now) c.args.txn granted.was.fit granted.may.at_work in
     let few = c.requires.few in let is = c.new.ensures in (named, (omega arith, omega arith)))

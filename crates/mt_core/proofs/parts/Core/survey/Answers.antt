@@ -25,9 +25,9 @@ pub returns-clause-state : goal.returns-clause-state
 returns-clause-state g c = λ origin base safe.
     let D = g.D.Device in let k = c.args.self.now in let read = c.survey.ensures.read in
     let same = ap (λ l. used l) read.log in
-    rests_in D.seen D.may_leave origin base k (record k { operations = c.survey.new.self }) safe (read_right D.seen D.may_leave D.moment D.left_since origin.pages origin.relations origin.counters k.operations c.survey.new.self read safe.fit.right)
-    (read_rests D.seen D.may_leave D.moment D.left_since origin.pages k.operations c.survey.new.self read) (ap (λ (m : SpaceMap). reserved_of m.space) read.map) (omega arith) (ap (λ l. area_size l) read.log)
+    rests_in D origin base k (record k { operations = c.survey.new.self }) safe (read_right D origin.pages origin.relations origin.counters k.operations c.survey.new.self read safe.fit.right)
+    (read_rests D origin.pages k.operations c.survey.new.self read) (ap (λ (m : SpaceMap). reserved_of m.space) read.map) (omega arith) (ap (λ l. area_size l) read.log)
 
 pub returns-clause-restartable : goal.returns-clause-restartable
 returns-clause-restartable g c = λ origin base later safe_k safe_n r. let D = g.D.Device in let k = c.args.self.now in let read = c.survey.ensures.read in
-    rests_same D.seen D.may_leave origin k (record k { operations = c.survey.new.self }) base later safe_k safe_n (read_rests D.seen D.may_leave D.moment D.left_since origin.pages k.operations c.survey.new.self read) (ap (λ l. area_size l) read.log) (lasts_same k (record k { operations = c.survey.new.self }) (ap (λ l. durable l) read.log)) (record { book = refl; commits = refl }) refl r
+    rests_same D origin k (record k { operations = c.survey.new.self }) base later safe_k safe_n (read_rests D origin.pages k.operations c.survey.new.self read) (ap (λ l. area_size l) read.log) (lasts_same k (record k { operations = c.survey.new.self }) (ap (λ l. durable l) read.log)) (record { book = refl; commits = refl }) refl r

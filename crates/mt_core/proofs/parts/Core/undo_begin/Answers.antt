@@ -1,6 +1,6 @@
 use mathlib.Core.Logic.{∥∥₁_elim}
 use Rattle.std.proofs.Props.{props}
-use Rattle.std.proofs.Common.{◌≡◌, ◌≢◌, ◌∙◌, ◌+◌, ◌-◌, ◌*◌, ◌++◌, ◌∷◌, [], List, true, false, None, Some, refl, ap, sym, subst, arith}
+use Rattle.std.proofs.Common.{rules, ◌≡◌, ◌≢◌, ◌∙◌, ◌+◌, ◌-◌, ◌*◌, ◌++◌, ◌∷◌, [], List, true, false, None, Some, refl, ap, sym, subst, arith}
 use Rattle.std.specs.Prelude.{is_some, All}
 use Rattle.mt_inverse.specs.Steps.{IsWithinSteps}
 use Rattle.mt_live.specs.Lives.{member_of}
@@ -37,16 +37,16 @@ inverse_of-requires g c = ∥∥₁_elim c.requires.safe (Steps-prop _) (λ (ori
 
 pub returns-in_err-reserve-clause-state : goal.returns-in_err-reserve-clause-state
 returns-in_err-reserve-clause-state g c = λ origin base safe. let k = c.args.self.now in let a = c.reserve.ensures in
-    rooms_in g.D.Device.seen g.D.Device.may_leave origin base k (record k { running = c.reserve.new.self }) safe a.items refl refl refl (omega arith)
+    rooms_in g.D.Device origin base k (record k { running = c.reserve.new.self }) safe a.items refl refl refl (omega arith)
 
 pub begin_op-requires-clause-numbers : goal.begin_op-requires-clause-numbers
 begin_op-requires-clause-numbers g c = ∥∥₁_elim c.requires.safe (hlevel props) (λ (origin, base, safe).
-    let named = txn_named g.D.Device.seen g.D.Device.may_leave origin base c.args.self.now c.args.txn safe.fit (aborting_open (member_of c.args.self.now.live.members c.args.txn) c.requires.aborting) in
+    let named = txn_named g.D.Device origin base c.args.self.now c.args.txn safe.fit (aborting_open (member_of c.args.self.now.live.members c.args.txn) c.requires.aborting) in
     let few = safe.fit.numbered.few_operations in let is = c.new.ensures in (named, (omega arith, omega arith)))
 
 pub returns-in-Err-clause-state : goal.returns-in-Err-clause-state
 returns-in-Err-clause-state g c = λ origin base safe. let k = c.args.self.now in let a = c.reserve.ensures in
-    rooms_in g.D.Device.seen g.D.Device.may_leave origin base k (record k { running = c.reserve.new.self }) safe a.items refl refl refl (omega arith)
+    rooms_in g.D.Device origin base k (record k { running = c.reserve.new.self }) safe a.items refl refl refl (omega arith)
 
 pub overflow_sub-self : goal.overflow_sub-self
 overflow_sub-self g c = ∥∥₁_elim c.requires.safe (hlevel props) (λ (origin, base, safe). let k = c.args.self.now in
@@ -54,7 +54,7 @@ overflow_sub-self g c = ∥∥₁_elim c.requires.safe (hlevel props) (λ (origi
     let inverse : inverse_of x.0.op x.0.reply ≡ Some c.in-Some-2.inverse = (λ i. inverse_of (x.2 i) (x.3 i)) ∙ sym c.in_ok-inverse.ensures.inverse ∙ c.in-Some-2.is in
     let some : is_some (inverse_of x.0.op x.0.reply) ≡ true = ap is_some inverse in
     let weighs : entry_bytes x.0 ≡ undo_bytes x.0.op = rw some refl in
-    undo_enough g.D.Device.seen g.D.Device.may_leave origin base k c.args.txn x.0 safe.fit c.requires.idle x.1 some (weighs ∙ inverse_bytes x.0.op x.0.reply c.in-Some-2.inverse inverse))
+    undo_enough g.D.Device origin base k c.args.txn x.0 safe.fit c.requires.idle x.1 some (weighs ∙ inverse_bytes x.0.op x.0.reply c.in-Some-2.inverse inverse))
 
 pub returns-in-Ok-clause-state : goal.returns-in-Ok-clause-state
 returns-in-Ok-clause-state g c = λ origin base safe.
@@ -64,25 +64,25 @@ returns-in-Ok-clause-state g c = λ origin base safe.
     let small = last_has (IsWithinSchema origin) c.args.txn k.live.standing x.0 safe.fit.small x.1 in
     let within = inverse_within origin.relations origin.counters x.0.op x.0.reply c.in-Some-2.inverse small.op small.reply inverse in
     let number : last_operation (member_of k.live.members c.args.txn) ≡ Some c.in-Some.last.number = sym c.in-Some.ensures.number in
-    let due = undo_fresh seen may_leave origin base k c.args.txn (k.last + 1) c.in-Some.last.number safe (aborting_open (member_of c.args.self.now.live.members c.args.txn) c.requires.aborting) (omega arith) number in
+    let due = undo_fresh g.D.Device origin base k c.args.txn (k.last + 1) c.in-Some.last.number safe (aborting_open (member_of c.args.self.now.live.members c.args.txn) c.requires.aborting) (omega arith) number in
     let numbered : c.in-Some.last.number ≡ c.get-undoes.result = sym c.get-undoes.ensures in
-    let fresh : IsFresh (world seen origin.pages k.operations) c.args.txn c.new.result c.get-undoes.result = subst (λ (X : Type 0). X) (λ i. IsFresh (world seen origin.pages k.operations) c.args.txn (sym c.new.ensures i) (numbered i)) due.0 in
+    let fresh : IsFresh (world g.D.Device origin.pages k.operations) c.args.txn c.new.result c.get-undoes.result = subst (λ (X : Type 0). X) (λ i. IsFresh (world g.D.Device origin.pages k.operations) c.args.txn (sym c.new.ensures i) (numbered i)) due.0 in
     let back : s.undoes ≢ 0 = λ is. due.1 (numbered ∙ sym e.named.3 ∙ is) in
     let some : is_some (inverse_of x.0.op x.0.reply) ≡ true = ap is_some inverse in
     let weighs : entry_bytes x.0 ≡ undo_bytes x.0.op = rw some refl in
-    let enough = undo_enough seen may_leave origin base k c.args.txn x.0 safe.fit c.requires.idle x.1 some (weighs ∙ inverse_bytes x.0.op x.0.reply c.in-Some-2.inverse inverse) in
+    let enough = undo_enough g.D.Device origin base k c.args.txn x.0 safe.fit c.requires.idle x.1 some (weighs ∙ inverse_bytes x.0.op x.0.reply c.in-Some-2.inverse inverse) in
     let n : Core g.row.D.Denot = record k { running = c.push_reserved.new.self; reserved = k.reserved - 106496 } in
     let writes : undo_bytes c.in-Some-2.inverse ≡ 106496 = inverse_writes x.0.op x.0.reply c.in-Some-2.inverse inverse in
-    undoing_in seen may_leave origin base k n c.args.txn x.0 s
+    undoing_in g.D.Device origin base k n c.args.txn x.0 s
     safe c.requires.aborting c.requires.idle x.1 (inverse ∙ ap Some (sym e.named.2)) (c.push_reserved.ensures.items ∙ ap (λ (rs : List OpScope). rs ++ s ∷ []) c.reserve.ensures.items)
     (number ∙ ap Some (numbered ∙ sym e.named.3)) (e.under origin.pages origin.relations origin.counters safe.fit.right within fresh) e.budget e.named.0 (e.named.1 ∙ c.new.ensures) back e.named.4 e.planning.0
     (e.left ∙ writes) (omega arith)
 
 pub overflow_add-number : goal.overflow_add-number
-overflow_add-number g c = let few = few_of g.D.Device.seen g.D.Device.may_leave c.args.self.now c.requires.safe in omega arith
+overflow_add-number g c = let few = few_of g.D.Device c.args.self.now c.requires.safe in omega arith
 
 pub begin_op-requires-clause-pool : goal.begin_op-requires-clause-pool
-begin_op-requires-clause-pool g c = (steady_of g.D.Device.seen g.D.Device.may_leave c.args.self.now c.requires.safe).frames
+begin_op-requires-clause-pool g c = (steady_of g.D.Device c.args.self.now c.requires.safe).frames
 
 pub returns-in_default-2-clause-nothing : goal.returns-in_default-2-clause-nothing
 returns-in_default-2-clause-nothing g c = λ is. let k = c.args.self.now in
@@ -97,7 +97,7 @@ returns-in-Ok-clause-fewer g c = λ is. let k = c.args.self.now in let e = c.in-
     let r : OpScope = s in let all = pages k.operations.store.pool in
     let back : s.undoes ≢ 0 = ∥∥₁_elim c.requires.safe (hlevel props) (λ (origin, base, safe).
     let number : last_operation (member_of k.live.members t) ≡ Some c.in-Some.last.number = sym c.in-Some.ensures.number in
-    let due = undo_fresh g.D.Device.seen g.D.Device.may_leave origin base k t (k.last + 1) c.in-Some.last.number safe (aborting_open (member_of k.live.members t) c.requires.aborting) (omega arith) number in
+    let due = undo_fresh g.D.Device origin base k t (k.last + 1) c.in-Some.last.number safe (aborting_open (member_of k.live.members t) c.requires.aborting) (omega arith) number in
     λ zero. due.1 (sym c.get-undoes.ensures ∙ sym e.named.3 ∙ zero)) in
     let n : Core g.row.D.Denot = record k { running = c.push_reserved.new.self; reserved = k.reserved - 106496 } in
     let items = c.push_reserved.ensures.items ∙ ap (λ (rs : List OpScope). rs ++ r ∷ []) c.reserve.ensures.items in
@@ -108,17 +108,23 @@ returns-in-Ok-clause-fewer g c = λ is. let k = c.args.self.now in let e = c.in-
 
 pub returns-in_err-reserve-clause-restartable : goal.returns-in_err-reserve-clause-restartable
 returns-in_err-reserve-clause-restartable g c = λ origin base later safe_k safe_n r. let k = c.args.self.now in
-    store_same g.D.Device.seen g.D.Device.may_leave origin k (record k { running = c.reserve.new.self }) base later safe_k safe_n refl (record { book = refl; commits = refl }) refl r
+    store_same g.D.Device origin k (record k { running = c.reserve.new.self }) base later safe_k safe_n refl (record { book = refl; commits = refl }) refl r
 
 pub returns-in-Err-clause-restartable : goal.returns-in-Err-clause-restartable
 returns-in-Err-clause-restartable g c = λ origin base later safe_k safe_n r. let k = c.args.self.now in
-    store_same g.D.Device.seen g.D.Device.may_leave origin k (record k { running = c.reserve.new.self }) base later safe_k safe_n refl (record { book = refl; commits = refl }) refl r
+    store_same g.D.Device origin k (record k { running = c.reserve.new.self }) base later safe_k safe_n refl (record { book = refl; commits = refl }) refl r
 
 pub returns-in-Ok-clause-restartable : goal.returns-in-Ok-clause-restartable
 returns-in-Ok-clause-restartable g c = λ origin base later safe_k safe_n r. let k = c.args.self.now in
-    store_same g.D.Device.seen g.D.Device.may_leave origin k (record k { running = c.push_reserved.new.self; last = k.last + 1; reserved = k.reserved - 106496 }) base later safe_k safe_n refl (record { book = refl; commits = refl }) refl r
+    store_same g.D.Device origin k (record k { running = c.push_reserved.new.self; last = k.last + 1; reserved = k.reserved - 106496 }) base later safe_k safe_n refl (record { book = refl; commits = refl }) refl r
 
-pub returns-in-Ok-clause-others : goal.returns-in-Ok-clause-others
-returns-in-Ok-clause-others g c = λ u other. let s = c.in-Ok.scope in
-    let items = c.push_reserved.ensures.items ∙ ap (λ (rs : List OpScope). rs ++ s ∷ []) c.reserve.ensures.items in
-    ap (λ (rs : List OpScope). steps_in rs u) items ∙ steps_push_other c.args.self.now.running.items s u (λ is. other (is ∙ c.in-Ok.ensures.named.0))
+pub returns-in-Ok-clause-keeps : goal.returns-in-Ok-clause-keeps
+returns-in-Ok-clause-keeps g c = record {
+  store = search rules;
+  locks = search rules;
+  live = search rules;
+  commits = search rules;
+  others = λ u other. let s = c.in-Ok.scope in
+      let items = c.push_reserved.ensures.items ∙ ap (λ (rs : List OpScope). rs ++ s ∷ []) c.reserve.ensures.items in
+      ap (λ (rs : List OpScope). steps_in rs u) items ∙ steps_push_other c.args.self.now.running.items s u (λ is. other (is ∙ c.in-Ok.ensures.named.0));
+}

@@ -9,18 +9,18 @@ pub invariant_of-self-2 : goal.invariant_of-self-2
 invariant_of-self-2 g c =
     let D = g.D.Device in let b = g.J.Naming.base in let i = c.self.invariant in
     let list = c.self.inside.end.view.list in let k = c.in-Stands.kernel in let n = c.abort_step.new.self in
-    let on = goes_on D.seen D.may_leave b list c.self.inside.standing k n c.in-Stands.is (λ s shows. aborts_one D.seen D.may_leave b n c.args.txn c.abort_step.result s (c.abort_step.ensures.aborted (base_of b) s shows)) c.abort_step.ensures.restarts i.4 in
+    let on = goes_on b list c.self.inside.standing k n c.in-Stands.is (λ s shows. aborts_one b n c.args.txn c.abort_step.result s (c.abort_step.ensures.aborted (base_of b) s shows)) c.abort_step.ensures.restarts i.4 in
     (i.0, i.1, i.2, i.3, on.0)
 
 pub returns-clause-kernel : goal.returns-clause-kernel
 returns-clause-kernel g c =
     let D = g.D.Device in let e = c.abort_step.ensures in
-    asked D.seen D.may_leave c.self.inside.standing c.in-Stands.kernel c.abort_step.new.self c.self.inside.end.view.list _ _ _ c.in-Stands.is c.self.view_is
-    (record { may = e.may; why = e.cause; out = e.out; aborted = e.aborted })
+    asked c.self.inside.standing c.in-Stands.kernel c.abort_step.new.self c.self.inside.end.view.list _ _ _ c.in-Stands.is c.self.view_is
+    (record { may = e.may; why = e.cause; out = e.leaves.out; aborted = e.aborted })
 
 pub returns-clause-book : goal.returns-clause-book
 returns-clause-book g c =
     let D = g.D.Device in let b = g.J.Naming.base in let i = c.self.invariant in
     let list = c.self.inside.end.view.list in let k = c.in-Stands.kernel in let n = c.abort_step.new.self in
-    let on = goes_on D.seen D.may_leave b list c.self.inside.standing k n c.in-Stands.is (λ s shows. aborts_one D.seen D.may_leave b n c.args.txn c.abort_step.result s (c.abort_step.ensures.aborted (base_of b) s shows)) c.abort_step.ensures.restarts i.4 in
+    let on = goes_on b list c.self.inside.standing k n c.in-Stands.is (λ s shows. aborts_one b n c.args.txn c.abort_step.result s (c.abort_step.ensures.aborted (base_of b) s shows)) c.abort_step.ensures.restarts i.4 in
     on.1 ∙ ap (λ (l : LockedSeen _). l.book) c.self.view_is

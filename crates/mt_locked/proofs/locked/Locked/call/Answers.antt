@@ -9,18 +9,18 @@ pub invariant_of-self-2 : goal.invariant_of-self-2
 invariant_of-self-2 g c =
     let D = g.D.Device in let b = g.J.Naming.base in let i = c.self.invariant in
     let list = c.self.inside.end.view.list in let k = c.in-Stands.kernel in let n = c.call.new.self in
-    let on = goes_on D.seen D.may_leave b list c.self.inside.standing k n c.in-Stands.is (λ s shows. calls_one D.seen D.may_leave b n c.args.txn c.args.op.now c.call.result s (c.call.ensures.called (base_of b) s shows)) c.call.ensures.restarts i.4 in
+    let on = goes_on b list c.self.inside.standing k n c.in-Stands.is (λ s shows. calls_one b n c.args.txn c.args.op.now c.call.result s (c.call.ensures.called (base_of b) s shows)) c.call.ensures.restarts i.4 in
     (i.0, i.1, i.2, i.3, on.0)
 
 pub returns-clause-kernel : goal.returns-clause-kernel
 returns-clause-kernel g c =
     let D = g.D.Device in let e = c.call.ensures in
-    asked D.seen D.may_leave c.self.inside.standing c.in-Stands.kernel c.call.new.self c.self.inside.end.view.list _ _ _ c.in-Stands.is c.self.view_is
+    asked c.self.inside.standing c.in-Stands.kernel c.call.new.self c.self.inside.end.view.list _ _ _ c.in-Stands.is c.self.view_is
     (record { early = e.early; answer = e.answer; states = e.states; commits = e.commits })
 
 pub returns-clause-book : goal.returns-clause-book
 returns-clause-book g c =
     let D = g.D.Device in let b = g.J.Naming.base in let i = c.self.invariant in
     let list = c.self.inside.end.view.list in let k = c.in-Stands.kernel in let n = c.call.new.self in
-    let on = goes_on D.seen D.may_leave b list c.self.inside.standing k n c.in-Stands.is (λ s shows. calls_one D.seen D.may_leave b n c.args.txn c.args.op.now c.call.result s (c.call.ensures.called (base_of b) s shows)) c.call.ensures.restarts i.4 in
+    let on = goes_on b list c.self.inside.standing k n c.in-Stands.is (λ s shows. calls_one b n c.args.txn c.args.op.now c.call.result s (c.call.ensures.called (base_of b) s shows)) c.call.ensures.restarts i.4 in
     on.1 ∙ ap (λ (l : LockedSeen _). l.book) c.self.view_is

@@ -22,8 +22,8 @@ enter-requires-clause-legal g c =
     let list = c.self.inside.end.view.list in
     let there = subst (λ (x : Held). slice_get (book_in standing (dones x.view.list)) c.check-at.result ≡ Some e.done) s.same (h.is.0 c.if-not-has.false) in
     let book = subst (λ (x : Held). IsLegal b (book_in standing (dones x.view.list))) s.same (h.legal c.if-not-has.false) in
-    let on = entered_on D.seen D.may_leave b list e c.check-at.result standing s.stands there i.4 in
-    let front = subst (IsPrefix (dones (list ++ e ∷ []))) on.1 (front_of D.seen D.may_leave b (dones (list ++ e ∷ [])) standing on.0) in
+    let on = entered_on b list e c.check-at.result standing s.stands there i.4 in
+    let front = subst (IsPrefix (dones (list ++ e ∷ []))) on.1 (front_of b (dones (list ++ e ∷ [])) standing on.0) in
     let legal = subst (λ (x : Base). IsLegal x (dones (list ++ e ∷ []))) (sym i.1) (front_legal b (dones (list ++ e ∷ [])) (book_in standing (dones list)) front book) in
     subst (λ (x : Held). IsLegal x.view.base (dones (x.view.list ++ e ∷ []))) (sym s.same) legal
 
@@ -38,13 +38,13 @@ invariant_of-self-3 g c =
     let standing = c.self.inside.standing in
     let list = c.self.inside.end.view.list in
     let there = subst (λ (x : Held). slice_get (book_in standing (dones x.view.list)) c.check-at.result ≡ Some e.done) s.same (h.is.0 c.if-not-has.false) in
-    let on = entered_on D.seen D.may_leave b list e c.check-at.result standing s.stands there i.4 in
+    let on = entered_on b list e c.check-at.result standing s.stands there i.4 in
     let now = n.list ∙ ap (λ (x : Held). x.view.list ++ e ∷ []) s.same in (
       n.mark.0 ∙ (ap (λ (x : Held). x.mark) s.same ∙ i.0),
       n.end.0.1 ∙ (ap (λ (x : Held). x.view.base) s.same ∙ i.1),
       n.end.0.2 ∙ (ap (λ (x : Held). x.view.book) s.same ∙ i.2),
       n.end.1,
-      subst (λ (l : List Entry). KeepsHistory D.seen D.may_leave b (dones l) standing) (sym now) on.0,
+      subst (λ (l : List Entry). KeepsHistory b (dones l) standing) (sym now) on.0,
     )
 
 pub returns-clause-book : goal.returns-clause-book
@@ -58,7 +58,7 @@ returns-clause-book g c =
     let standing = c.self.inside.standing in
     let list = c.self.inside.end.view.list in
     let there = subst (λ (x : Held). slice_get (book_in standing (dones x.view.list)) c.check-at.result ≡ Some e.done) s.same (h.is.0 c.if-not-has.false) in
-    let on = entered_on D.seen D.may_leave b list e c.check-at.result standing s.stands there i.4 in
+    let on = entered_on b list e c.check-at.result standing s.stands there i.4 in
     let now = n.list ∙ ap (λ (x : Held). x.view.list ++ e ∷ []) s.same in
     ap (λ (l : List Entry). book_in standing (dones l)) now ∙ (on.1 ∙ ap (λ (l : LockedSeen _). l.book) c.self.view_is)
 
@@ -74,8 +74,8 @@ returns-clause-entered g c =
     let list = c.self.inside.end.view.list in
     let there = subst (λ (x : Held). slice_get (book_in standing (dones x.view.list)) c.check-at.result ≡ Some e.done) s.same (h.is.0 c.if-not-has.false) in
     let book = subst (λ (x : Held). IsLegal b (book_in standing (dones x.view.list))) s.same (h.legal c.if-not-has.false) in
-    let on = entered_on D.seen D.may_leave b list e c.check-at.result standing s.stands there i.4 in
-    let front = subst (IsPrefix (dones (list ++ e ∷ []))) on.1 (front_of D.seen D.may_leave b (dones (list ++ e ∷ [])) standing on.0) in
+    let on = entered_on b list e c.check-at.result standing s.stands there i.4 in
+    let front = subst (IsPrefix (dones (list ++ e ∷ []))) on.1 (front_of b (dones (list ++ e ∷ [])) standing on.0) in
     let locked : LockedSeen _ = seen_in standing list in
     let old : PassSeen = record { number = c.pass.inside.number; seen = c.pass.inside.seat.view.list } in
     let new : PassSeen = record { number = c.pass.inside.number; seen = c.enter.new.seat.view.list } in

@@ -10,18 +10,18 @@ pub invariant_of-self-2 : goal.invariant_of-self-2
 invariant_of-self-2 g c =
     let D = g.D.Device in let b = g.J.Naming.base in let i = c.self.invariant in
     let h = dones c.self.inside.end.view.list in let k = c.in-Stands.kernel in let n = c.force_step.new.self in
-    let on = forces_on D.seen D.may_leave b h c.self.inside.standing k n c.force_step.result c.in-Stands.is (λ s shows. c.force_step.ensures.forced (base_of b) s shows) c.force_step.ensures.restarts i.4 in
+    let on = forces_on b h c.self.inside.standing k n c.force_step.result c.in-Stands.is (λ s shows. c.force_step.ensures.forced (base_of b) s shows) c.force_step.ensures.restarts i.4 in
     (i.0, i.1, i.2, i.3, on.0)
 
 pub returns-clause-book : goal.returns-clause-book
 returns-clause-book g c =
     let D = g.D.Device in let b = g.J.Naming.base in let i = c.self.invariant in
     let h = dones c.self.inside.end.view.list in let k = c.in-Stands.kernel in let n = c.force_step.new.self in
-    let on = forces_on D.seen D.may_leave b h c.self.inside.standing k n c.force_step.result c.in-Stands.is (λ s shows. c.force_step.ensures.forced (base_of b) s shows) c.force_step.ensures.restarts i.4 in
+    let on = forces_on b h c.self.inside.standing k n c.force_step.result c.in-Stands.is (λ s shows. c.force_step.ensures.forced (base_of b) s shows) c.force_step.ensures.restarts i.4 in
     subst (λ (l : LockedSeen _). IsPrefix l.book n.core.book.items) c.self.view_is on.1
 
 pub returns-clause-kernel : goal.returns-clause-kernel
 returns-clause-kernel g c =
     let D = g.D.Device in let e = c.force_step.ensures in
-    asked D.seen D.may_leave c.self.inside.standing c.in-Stands.kernel c.force_step.new.self c.self.inside.end.view.list _ _ _ c.in-Stands.is c.self.view_is
-    (record { why = e.cause; forced = e.log; unappended = e.appended })
+    asked c.self.inside.standing c.in-Stands.kernel c.force_step.new.self c.self.inside.end.view.list _ _ _ c.in-Stands.is c.self.view_is
+    (record { why = e.cause; forced = e.log; unappended = e.keeps.appended })

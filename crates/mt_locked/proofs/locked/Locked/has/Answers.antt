@@ -12,7 +12,7 @@ pub returns-in-Stands-clause-legal : goal.returns-in-Stands-clause-legal
 returns-in-Stands-clause-legal g c = λ _.
     let D = g.D.Device in let b = g.J.Naming.base in
     subst (λ (l : LockedSeen _). IsLegal b l.book) c.self.view_is
-    (legal_in D.seen D.may_leave b c.in-Stands.kernel c.self.inside.standing (dones c.self.inside.end.view.list) c.in-Stands.is c.self.invariant.4)
+    (legal_in b c.in-Stands.kernel c.self.inside.standing (dones c.self.inside.end.view.list) c.in-Stands.is c.self.invariant.4)
 
 pub returns-in-Ended-clause-is : goal.returns-in-Ended-clause-is
 returns-in-Ended-clause-is g c =

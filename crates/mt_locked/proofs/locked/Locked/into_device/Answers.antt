@@ -9,5 +9,5 @@ use Rattle.mt_locked.proofs.locked.Locked.into_device.Goals as goal
 pub returns : goal.returns
 returns g c =
     let D = g.D.Device in let b = g.J.Naming.base in let inside = c.self.inside in let given = c.into_device.ensures in
-    subst (λ (book : List Committed). LeavesBook D.may_leave b book c.into_device.result) (ap (λ (l : LockedSeen _). l.book) c.self.view_is)
-    (leaves_book D.seen D.may_leave b (dones inside.end.view.list) inside.standing c.into_device.result given.device given.found c.self.invariant.4)
+    subst (λ (book : List Committed). LeavesBook D b book c.into_device.result) (ap (λ (l : LockedSeen _). l.book) c.self.view_is)
+    (leaves_book b (dones inside.end.view.list) inside.standing c.into_device.result given.device given.found c.self.invariant.4)

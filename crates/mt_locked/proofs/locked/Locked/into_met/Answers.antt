@@ -29,9 +29,9 @@ returns-in-Stands-clause-count g c =
 
 pub returns-in-Stands-clause-began : goal.returns-in-Stands-clause-began
 returns-in-Stands-clause-began g c = let D = g.D.Device in
-    (stands_on D.seen D.may_leave g.J.Naming.base (dones c.self.inside.end.view.list) c.self.inside.standing c.in-Stands.kernel c.in-Stands.is c.self.invariant.4).0
+    (stands_on g.J.Naming.base (dones c.self.inside.end.view.list) c.self.inside.standing c.in-Stands.kernel c.in-Stands.is c.self.invariant.4).0
 
 pub returns-in-Stands-clause-idle : goal.returns-in-Stands-clause-idle
 returns-in-Stands-clause-idle g c = λ well. let D = g.D.Device in let b = g.J.Naming.base in let k = c.in-Stands.kernel in
-    let began = (stands_on D.seen D.may_leave b (dones c.self.inside.end.view.list) c.self.inside.standing k c.in-Stands.is c.self.invariant.4).0 in
-    idle_of D.seen D.may_leave b k began (c.has_ended.ensures c.if-has_ended.true well)
+    let began = (stands_on b (dones c.self.inside.end.view.list) c.self.inside.standing k c.in-Stands.is c.self.invariant.4).0 in
+    idle_of b k began (c.has_ended.ensures c.if-has_ended.true well)

@@ -11,7 +11,7 @@ invariant_of-self g c =
     let D = g.D.Device in let b = g.J.Naming.base in let i = c.self.invariant in let s = c.check-entered.ensures in
     let list = c.self.inside.end.view.list in let new = c.replace_with-outcome.new.dest in
     let kept = c.replace_with-outcome.ensures.keeps b (dones list) (dones-length list ∙ sym s.stands) i.4 in
-    subst (λ (x : Held). (x.mark ≡ g.J.Naming.mark) × (x.view.base ≡ b) × (x.view.book ≡ g.J.Naming.book) × IsConfirmed x.view × KeepsHistory D.seen D.may_leave b (dones x.view.list) new)
+    subst (λ (x : Held). (x.mark ≡ g.J.Naming.mark) × (x.view.base ≡ b) × (x.view.book ≡ g.J.Naming.book) × IsConfirmed x.view × KeepsHistory b (dones x.view.list) new)
     (sym s.same) (i.0, i.1, i.2, i.3, kept.0)
 
 pub invariant_of-self-else-ne : goal.invariant_of-self-else-ne
@@ -19,7 +19,7 @@ invariant_of-self-else-ne g c =
     let D = g.D.Device in let b = g.J.Naming.base in let i = c.self.invariant in let s = c.check-entered.ensures in
     let list = c.self.inside.end.view.list in let new = c.replace_with-outcome.new.dest in
     let kept = c.replace_with-outcome.ensures.keeps b (dones list) (dones-length list ∙ sym s.stands) i.4 in
-    subst (λ (x : Held). (x.mark ≡ g.J.Naming.mark) × (x.view.base ≡ b) × (x.view.book ≡ g.J.Naming.book) × IsConfirmed x.view × KeepsHistory D.seen D.may_leave b (dones x.view.list) new)
+    subst (λ (x : Held). (x.mark ≡ g.J.Naming.mark) × (x.view.base ≡ b) × (x.view.book ≡ g.J.Naming.book) × IsConfirmed x.view × KeepsHistory b (dones x.view.list) new)
     (sym s.same) (i.0, i.1, i.2, i.3, kept.0)
 
 pub returns-then-ne-clause-why : goal.returns-then-ne-clause-why

@@ -9,18 +9,18 @@ pub invariant_of-self-2 : goal.invariant_of-self-2
 invariant_of-self-2 g c =
     let D = g.D.Device in let b = g.J.Naming.base in let i = c.self.invariant in
     let list = c.self.inside.end.view.list in let k = c.in-Stands.kernel in let n = c.step.new.self in
-    let on = goes_on D.seen D.may_leave b list c.self.inside.standing k n c.in-Stands.is (λ s shows. steps_one D.seen D.may_leave b k n c.args.txn c.step.result c.step.ensures.may s shows (c.step.ensures.stepped (base_of b) s shows)) c.step.ensures.restarts i.4 in
+    let on = goes_on b list c.self.inside.standing k n c.in-Stands.is (λ s shows. steps_one b k n c.args.txn c.step.result c.step.ensures.may s shows (c.step.ensures.stepped (base_of b) s shows)) c.step.ensures.restarts i.4 in
     (i.0, i.1, i.2, i.3, on.0)
 
 pub returns-clause-kernel : goal.returns-clause-kernel
 returns-clause-kernel g c =
     let D = g.D.Device in let e = c.step.ensures in
-    asked D.seen D.may_leave c.self.inside.standing c.in-Stands.kernel c.step.new.self c.self.inside.end.view.list _ _ _ c.in-Stands.is c.self.view_is
+    asked c.self.inside.standing c.in-Stands.kernel c.step.new.self c.self.inside.end.view.list _ _ _ c.in-Stands.is c.self.view_is
     (record { may = e.may; why = e.cause; stepped = e.stepped })
 
 pub returns-clause-book : goal.returns-clause-book
 returns-clause-book g c =
     let D = g.D.Device in let b = g.J.Naming.base in let i = c.self.invariant in
     let list = c.self.inside.end.view.list in let k = c.in-Stands.kernel in let n = c.step.new.self in
-    let on = goes_on D.seen D.may_leave b list c.self.inside.standing k n c.in-Stands.is (λ s shows. steps_one D.seen D.may_leave b k n c.args.txn c.step.result c.step.ensures.may s shows (c.step.ensures.stepped (base_of b) s shows)) c.step.ensures.restarts i.4 in
+    let on = goes_on b list c.self.inside.standing k n c.in-Stands.is (λ s shows. steps_one b k n c.args.txn c.step.result c.step.ensures.may s shows (c.step.ensures.stepped (base_of b) s shows)) c.step.ensures.restarts i.4 in
     on.1 ∙ ap (λ (l : LockedSeen _). l.book) c.self.view_is

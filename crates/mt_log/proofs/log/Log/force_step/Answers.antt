@@ -23,12 +23,12 @@ returns-in-Failed-clause-steps g c = record { only_device = refl; some = λ idle
 pub returns-in-Failed-clause-moments : goal.returns-in-Failed-clause-moments
 returns-in-Failed-clause-moments g c = let d = c.args.device.now in
     started g.D.Device.moment g.D.Device.left_since d _
-    (λ k left. scans_coming g.D.Device.seen g.D.Device.may_leave c.args.self.now d c.requires.on k (g.met.D.Device.only_now d k left))
+    (λ k left. scans_coming g.D.Device c.args.self.now d c.requires.on k (g.met.D.Device.only_now d k left))
 
 pub returns-then-self-eq0-clause-moments : goal.returns-then-self-eq0-clause-moments
 returns-then-self-eq0-clause-moments g c = let d = c.args.device.now in
     started g.D.Device.moment g.D.Device.left_since d _
-    (λ k left. scans_coming g.D.Device.seen g.D.Device.may_leave c.args.self.now d c.requires.on k (g.met.D.Device.only_now d k left))
+    (λ k left. scans_coming g.D.Device c.args.self.now d c.requires.on k (g.met.D.Device.only_now d k left))
 
 pub returns-in-Forcing-clause-steps : goal.returns-in-Forcing-clause-steps
 returns-in-Forcing-clause-steps g c =

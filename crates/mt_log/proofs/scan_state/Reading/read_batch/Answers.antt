@@ -3,8 +3,8 @@ use Rattle.std.specs.Int.{w32, to_be_bytes}
 use Rattle.mt_disk.specs.Disk.{Has}
 use Rattle.mt_frame.specs.declared.records.Record.{Record}
 use Rattle.mt_frame.specs.Grammar.{IsBody, body_text, batch_text}
-use Rattle.mt_frame.specs.History.{MayFollow}
-use Rattle.mt_frame.specs.Known.{Knows}
+use Rattle.mt_area_rules.specs.History.{MayFollow}
+use Rattle.mt_area_rules.specs.Known.{Knows}
 use Rattle.mt_log.specs.Admitting.{AreAdmitted}
 use Rattle.mt_log.specs.Batch.{Stands, joined}
 use Rattle.mt_log.specs.declared.batch.Batch.{Batch}

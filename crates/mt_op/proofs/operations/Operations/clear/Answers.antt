@@ -25,13 +25,13 @@ overflow_add-scope g c = let used = c.used-before.ensures in let most = area_sma
 
 pub overflow_sub-scope : goal.overflow_sub-scope
 overflow_sub-scope g c = let took = c.in_ok-append_record.ensures.used in let same = ap (λ (l : Log). used l) c.put_back.ensures.log in let was = c.used-before.ensures in let now = c.used.ensures in
-    let kept : 22 ≤ c.args.scope.now.left = ∥∥₁_elim c.requires.right (hlevel props) (λ (opening, relations, counters, right, k). kept_to_drop relations counters (world g.D.Device.seen opening c.args.self.now) c.args.scope.now k c.requires.stage c.requires.last c.requires.budget) in omega (arith, took, same, was, now, kept)
+    let kept : 22 ≤ c.args.scope.now.left = ∥∥₁_elim c.requires.right (hlevel props) (λ (opening, relations, counters, right, k). kept_to_drop relations counters (world g.D.Device opening c.args.self.now) c.args.scope.now k c.requires.stage c.requires.last c.requires.budget) in omega (arith, took, same, was, now, kept)
 
 pub put_back-requires-clause-logged : goal.put_back-requires-clause-logged
 put_back-requires-clause-logged g c =
     let (change, is, same) = c.requires.page in
     let last = c.requires.last in
-    let ready = returnable_one g.D.Device.seen g.D.Device.may_leave c.args.self.now c.args.scope.now change c.requires.right c.requires.stage (omega arith) is in
+    let ready = returnable_one g.D.Device c.args.self.now c.args.scope.now change c.requires.right c.requires.stage (omega arith) is in
     subst (λ (p : Pool). 0 < waits_for p c.args.page) (sym c.append_record.ensures.pool) (subst (λ (p : ℕ). 0 < waits_for c.args.self.now.store.pool p) same ready.logged)
 
 pub returns-in_err-append_record : goal.returns-in_err-append_record
@@ -42,9 +42,9 @@ returns-in_err-append_record g c =
     let is = p.1 ∙ ap Err (p.2 ∙ e.only_memory) in
     record {
       cleared = rw is tt;
-      back = subst (PutsOneBack seen may_leave o n s s) (sym is) (record {
+      back = subst (PutsOneBack g.D.Device o n s s) (sym is) (record {
         goes = λ opening relations counters right k. let rests = e.rests opening in
-            (right_rests seen may_leave opening relations counters o n right (f.kept opening right.kept) rests f.map f.rooms, rests_goes_as relations counters (world seen opening o) (world seen opening n) s rests k);
+            (right_rests g.D.Device opening relations counters o n right (f.kept opening right.kept) rests f.map f.rooms, rests_goes_as relations counters (world g.D.Device opening o) (world g.D.Device opening n) s rests k);
         device = f.device;
         more = λ is. absurd cc;
         clear = λ is. absurd cc;
@@ -69,8 +69,8 @@ returns g c = let f = c.append_record.ensures in let b = c.put_back.ensures in l
       cleared = refl;
       back = record {
         goes = λ opening relations counters right k.
-            let back = notes_back (world seen opening o) (world seen opening m) (world seen opening n) s change (OpDropped s.txn s.number) (c.in_ok-append_record.ensures.notes opening) (b.back opening change same) in
-            last_goes seen may_leave opening relations counters o n s change right k c.requires.stage is (b.kept opening (f.kept opening right.kept)) (b.map ∙ f.map) (b.rooms ∙ f.rooms)
+            let back = notes_back (world g.D.Device opening o) (world g.D.Device opening m) (world g.D.Device opening n) s change (OpDropped s.txn s.number) (c.in_ok-append_record.ensures.notes opening) (b.back opening change same) in
+            last_goes g.D.Device opening relations counters o n s change right k c.requires.stage is (b.kept opening (f.kept opening right.kept)) (b.map ∙ f.map) (b.rooms ∙ f.rooms)
             (record s { left = s.left + c.used-before.result - c.used.result; stage = Cleared; standing = 0 }) back c.requires.last
             (record { op = record { txn = refl; number = refl; op = refl; undoes = refl; split = refl; total = refl }; room = refl; guards = refl; seen = refl; changes = refl; reply = refl }) refl;
         device = b.device ∙ f.device;
@@ -78,7 +78,7 @@ returns g c = let f = c.append_record.ensures in let b = c.put_back.ensures in l
         clear = λ is. (refl, (let last = c.requires.last in omega arith));
         never = λ is. absurd cc;
         log = let took = c.in_ok-append_record.ensures.used in let same = ap (λ (l : Log). used l) b.log in let was = c.used-before.ensures in let now = c.used.ensures in
-            let kept : 22 ≤ s.left = ∥∥₁_elim c.requires.right (hlevel props) (λ (opening, relations, counters, right, k). kept_to_drop relations counters (world seen opening o) s k c.requires.stage c.requires.last c.requires.budget) in omega (arith, took, same, was, now, kept);
+            let kept : 22 ≤ s.left = ∥∥₁_elim c.requires.right (hlevel props) (λ (opening, relations, counters, right, k). kept_to_drop relations counters (world g.D.Device opening o) s k c.requires.stage c.requires.last c.requires.budget) in omega (arith, took, same, was, now, kept);
         area = ap (λ (l : Log). area_size l) b.log ∙ f.area;
         durable = ap (λ (l : Log). durable l) b.log ∙ f.durable;
         map = b.map ∙ f.map;
@@ -91,27 +91,27 @@ returns g c = let f = c.append_record.ensures in let b = c.put_back.ensures in l
     }
 
 pub append_record-requires-clause-kept : goal.append_record-requires-clause-kept
-append_record-requires-clause-kept g c = (known g.D.Device.seen g.D.Device.may_leave c.args.self.now c.args.scope.now c.requires.right).kept
+append_record-requires-clause-kept g c = (known g.D.Device c.args.self.now c.args.scope.now c.requires.right).kept
 
 pub put_back-requires-clause-kept : goal.put_back-requires-clause-kept
-put_back-requires-clause-kept g c = ∥∥₁_map (known g.D.Device.seen g.D.Device.may_leave c.args.self.now c.args.scope.now c.requires.right).kept (λ k. (k.0, c.append_record.ensures.kept k.0 k.1))
+put_back-requires-clause-kept g c = ∥∥₁_map (known g.D.Device c.args.self.now c.args.scope.now c.requires.right).kept (λ k. (k.0, c.append_record.ensures.kept k.0 k.1))
 
 pub append_record-requires-clause-grammar : goal.append_record-requires-clause-grammar
-append_record-requires-clause-grammar g c = let k = known g.D.Device.seen g.D.Device.may_leave c.args.self.now c.args.scope.now c.requires.right in (k.txn, k.op)
+append_record-requires-clause-grammar g c = let k = known g.D.Device c.args.self.now c.args.scope.now c.requires.right in (k.txn, k.op)
 
 pub append_record-requires-clause-rules : goal.append_record-requires-clause-rules
 append_record-requires-clause-rules g c = let s = c.args.scope.now in let last = c.requires.last in
-    drop_stands (appended c.args.self.now.store.log) s.txn s.number (known g.D.Device.seen g.D.Device.may_leave c.args.self.now c.args.scope.now c.requires.right).txn (standing_one g.D.Device.seen g.D.Device.may_leave c.args.self.now c.args.scope.now c.requires.right c.requires.stage (omega arith)).unfinished
+    drop_stands (appended c.args.self.now.store.log) s.txn s.number (known g.D.Device c.args.self.now c.args.scope.now c.requires.right).txn (standing_one g.D.Device c.args.self.now c.args.scope.now c.requires.right c.requires.stage (omega arith)).unfinished
 
 pub append_record-requires-clause-fits : goal.append_record-requires-clause-fits
 append_record-requires-clause-fits g c = let room = c.requires.room in
-    let kept : 22 ≤ c.args.scope.now.left = ∥∥₁_elim c.requires.right (hlevel props) (λ (opening, relations, counters, right, k). kept_to_drop relations counters (world g.D.Device.seen opening c.args.self.now) c.args.scope.now k c.requires.stage c.requires.last c.requires.budget) in
+    let kept : 22 ≤ c.args.scope.now.left = ∥∥₁_elim c.requires.right (hlevel props) (λ (opening, relations, counters, right, k). kept_to_drop relations counters (world g.D.Device opening c.args.self.now) c.args.scope.now k c.requires.stage c.requires.last c.requires.budget) in
     omega (arith, room, kept)
 
 pub put_back-requires-clause-looked : goal.put_back-requires-clause-looked
 put_back-requires-clause-looked g c = let (change, is, same) = c.requires.page in let last = c.requires.last in
-    let ready = returnable_one g.D.Device.seen g.D.Device.may_leave c.args.self.now c.args.scope.now change c.requires.right c.requires.stage (omega arith) is in
+    let ready = returnable_one g.D.Device c.args.self.now c.args.scope.now change c.requires.right c.requires.stage (omega arith) is in
     subst (λ (p : ℕ). IsSome (looked c.args.scope.now p)) same ready.some
 
 pub put_back-requires-clause-whole : goal.put_back-requires-clause-whole
-put_back-requires-clause-whole g c = (known g.D.Device.seen g.D.Device.may_leave c.args.self.now c.args.scope.now c.requires.right).whole
+put_back-requires-clause-whole g c = (known g.D.Device c.args.self.now c.args.scope.now c.requires.right).whole

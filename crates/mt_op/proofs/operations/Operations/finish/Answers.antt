@@ -35,7 +35,7 @@ use Rattle.mt_op.proofs.operations.Operations.finish.Goals as goal
 use Rattle.mt_op.proofs.operations.Operations.finish.Goals.{in-Some+in_ok-append_end, in_default}
 
 pub outcome-requires : goal.outcome-requires
-outcome-requires g c = ∥∥₁_elim c.requires.right (hlevel props) (λ (opening, relations, counters, right, k, few, some). has_reply relations counters (world g.D.Device.seen opening c.args.self.now) c.args.scope.now k c.requires.writing)
+outcome-requires g c = ∥∥₁_elim c.requires.right (hlevel props) (λ (opening, relations, counters, right, k, few, some). has_reply relations counters (world g.D.Device opening c.args.self.now) c.args.scope.now k c.requires.writing)
 
 pub made_ready-reply-requires : goal.made_ready-reply-requires
 made_ready-reply-requires g c = ∥∥₁_elim c.requires.right (hlevel props) (λ (opening, relations, counters, right, k, few, some).
@@ -43,17 +43,17 @@ made_ready-reply-requires g c = ∥∥₁_elim c.requires.right (hlevel props) (
       | in-Some+in_ok-append_end w ↦ ap (λ (t : OpScope). t.reply) (w.scope-is ∙ w.append_end.ensures.scope)
       | in_default w ↦ ap (λ (t : OpScope). t.reply) w.scope-is
     ] in
-    subst (λ (r : Option Reply). IsSome r) (sym own) (has_reply relations counters (world g.D.Device.seen opening c.args.self.now) c.args.scope.now k c.requires.writing))
+    subst (λ (r : Option Reply). IsSome r) (sym own) (has_reply relations counters (world g.D.Device opening c.args.self.now) c.args.scope.now k c.requires.writing))
 
 pub append_end-requires-clause-numbers : goal.append_end-requires-clause-numbers
-append_end-requires-clause-numbers g c = let k = known_within g.D.Device.seen g.D.Device.may_leave c.args.self.now c.args.scope.now c.requires.right in (k.txn, k.op)
+append_end-requires-clause-numbers g c = let k = known_within g.D.Device c.args.self.now c.args.scope.now c.requires.right in (k.txn, k.op)
 
 pub append_end-requires-clause-operation : goal.append_end-requires-clause-operation
-append_end-requires-clause-operation g c = ∥∥₁_elim c.requires.right (Operation-prop c.in-Some.done) (λ (opening, relations, counters, right, k, few, some). let plan = planned_reply relations counters (world g.D.Device.seen opening c.args.self.now) c.args.scope.now _ right.sound k c.requires.writing c.in_ok-answer.ensures.reply in
+append_end-requires-clause-operation g c = ∥∥₁_elim c.requires.right (Operation-prop c.in-Some.done) (λ (opening, relations, counters, right, k, few, some). let plan = planned_reply relations counters (world g.D.Device opening c.args.self.now) c.args.scope.now _ right.sound k c.requires.writing c.in_ok-answer.ensures.reply in
     subst (λ (x : Option LoggedOp). IfSome x IsOperation) c.in-Some.is (c.in_ok-answer.ensures.operation relations counters few some k.within plan.small))
 
 pub append_end-requires-clause-rules : goal.append_end-requires-clause-rules
-append_end-requires-clause-rules g c = ∥∥₁_elim c.requires.right (hlevel props) (λ (opening, relations, counters, right, k, few, some). let w = world g.D.Device.seen opening c.args.self.now in
+append_end-requires-clause-rules g c = ∥∥₁_elim c.requires.right (hlevel props) (λ (opening, relations, counters, right, k, few, some). let w = world g.D.Device opening c.args.self.now in
     end_stands w c.args.scope.now c.in-Some.done k.txn (open_still relations counters w c.args.scope.now _ right.sound k c.requires.writing c.in_ok-answer.ensures.reply))
 
 pub settle-requires-clause-short : goal.settle-requires-clause-short
@@ -70,7 +70,7 @@ settle-requires-clause-short g c = ∥∥₁_map c.requires.right (λ (opening, 
       | in-Some+in_ok-append_end w ↦ ap (λ (t : OpScope). own_needs t.op t.split) (w.scope-is ∙ w.append_end.ensures.scope)
       | in_default w ↦ ap (λ (t : OpScope). own_needs t.op t.split) w.scope-is
     ] in
-    settle_asks seen g.D.Device.may_leave opening relations counters o s _ right k c.requires.writing c.in_ok-answer.ensures.reply c.match-done.self.map c.match-done.scope map_same changes c.pages_for-claim.result own)
+    settle_asks g.D.Device opening relations counters o s _ right k c.requires.writing c.in_ok-answer.ensures.reply c.match-done.self.map c.match-done.scope map_same changes c.pages_for-claim.result own)
 
 pub settle-requires-clause-claimed : goal.settle-requires-clause-claimed
 settle-requires-clause-claimed g c = ∥∥₁_elim c.requires.right (hlevel props) (λ (opening, relations, counters, right, k, few, some). let seen = g.D.Device.seen in let s = c.args.scope.now in let o = c.args.self.now in
@@ -86,7 +86,7 @@ settle-requires-clause-claimed g c = ∥∥₁_elim c.requires.right (hlevel pro
       | in-Some+in_ok-append_end w ↦ ap (λ (t : OpScope). own_needs t.op t.split) (w.scope-is ∙ w.append_end.ensures.scope)
       | in_default w ↦ ap (λ (t : OpScope). own_needs t.op t.split) w.scope-is
     ] in
-    settle_claimed seen g.D.Device.may_leave opening relations counters o s _ right k c.requires.writing c.in_ok-answer.ensures.reply c.match-done.self.map c.match-done.scope map_same changes c.pages_for-claim.result own c.requires.claims)
+    settle_claimed g.D.Device opening relations counters o s _ right k c.requires.writing c.in_ok-answer.ensures.reply c.match-done.self.map c.match-done.scope map_same changes c.pages_for-claim.result own c.requires.claims)
 
 pub settle-requires-clause-mapped : goal.settle-requires-clause-mapped
 settle-requires-clause-mapped g c = ∥∥₁_elim c.requires.right (hlevel props) (λ (opening, relations, counters, right, k, few, some). let seen = g.D.Device.seen in let s = c.args.scope.now in let o = c.args.self.now in
@@ -98,7 +98,7 @@ settle-requires-clause-mapped g c = ∥∥₁_elim c.requires.right (hlevel prop
       | in-Some+in_ok-append_end w ↦ ap (λ (t : OpScope). t.changes) w.scope-is ∙ ap (λ (t : OpScope). t.changes) w.append_end.ensures.scope
       | in_default w ↦ ap (λ (t : OpScope). t.changes) w.scope-is
     ] in
-    settle_mapped seen g.D.Device.may_leave opening relations counters o s _ right k c.requires.writing c.in_ok-answer.ensures.reply c.match-done.self.map c.match-done.scope map_same changes)
+    settle_mapped g.D.Device opening relations counters o s _ right k c.requires.writing c.in_ok-answer.ensures.reply c.match-done.self.map c.match-done.scope map_same changes)
 
 pub note_looked-requires-clause-pages : goal.note_looked-requires-clause-pages
 note_looked-requires-clause-pages g c = ∥∥₁_map c.requires.right (λ (opening, relations, counters, right, k, few, some). let seen = g.D.Device.seen in let s = c.args.scope.now in let o = c.args.self.now in
@@ -114,8 +114,8 @@ note_looked-requires-clause-pages g c = ∥∥₁_map c.requires.right (λ (open
       | in-Some+in_ok-append_end w ↦ ap (λ (t : OpScope). t.changes) w.scope-is ∙ ap (λ (t : OpScope). t.changes) w.append_end.ensures.scope
       | in_default w ↦ ap (λ (t : OpScope). t.changes) w.scope-is
     ] in
-    let given = settle_gives seen g.D.Device.may_leave opening relations counters o s _ right k c.requires.writing c.in_ok-answer.ensures.reply c.match-done.self.map c.match-done.scope map_same changes c.settle.new.self.kinds.value c.settle.ensures.kinds in
-    note_asks seen g.D.Device.may_leave opening relations counters o s _ right k c.requires.writing c.in_ok-answer.ensures.reply c.match-done.scope copies c.settle.new.self.kinds.value changes given)
+    let given = settle_gives g.D.Device opening relations counters o s _ right k c.requires.writing c.in_ok-answer.ensures.reply c.match-done.self.map c.match-done.scope map_same changes c.settle.new.self.kinds.value c.settle.ensures.kinds in
+    note_asks g.D.Device opening relations counters o s _ right k c.requires.writing c.in_ok-answer.ensures.reply c.match-done.scope copies c.settle.new.self.kinds.value changes given)
 
 pub note_looked-requires-clause-whole : goal.note_looked-requires-clause-whole
 note_looked-requires-clause-whole g c = ∥∥₁_elim c.requires.right (hlevel props) (λ (opening, relations, counters, right, k, few, some). let seen = g.D.Device.seen in let s = c.args.scope.now in let o = c.args.self.now in
@@ -123,7 +123,7 @@ note_looked-requires-clause-whole g c = ∥∥₁_elim c.requires.right (hlevel 
       | in-Some+in_ok-append_end w ↦ ap (λ (t : OpScope). t.seen) w.scope-is ∙ ap (λ (t : OpScope). t.seen) w.append_end.ensures.scope
       | in_default w ↦ ap (λ (t : OpScope). t.seen) w.scope-is
     ] in
-    note_whole seen g.D.Device.may_leave opening relations counters o s _ right k c.requires.writing c.in_ok-answer.ensures.reply c.match-done.scope copies)
+    note_whole g.D.Device opening relations counters o s _ right k c.requires.writing c.in_ok-answer.ensures.reply c.match-done.scope copies)
 
 pub note_looked-requires-clause-inside : goal.note_looked-requires-clause-inside
 note_looked-requires-clause-inside g c = ∥∥₁_elim c.requires.right (hlevel props) (λ (opening, relations, counters, right, k, few, some). let seen = g.D.Device.seen in let s = c.args.scope.now in let o = c.args.self.now in
@@ -135,7 +135,7 @@ note_looked-requires-clause-inside g c = ∥∥₁_elim c.requires.right (hlevel
       | in-Some+in_ok-append_end w ↦ ap (λ (o : Operations g.row.D.Denot). length o.rooms) w.self-is ∙ ap (λ (x : Rooms). length x) w.append_end.ensures.appends.rooms
       | in_default w ↦ ap (λ (o : Operations g.row.D.Denot). length o.rooms) w.self-is
     ] in
-    note_inside seen g.D.Device.may_leave opening relations counters o s _ right k c.requires.writing c.in_ok-answer.ensures.reply c.match-done.scope copies _ rooms)
+    note_inside g.D.Device opening relations counters o s _ right k c.requires.writing c.in_ok-answer.ensures.reply c.match-done.scope copies _ rooms)
 
 pub note_looked-requires-clause-few : goal.note_looked-requires-clause-few
 note_looked-requires-clause-few g c = ∥∥₁_elim c.requires.right (hlevel props) (λ (opening, relations, counters, right, k, few, some). let seen = g.D.Device.seen in let s = c.args.scope.now in let o = c.args.self.now in
@@ -147,16 +147,16 @@ note_looked-requires-clause-few g c = ∥∥₁_elim c.requires.right (hlevel pr
       | in-Some+in_ok-append_end w ↦ ap (λ (o : Operations g.row.D.Denot). length o.rooms) w.self-is ∙ ap (λ (x : Rooms). length x) w.append_end.ensures.appends.rooms
       | in_default w ↦ ap (λ (o : Operations g.row.D.Denot). length o.rooms) w.self-is
     ] in
-    note_few seen g.D.Device.may_leave opening relations counters o s _ right k c.requires.writing c.in_ok-answer.ensures.reply c.match-done.scope copies _ rooms)
+    note_few g.D.Device opening relations counters o s _ right k c.requires.writing c.in_ok-answer.ensures.reply c.match-done.scope copies _ rooms)
 
 pub returns-in_err-answer : goal.returns-in_err-answer
 returns-in_err-answer g c = let d = g.D.Device in let o = c.args.self.now in let s = c.args.scope.now in
     let p = err_from_is_err_and c.from_residual.result c.from_residual.ensures.1 in
     let is = p.1 ∙ ap Err (p.2 ∙ c.in_err-answer.ensures.only_memory) in
     record {
-      ahead = subst (GoesAhead d.seen d.may_leave d.moment d.left_since d.faults o o s s) (sym is)
-          (idle_ahead d.seen d.may_leave d.moment d.left_since d.faults o o s (λ opening relations counters right. right) (λ opening. rests_same (world d.seen opening o))
-          (λ opening kept. no_call d.seen d.may_leave opening o.store kept d.moment d.left_since g.met.D.Device.only_now) (once_same _ _ refl) refl refl refl refl refl (Err refusal.NoMemory) tt c.requires.writing c.requires.budget
+      ahead = subst (GoesAhead d o o s s) (sym is)
+          (idle_ahead d o o s (λ opening relations counters right. right) (λ opening. rests_same (world d opening o))
+          (λ opening kept. no_call d opening o.store kept g.met.D.Device.only_now) (once_same _ _ refl) refl refl refl refl refl (Err refusal.NoMemory) tt c.requires.writing c.requires.budget
           (λ is. absurd cc) (inl refl) (no_fault _ _ (Err refusal.NoMemory) refl refl));
       device = refl;
       ready = rw p.1 tt;
@@ -173,11 +173,11 @@ returns-in_err-append_end g c = let d = g.D.Device in let o = c.args.self.now in
     let log : used n.store.log + t.left ≡ used o.store.log + s.left = a.log in
     let spent : used n.store.log ≡ used o.store.log = omega (arith, left, log) in
     record {
-      ahead = subst (λ (x : OpScope). GoesAhead d.seen d.may_leave d.moment d.left_since d.faults o n s x c.from_residual-in_err-append_end.result) (sym b.same)
-          (subst (GoesAhead d.seen d.may_leave d.moment d.left_since d.faults o n s s) (sym is)
-          (idle_ahead d.seen d.may_leave d.moment d.left_since d.faults o n s
-          (λ opening relations counters right. right_rests d.seen d.may_leave opening relations counters o n right (f.kept opening right.kept) (e.rests opening) f.map f.rooms) e.rests
-          (λ opening kept. subst (λ (x : g.row.D.Denot). LeavesOnly d.moment d.left_since o.store.device x (Explains opening o.store)) (sym f.device) (no_call d.seen d.may_leave opening o.store kept d.moment d.left_since g.met.D.Device.only_now))
+      ahead = subst (λ (x : OpScope). GoesAhead d o n s x c.from_residual-in_err-append_end.result) (sym b.same)
+          (subst (GoesAhead d o n s s) (sym is)
+          (idle_ahead d o n s
+          (λ opening relations counters right. right_rests d opening relations counters o n right (f.kept opening right.kept) (e.rests opening) f.map f.rooms) e.rests
+          (λ opening kept. subst (λ (x : g.row.D.Denot). LeavesOnly d.moment d.left_since o.store.device x (Explains opening o.store)) (sym f.device) (no_call d opening o.store kept g.met.D.Device.only_now))
           (once_same _ _ (ap d.moment f.device)) spent f.area f.durable f.map f.locks (Err refusal.NoMemory) tt c.requires.writing c.requires.budget
           (λ is. absurd cc) (inl refl) (no_fault _ _ (Err refusal.NoMemory) refl (ap d.faults f.device))));
       device = f.device;
@@ -209,32 +209,32 @@ returns g c = let d = g.D.Device in let seen = d.seen in let o = c.args.self.now
               let map_same : c.match-done.self.map ≡ o.map = ap (λ (x : Operations g.row.D.Denot). x.map) w.self-is ∙ e.map in
               let changes : c.match-done.scope.changes ≡ s.changes = ap (λ (t : OpScope). t.changes) scope in
               let rooms : c.match-done.self.rooms ≡ o.rooms = ap (λ (x : Operations g.row.D.Denot). x.rooms) w.self-is ∙ e.rooms in
-              let given = settle_gives seen d.may_leave opening relations counters o s _ right k c.requires.writing is c.match-done.self.map c.match-done.scope map_same changes c.settle.new.self.kinds.value f.kinds in
-              let free = settle_frees seen d.may_leave opening relations counters o s _ right k c.requires.writing is c.match-done.self.map c.match-done.scope map_same changes c.settle.new.self.space.0 c.settle.new.self.kinds.value f.free in
-              let done = finished seen d.may_leave opening relations counters o s _ c.in_ok-answer.answer right k c.requires.writing is w.append_end.new.scope.left (ready ∙ ap (λ (t : OpScope). record t { reply = None; stage = Ready }) scope)
+              let given = settle_gives g.D.Device opening relations counters o s _ right k c.requires.writing is c.match-done.self.map c.match-done.scope map_same changes c.settle.new.self.kinds.value f.kinds in
+              let free = settle_frees g.D.Device opening relations counters o s _ right k c.requires.writing is c.match-done.self.map c.match-done.scope map_same changes c.settle.new.self.space.0 c.settle.new.self.kinds.value f.free in
+              let done = finished g.D.Device opening relations counters o s _ c.in_ok-answer.answer right k c.requires.writing is w.append_end.new.scope.left (ready ∙ ap (λ (t : OpScope). record t { reply = None; stage = Ready }) scope)
               w.in-Some.done m c.note_looked.new.self (sym c.in_ok-answer.ensures.logged ∙ w.in-Some.is) c.requires.all (w.in_ok-append_end.ensures.appends.notes opening) (e.kept opening right.kept)
               (n.store ∙ ap (λ (x : Operations g.row.D.Denot). x.store) w.self-is) (n.locks ∙ ap (λ (x : Operations g.row.D.Denot). x.locks) w.self-is) (ap (λ (x : SpaceMap). x.kinds.value) n.map ∙ given)
               (subst (λ (x : SpaceMap). x.space.0 ≡ mapped x.kinds.value (pages o.store.pool)) (sym n.map) free) (subst (λ (x : SpaceMap). reserved_of x.space ≤ free_of x.space) (sym n.map) f.room)
               (n.rooms ∙ ap (λ (xs : List ℕ). length xs) rooms)
-              (note_followed seen d.may_leave opening relations counters o s _ c.in_ok-answer.answer right k c.requires.writing is w.append_end.new.scope.left (ready ∙ ap (λ (t : OpScope). record t { reply = None; stage = Ready }) scope)
+              (note_followed g.D.Device opening relations counters o s _ c.in_ok-answer.answer right k c.requires.writing is w.append_end.new.scope.left (ready ∙ ap (λ (t : OpScope). record t { reply = None; stage = Ready }) scope)
               c.match-done.scope scope c.settle.new.self.kinds.value c.match-done.self.rooms c.note_looked.new.self.rooms given n.rooms rooms n.noted) in
-              (done.0, (subst (Acts relations counters (world seen opening o) (world seen opening c.note_looked.new.self) s t) same done.1, same))
+              (done.0, (subst (Acts relations counters (world g.D.Device opening o) (world g.D.Device opening c.note_looked.new.self) s t) same done.1, same))
           | in_default w ↦
               let map_same : c.match-done.self.map ≡ o.map = ap (λ (x : Operations g.row.D.Denot). x.map) w.self-is in
               let changes : c.match-done.scope.changes ≡ s.changes = ap (λ (t : OpScope). t.changes) w.scope-is in
               let rooms : c.match-done.self.rooms ≡ o.rooms = ap (λ (x : Operations g.row.D.Denot). x.rooms) w.self-is in
-              let given = settle_gives seen d.may_leave opening relations counters o s _ right k c.requires.writing is c.match-done.self.map c.match-done.scope map_same changes c.settle.new.self.kinds.value f.kinds in
-              let free = settle_frees seen d.may_leave opening relations counters o s _ right k c.requires.writing is c.match-done.self.map c.match-done.scope map_same changes c.settle.new.self.space.0 c.settle.new.self.kinds.value f.free in
-              let done = finished_quietly seen d.may_leave opening relations counters o s _ c.in_ok-answer.answer right k c.requires.writing is s.left (ready ∙ ap (λ (t : OpScope). record t { reply = None; stage = Ready }) w.scope-is)
+              let given = settle_gives g.D.Device opening relations counters o s _ right k c.requires.writing is c.match-done.self.map c.match-done.scope map_same changes c.settle.new.self.kinds.value f.kinds in
+              let free = settle_frees g.D.Device opening relations counters o s _ right k c.requires.writing is c.match-done.self.map c.match-done.scope map_same changes c.settle.new.self.space.0 c.settle.new.self.kinds.value f.free in
+              let done = finished_quietly g.D.Device opening relations counters o s _ c.in_ok-answer.answer right k c.requires.writing is s.left (ready ∙ ap (λ (t : OpScope). record t { reply = None; stage = Ready }) w.scope-is)
               c.note_looked.new.self (sym c.in_ok-answer.ensures.logged ∙ w.in_default.is)
               (n.store ∙ ap (λ (x : Operations g.row.D.Denot). x.store) w.self-is) (n.locks ∙ ap (λ (x : Operations g.row.D.Denot). x.locks) w.self-is) (ap (λ (x : SpaceMap). x.kinds.value) n.map ∙ given)
               (subst (λ (x : SpaceMap). x.space.0 ≡ mapped x.kinds.value (pages o.store.pool)) (sym n.map) free) (subst (λ (x : SpaceMap). reserved_of x.space ≤ free_of x.space) (sym n.map) f.room)
               (n.rooms ∙ ap (λ (xs : List ℕ). length xs) rooms)
-              (note_followed seen d.may_leave opening relations counters o s _ c.in_ok-answer.answer right k c.requires.writing is s.left (ready ∙ ap (λ (t : OpScope). record t { reply = None; stage = Ready }) w.scope-is)
+              (note_followed g.D.Device opening relations counters o s _ c.in_ok-answer.answer right k c.requires.writing is s.left (ready ∙ ap (λ (t : OpScope). record t { reply = None; stage = Ready }) w.scope-is)
               c.match-done.scope w.scope-is c.settle.new.self.kinds.value c.match-done.self.rooms c.note_looked.new.self.rooms given n.rooms rooms n.noted) in
-              (done.0, (subst (Acts relations counters (world seen opening o) (world seen opening c.note_looked.new.self) s t) same done.1, same))
+              (done.0, (subst (Acts relations counters (world g.D.Device opening o) (world g.D.Device opening c.note_looked.new.self) s t) same done.1, same))
         ];
-        moments = λ opening kept. subst (λ (x : g.row.D.Denot). LeavesOnly d.moment d.left_since o.store.device x (Explains opening o.store)) (sym device) (no_call seen d.may_leave opening o.store kept d.moment d.left_since g.met.D.Device.only_now);
+        moments = λ opening kept. subst (λ (x : g.row.D.Denot). LeavesOnly d.moment d.left_since o.store.device x (Explains opening o.store)) (sym device) (no_call g.D.Device opening o.store kept g.met.D.Device.only_now);
         log = (λ i. used c.note_looked.new.self.store.log + (ready i).left) ∙ ap (λ (x : Store g.row.D.Denot). used x.log + c.match-done.scope.left) n.store ∙ elim c.match-done.branch [
           | in-Some+in_ok-append_end w ↦ (λ i. used (w.self-is i).store.log + (w.scope-is i).left) ∙ w.append_end.ensures.log
           | in_default w ↦ (λ i. used (w.self-is i).store.log + (w.scope-is i).left)
@@ -286,4 +286,4 @@ returns g c = let d = g.D.Device in let seen = d.seen in let o = c.args.self.now
     }
 
 pub append_end-requires-clause-kept : goal.append_end-requires-clause-kept
-append_end-requires-clause-kept g c = (known_within g.D.Device.seen g.D.Device.may_leave c.args.self.now c.args.scope.now c.requires.right).kept
+append_end-requires-clause-kept g c = (known_within g.D.Device c.args.self.now c.args.scope.now c.requires.right).kept

@@ -11,4 +11,4 @@ returns-clause-rests g c = λ opening. let f = c.force_step.ensures in
 
 pub returns-clause-right : goal.returns-clause-right
 returns-clause-right g c = λ opening relations counters k. let f = c.force_step.ensures in
-    right_rests g.D.Device.seen g.D.Device.may_leave opening relations counters c.args.self.now _ k (f.keeps.kept opening k.kept) (returns-clause-rests g c opening) refl refl
+    right_rests g.D.Device opening relations counters c.args.self.now _ k (f.keeps.kept opening k.kept) (returns-clause-rests g c opening) refl refl

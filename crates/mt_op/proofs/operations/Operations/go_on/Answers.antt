@@ -3,7 +3,7 @@ use Rattle.mt_op.proofs.Known.{one_of, writes_on}
 use Rattle.mt_op.proofs.operations.Operations.go_on.Goals as goal
 
 pub write_next-requires-clause-right : goal.write_next-requires-clause-right
-write_next-requires-clause-right g c = one_of g.D.Device.seen g.D.Device.may_leave c.args.self.now c.args.scope.now c.requires.right
+write_next-requires-clause-right g c = one_of g.D.Device c.args.self.now c.args.scope.now c.requires.right
 
 pub write_next-requires-clause-writing : goal.write_next-requires-clause-writing
 write_next-requires-clause-writing g c = c.requires.writing
@@ -21,4 +21,4 @@ pub returns-else-scope-len : goal.returns-else-scope-len
 returns-else-scope-len g c = c.finish.ensures.ahead
 
 pub finish-requires-clause-all : goal.finish-requires-clause-all
-finish-requires-clause-all g c = let on = writes_on g.D.Device.seen g.D.Device.may_leave c.args.self.now c.args.scope.now (one_of g.D.Device.seen g.D.Device.may_leave c.args.self.now c.args.scope.now c.requires.right) c.requires.writing in let some = on.some in omega arith
+finish-requires-clause-all g c = let on = writes_on g.D.Device c.args.self.now c.args.scope.now (one_of g.D.Device c.args.self.now c.args.scope.now c.requires.right) c.requires.writing in let some = on.some in omega arith

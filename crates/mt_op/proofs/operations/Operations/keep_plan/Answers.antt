@@ -31,12 +31,12 @@ upgrade-requires-clause-next g c = record {
 pub returns-in_err-stepped : goal.returns-in_err-stepped
 returns-in_err-stepped g c = let d = g.D.Device in let o = c.args.self.now in let s = c.args.scope.now in let n = c.upgrade.new.self in let t = c.upgrade.new.scope in
     let p = err_from_is_err_and c.from_residual.result c.from_residual.ensures.1 in
-    subst (KeepsPlan d.seen d.may_leave o n s t) (sym (p.1 ∙ ap Err p.2))
-    (taken_err d.seen d.may_leave o n s t c.requires.planning c.requires.budget _ (subst (TakesLock d.seen d.may_leave o n s t) c.in_err-stepped.was c.upgrade.ensures))
+    subst (KeepsPlan d o n s t) (sym (p.1 ∙ ap Err p.2))
+    (taken_err d o n s t c.requires.planning c.requires.budget _ (subst (TakesLock d o n s t) c.in_err-stepped.was c.upgrade.ensures))
 
 pub returns-in-Some : goal.returns-in-Some
 returns-in-Some g c = let d = g.D.Device in let o = c.args.self.now in let s = c.args.scope.now in let n = c.upgrade.new.self in let t = c.upgrade.new.scope in
-    taken_some d.seen d.may_leave o n s t c.requires.planning c.requires.budget _ (subst (TakesLock d.seen d.may_leave o n s t) c.in_ok-stepped.was c.upgrade.ensures)
+    taken_some d o n s t c.requires.planning c.requires.budget _ (subst (TakesLock d o n s t) c.in_ok-stepped.was c.upgrade.ensures)
 
 pub returns : goal.returns
 returns g c = let o = c.args.self.now in let s = c.args.scope.now in let r = c.requires in
@@ -45,7 +45,7 @@ returns g c = let o = c.args.self.now in let s = c.args.scope.now in let r = c.r
     let locked = subst (λ (gs : List PageLock). All (λ (x : PageChange). Contains gs (lock_of s.number x.page Write)) list) c.as_slice.ensures.value c.in_default.ensures in
     record {
       goes = λ opening relations counters right k small.
-          (right, keeps_plan relations counters (world g.D.Device.seen opening o) s c.args.changes c.args.reply right.sound k r.planning r.there r.few r.quiet locked (r.planned relations counters small k.within) (r.takes relations counters small k.within));
+          (right, keeps_plan relations counters (world g.D.Device opening o) s c.args.changes c.args.reply right.sound k r.planning r.there r.few r.quiet locked (r.planned relations counters small k.within) (r.takes relations counters small k.within));
       store = refl;
       map = refl;
       made = λ is. (refl, refl);

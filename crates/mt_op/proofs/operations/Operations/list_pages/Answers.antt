@@ -11,7 +11,7 @@ use Rattle.mt_steps.specs.Listed.{HasListed}
 use Rattle.mt_op.proofs.operations.Operations.list_pages.Goals as goal
 
 pub count-number-end-requires : goal.count-number-end-requires
-count-number-end-requires g c = record { sound = (idle_steady g.D.Device.seen g.D.Device.may_leave (relations_of c.args.base.now) c.args.self.now c.requires.idle).frames }
+count-number-end-requires g c = record { sound = (idle_steady g.D.Device (relations_of c.args.base.now) c.args.self.now c.requires.idle).frames }
 
 pub loop-number-init : goal.loop-number-init
 loop-number-init g c = record {
@@ -19,40 +19,40 @@ loop-number-init g c = record {
   counts = refl;
   relations = refl;
   counters = refl;
-  read = reads_none g.D.Device.seen g.D.Device.may_leave g.D.Device.moment g.D.Device.left_since g.met.D.Device.only_now c.args.self.now;
+  read = reads_none g.D.Device g.met.D.Device.only_now c.args.self.now;
   quiet = refl;
 }
 
 pub list_page-requires-clause-idle : goal.list_page-requires-clause-idle
 list_page-requires-clause-idle g c =
     let D = g.D.Device in
-    subst (λ (n : ℕ). IsIdle D.seen D.may_leave n c.loop-number.self) (sym c.loop-number.invariant.relations)
-    (read_idle D.seen D.may_leave D.moment D.left_since (relations_of c.args.base.now) c.args.self.now c.loop-number.self c.loop-number.invariant.read c.requires.idle)
+    subst (λ (n : ℕ). IsIdle D n c.loop-number.self) (sym c.loop-number.invariant.relations)
+    (read_idle D (relations_of c.args.base.now) c.args.self.now c.loop-number.self c.loop-number.invariant.read c.requires.idle)
 
 pub loop-number-preserved : goal.loop-number-preserved
 loop-number-preserved g c =
     let D = g.D.Device in let o = c.args.self.now in let l = c.loop-number in let was = l.invariant in let e = c.in_ok-list_page.ensures in
     record {
       listed = λ opening relations counters held right holds first.
-          let same = read_held D.seen D.may_leave D.moment D.left_since opening o l.self was.read in
+          let same = read_held D opening o l.self was.read in
           let at' = c.new.ensures in
           subst (λ (h : PageBytes). HasListed h (l.number + 1) (base_of c.list_page.new.base)) same
-          (subst (λ (p : ℕ). HasListed (held_in (world D.seen opening l.self)) (p + 1) (base_of c.list_page.new.base)) at'
-          (e.listed opening relations counters held (read_right D.seen D.may_leave D.moment D.left_since opening relations counters o l.self was.read right) (subst (λ (h : PageBytes). Holds h held) (sym same) holds)
-          (subst (λ (h : PageBytes). HasListed h c.new.result (base_of l.base)) (sym same) (subst (λ (p : ℕ). HasListed (held_in (world D.seen opening o)) p (base_of l.base)) (sym at') (was.listed opening relations counters held right holds first)))));
+          (subst (λ (p : ℕ). HasListed (held_in (world D opening l.self)) (p + 1) (base_of c.list_page.new.base)) at'
+          (e.listed opening relations counters held (read_right D opening relations counters o l.self was.read right) (subst (λ (h : PageBytes). Holds h held) (sym same) holds)
+          (subst (λ (h : PageBytes). HasListed h c.new.result (base_of l.base)) (sym same) (subst (λ (p : ℕ). HasListed (held_in (world D opening o)) p (base_of l.base)) (sym at') (was.listed opening relations counters held right holds first)))));
       counts = e.counts ∙ was.counts;
       relations = c.list_page.ensures.relations ∙ was.relations;
       counters = c.list_page.ensures.counters ∙ was.counters;
-      read = reads_both D.seen D.may_leave D.moment D.left_since o l.self c.list_page.new.self was.read c.list_page.ensures.read;
+      read = reads_both D o l.self c.list_page.new.self was.read c.list_page.ensures.read;
       quiet = e.quiet (λ is. cc) ∙ was.quiet;
     }
 
 pub returns-clause-listed : goal.returns-clause-listed
 returns-clause-listed g c = λ opening relations counters held right holds first.
     let last : c.loop-number.number ≡ pages c.args.self.now.store.pool = (let all = c.count-number-end.ensures in let test = c.loop-number-test.false in let within = c.loop-number.auto.number-end in omega arith) in
-    subst (λ (p : ℕ). HasListed (held_in (world g.D.Device.seen opening c.args.self.now)) p (base_of c.loop-number.base)) last (c.loop-number.invariant.listed opening relations counters held right holds first)
+    subst (λ (p : ℕ). HasListed (held_in (world g.D.Device opening c.args.self.now)) p (base_of c.loop-number.base)) last (c.loop-number.invariant.listed opening relations counters held right holds first)
 
 pub returns-in_err-list_page-clause-read : goal.returns-in_err-list_page-clause-read
 returns-in_err-list_page-clause-read g c =
     let D = g.D.Device in
-    reads_both D.seen D.may_leave D.moment D.left_since c.args.self.now c.loop-number.self c.list_page.new.self c.loop-number.invariant.read c.list_page.ensures.read
+    reads_both D c.args.self.now c.loop-number.self c.list_page.new.self c.loop-number.invariant.read c.list_page.ensures.read

@@ -11,12 +11,12 @@ use Rattle.mt_op.proofs.operations.Operations.list_pages.Given as goal
 
 abbrev pub invariant-loop-number : goal.invariant-loop-number
 invariant-loop-number g l = record {
-  listed : (opening : PageBytes) (relations counters : ℕ) (held : Base) → IsRight g.D.Device.seen g.D.Device.may_leave opening relations counters l.initial.self
-      → Holds (held_in (world g.D.Device.seen opening l.initial.self)) held → HasListed (held_in (world g.D.Device.seen opening l.initial.self)) 0 (base_of l.initial.base)
-      → HasListed (held_in (world g.D.Device.seen opening l.initial.self)) l.number (base_of l.base);
+  listed : (opening : PageBytes) (relations counters : ℕ) (held : Base) → IsRight g.D.Device opening relations counters l.initial.self
+      → Holds (held_in (world g.D.Device opening l.initial.self)) held → HasListed (held_in (world g.D.Device opening l.initial.self)) 0 (base_of l.initial.base)
+      → HasListed (held_in (world g.D.Device opening l.initial.self)) l.number (base_of l.base);
   counts : (base_of l.base).counts ≡ (base_of l.initial.base).counts;
   relations : relations_of l.base ≡ relations_of l.initial.base;
   counters : length (counters_of l.base) ≡ length (counters_of l.initial.base);
-  read : OnlyReads g.D.Device.seen g.D.Device.may_leave g.D.Device.moment g.D.Device.left_since l.initial.self l.self;
+  read : OnlyReads g.D.Device l.initial.self l.self;
   quiet : g.D.Device.faults l.self.store.device ≡ g.D.Device.faults l.initial.self.store.device;
 }

@@ -17,15 +17,15 @@ puts (Add c d) some is = absurd cc
 puts (Read c) some is = absurd (omega arith)
 
 pub room_for-requires-clause-few : goal.room_for-requires-clause-few
-room_for-requires-clause-few g c = let k = known g.D.Device.seen g.D.Device.may_leave c.args.self.now c.args.scope.now c.requires.right in let few = k.steady.few in let total = k.rooms in omega arith
+room_for-requires-clause-few g c = let k = known g.D.Device c.args.self.now c.args.scope.now c.requires.right in let few = k.steady.few in let total = k.rooms in omega arith
 
 pub room_for-requires-clause-short : goal.room_for-requires-clause-short
-room_for-requires-clause-short g c = (known g.D.Device.seen g.D.Device.may_leave c.args.self.now c.args.scope.now c.requires.right).short
+room_for-requires-clause-short g c = (known g.D.Device c.args.self.now c.args.scope.now c.requires.right).short
 
 pub lock-requires-in-Some-clause-next : goal.lock-requires-in-Some-clause-next
 lock-requires-in-Some-clause-next g c =
     let s = c.args.scope.now in
-    let k = known g.D.Device.seen g.D.Device.may_leave c.args.self.now s c.requires.right in
+    let k = known g.D.Device c.args.self.now s c.requires.right in
     let found = c.in-Some.ensures in
     let ((unled, some), ((inside, enough), free)) = found in
     record {
@@ -40,6 +40,6 @@ lock-requires-in-Some-clause-next g c =
 pub lock-requires-in-Some-clause-led : goal.lock-requires-in-Some-clause-led
 lock-requires-in-Some-clause-led g c =
     let s = c.args.scope.now in
-    let k = known g.D.Device.seen g.D.Device.may_leave c.args.self.now s c.requires.right in
+    let k = known g.D.Device c.args.self.now s c.requires.right in
     let ((unled, some), (takes, free)) = c.in-Some.ensures in
     inr (refl, refl, k.records (record_bytes s.op) c.in-Some.room some takes)

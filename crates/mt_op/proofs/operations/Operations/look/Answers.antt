@@ -27,8 +27,8 @@ returns-in_err-reserve g c = let d = g.D.Device in let o = c.args.self.now in le
     let m = record s { seen = c.reserve.new.self } in let stays = stays_roomy s c.reserve.new.self f.total f.same in
     let p = err_from_is_err_and c.from_residual.result c.from_residual.ensures.1 in
     let same = stays_work s m c.requires.planning stays in
-    subst (TakesLock d.seen d.may_leave o _ s m) (sym (p.1 ∙ ap Err p.2)) (record {
-      goes = λ opening relations counters right k. let w = world d.seen opening o in (right, rests_goes relations counters w w s _ (rests_same w) c.requires.planning stays k);
+    subst (TakesLock d o _ s m) (sym (p.1 ∙ ap Err p.2)) (record {
+      goes = λ opening relations counters right k. let w = world d opening o in (right, rests_goes relations counters w w s _ (rests_same w) c.requires.planning stays k);
       store = refl;
       map = refl;
       same = record { op = refl; stage = refl; changes = refl; written = refl; left = refl };
@@ -48,13 +48,13 @@ returns-in_err-other g c = let d = g.D.Device in let seen = d.seen in let o = c.
     let stays = stays_roomy s c.reserve.new.self c.reserve.ensures.total c.reserve.ensures.same in
     let p = err_from_is_err_and c.from_residual-in_err-other.result c.from_residual-in_err-other.ensures.1 in
     let opening : PageBytes = λ p. [] in
-    let any = subst (IsHeld (world seen opening o) (world seen opening n) m t c.args.page c.args.mode) c.in_err-other.was (f.held opening) in
+    let any = subst (IsHeld (world g.D.Device opening o) (world g.D.Device opening n) m t c.args.page c.args.mode) c.in_err-other.was (f.held opening) in
     let before = stays_work s m c.requires.planning stays in let behind = stays_work m t c.requires.planning any.1 in
-    subst (TakesLock seen d.may_leave o n s t) (sym (p.1 ∙ ap Err (p.2 ∙ subst (λ (r : Result Stepped Refusal). IfErr r (λ why. why ≡ refusal.NoMemory)) c.in_err-other.was f.only_memory))) (record {
-      goes = λ opening relations counters right k. let w = world seen opening o in let z = world seen opening n in
+    subst (TakesLock g.D.Device o n s t) (sym (p.1 ∙ ap Err (p.2 ∙ subst (λ (r : Result Stepped Refusal). IfErr r (λ why. why ≡ refusal.NoMemory)) c.in_err-other.was f.only_memory))) (record {
+      goes = λ opening relations counters right k. let w = world g.D.Device opening o in let z = world g.D.Device opening n in
           let km = planning_stays relations counters w s m c.requires.planning stays k in
           let h = subst (IsHeld w z m t c.args.page c.args.mode) c.in_err-other.was (f.held opening) in (
-            asked_right seen d.may_leave opening relations counters o n m t c.args.page c.args.mode c.hold.result right km c.requires.planning (f.held opening) f.store f.map f.rooms,
+            asked_right g.D.Device opening relations counters o n m t c.args.page c.args.mode c.hold.result right km c.requires.planning (f.held opening) f.store f.map f.rooms,
             goes_since relations counters w z s m t stays.plan.op (rests_goes relations counters w z m t h.0 c.requires.planning h.1 km),
           );
       store = f.store;
@@ -73,17 +73,17 @@ returns-in-Went g c = let d = g.D.Device in let seen = d.seen in let o = c.args.
     let stays = stays_roomy s c.reserve.new.self c.reserve.ensures.total c.reserve.ensures.same in
     let went : c.hold.result ≡ Ok stepped.Went = c.in_ok-other.was ∙ ap Ok c.in-Went.is in
     let opening : PageBytes = λ p. [] in
-    let any = subst (IsHeld (world seen opening o) (world seen opening n) m c.hold.new.scope c.args.page c.args.mode) went (f.held opening) in
+    let any = subst (IsHeld (world g.D.Device opening o) (world g.D.Device opening n) m c.hold.new.scope c.args.page c.args.mode) went (f.held opening) in
     let copy : PageCopy = record { page = c.args.page; bytes = c.view.result.now } in
     record {
       goes = λ opening relations counters right k.
-          let w = world seen opening o in let z = world seen opening n in
+          let w = world g.D.Device opening o in let z = world g.D.Device opening n in
           let km = planning_stays relations counters w s m c.requires.planning stays k in
           let held = f.held opening in
           let h = subst (IsHeld w z m c.hold.new.scope c.args.page c.args.mode) went held in
           let bytes : c.view.result.now ≡ w.present c.args.page = c.view.ensures (seen n.store.device) ∙ ap (λ (x : Store g.row.D.Denot). view x.pool (seen x.device) c.args.page) f.store in
           let new : looked m c.args.page ≡ None = ap (λ (cs : List PageCopy). copied cs c.args.page) c.reserve.ensures.same ∙ c.requires.next.unseen.new in (
-            asked_right seen d.may_leave opening relations counters o n m c.hold.new.scope c.args.page c.args.mode c.hold.result right km c.requires.planning held f.store f.map f.rooms,
+            asked_right g.D.Device opening relations counters o n m c.hold.new.scope c.args.page c.args.mode c.hold.result right km c.requires.planning held f.store f.map f.rooms,
             goes_since relations counters w z s m u stays.plan.op (locks_goes relations counters w z m c.hold.new.scope u c.args.page c.args.mode h.0 c.requires.planning h.1
                 (record { txn = refl; number = refl; op = refl; undoes = refl; split = refl; total = c.put.ensures.total }) refl refl
                 (c.put.ensures.put ∙ ap (λ (b : List ℕ). c.hold.new.scope.seen.list.items ++ record { page = c.args.page; bytes = b } ∷ []) bytes) refl refl
@@ -98,7 +98,7 @@ returns-in-Went g c = let d = g.D.Device in let seen = d.seen in let o = c.args.
       never = λ is. absurd cc;
       work = locks_work s u c.args.page c.args.mode c.view.result.now _ c.requires.planning any.1.stage (c.put.ensures.total ∙ any.1.op.total ∙ c.reserve.ensures.total) any.1.guards
           (c.put.ensures.put ∙ ap (λ (cs : List PageCopy). cs ++ copy ∷ []) (any.1.seen ∙ c.reserve.ensures.same)) c.requires.led c.requires.next.unseen.new c.requires.next.unseen.inside;
-      locks = held_keeps (IsNext o.rooms o.locks s) (world seen opening o) (world seen opening n) m c.hold.new.scope c.args.page c.args.mode (Ok stepped.Went) (inl c.requires.next) any;
+      locks = held_keeps (IsNext o.rooms o.locks s) (world g.D.Device opening o) (world g.D.Device opening n) m c.hold.new.scope c.args.page c.args.mode (Ok stepped.Went) (inl c.requires.next) any;
       scope = room_kept s u c.args.room c.args.page c.args.mode _ refl c.requires.led c.requires.unled c.requires.next.unseen.new;
       only_memory = tt;
     }
@@ -107,14 +107,14 @@ pub returns-in_default : goal.returns-in_default
 returns-in_default g c = let d = g.D.Device in let seen = d.seen in let o = c.args.self.now in let n = c.hold.new.self in let s = c.args.scope.now in let t = c.hold.new.scope in
     let f = c.hold.ensures in let m = record s { seen = c.reserve.new.self } in let other : Result Stepped Refusal = Ok c.in_ok-other.other in
     let stays = stays_roomy s c.reserve.new.self c.reserve.ensures.total c.reserve.ensures.same in
-    let opening : PageBytes = λ p. [] in let w = world seen opening o in let z = world seen opening n in
+    let opening : PageBytes = λ p. [] in let w = world g.D.Device opening o in let z = world g.D.Device opening n in
     let any = subst (IsHeld w z m t c.args.page c.args.mode) c.in_ok-other.was (f.held opening) in
     let same = stays_work s m c.requires.planning stays in
     record {
-      goes = λ opening relations counters right k. let w = world seen opening o in let z = world seen opening n in
+      goes = λ opening relations counters right k. let w = world g.D.Device opening o in let z = world g.D.Device opening n in
           let km = planning_stays relations counters w s m c.requires.planning stays k in
           let held = f.held opening in (
-            asked_right seen d.may_leave opening relations counters o n m t c.args.page c.args.mode c.hold.result right km c.requires.planning held f.store f.map f.rooms,
+            asked_right g.D.Device opening relations counters o n m t c.args.page c.args.mode c.hold.result right km c.requires.planning held f.store f.map f.rooms,
             goes_on_since relations counters w z s m t other stays.plan.op
                 (unlocked_goes_on relations counters w z m t c.args.page c.args.mode other (λ e. c.in_default.not-Went (ok_same c.in_ok-other.other stepped.Went other refl e)) (subst (IsHeld w z m t c.args.page c.args.mode) c.in_ok-other.was held) c.requires.planning km),
           );
@@ -129,7 +129,7 @@ returns-in_default g c = let d = g.D.Device in let seen = d.seen in let o = c.ar
     }
 
 pub hold-requires : goal.hold-requires
-hold-requires g c = record { locks = (known g.D.Device.seen g.D.Device.may_leave c.args.self.now c.args.scope.now c.requires.right).locks }
+hold-requires g c = record { locks = (known g.D.Device c.args.self.now c.args.scope.now c.requires.right).locks }
 
 pub view-requires-clause-pool : goal.view-requires-clause-pool
-view-requires-clause-pool g c = subst (λ store. IsPool store.pool) (sym c.hold.ensures.store) (known g.D.Device.seen g.D.Device.may_leave c.args.self.now c.args.scope.now c.requires.right).steady.frames
+view-requires-clause-pool g c = subst (λ store. IsPool store.pool) (sym c.hold.ensures.store) (known g.D.Device c.args.self.now c.args.scope.now c.requires.right).steady.frames

@@ -27,18 +27,18 @@ use Rattle.mt_op.proofs.operations.Operations.plan_step.Goals as goal
 pub returns-in_err-page : goal.returns-in_err-page
 returns-in_err-page g c = let d = g.D.Device in let o = c.args.self.now in let s = c.args.scope.now in
     let p = err_from_is_err_and c.from_residual.result c.from_residual.ensures.1 in
-    subst (PlansOn d.seen d.may_leave d.moment d.left_since d.faults o o s s) (sym (p.1 ∙ ap Err p.2))
-    (refused_plan d.seen d.may_leave d.moment d.left_since d.faults o s (λ opening kept. no_call d.seen d.may_leave opening o.store kept d.moment d.left_since g.met.D.Device.only_now) c.requires.planning c.requires.budget)
+    subst (PlansOn d o o s s) (sym (p.1 ∙ ap Err p.2))
+    (refused_plan d o s (λ opening kept. no_call d opening o.store kept g.met.D.Device.only_now) c.requires.planning c.requires.budget)
 
 pub returns-in_err-stepped-in-Lock : goal.returns-in_err-stepped-in-Lock
 returns-in_err-stepped-in-Lock g c = let d = g.D.Device in let o = c.args.self.now in let s = c.args.scope.now in let n = c.lock_next.new.self in let t = c.lock_next.new.scope in
     let p = err_from_is_err_and c.from_residual-in_err-stepped-in-Lock.result c.from_residual-in_err-stepped-in-Lock.ensures.1 in
-    subst (PlansOn d.seen d.may_leave d.moment d.left_since d.faults o n s t) (sym (p.1 ∙ ap Err p.2))
-    (locked_err d.seen d.may_leave d.moment d.left_since d.faults o n s t c.requires.planning _ c.requires.budget (subst (LocksPage d.seen d.may_leave d.moment d.left_since d.faults o n s t) c.in_err-stepped-in-Lock.was c.lock_next.ensures))
+    subst (PlansOn d o n s t) (sym (p.1 ∙ ap Err p.2))
+    (locked_err d o n s t c.requires.planning _ c.requires.budget (subst (LocksPage d o n s t) c.in_err-stepped-in-Lock.was c.lock_next.ensures))
 
 pub returns-in_ok-stepped-in-Lock : goal.returns-in_ok-stepped-in-Lock
 returns-in_ok-stepped-in-Lock g c = let d = g.D.Device in let o = c.args.self.now in let s = c.args.scope.now in let n = c.lock_next.new.self in let t = c.lock_next.new.scope in
-    locked_some d.seen d.may_leave d.moment d.left_since d.faults o n s t c.requires.planning _ c.requires.budget (subst (LocksPage d.seen d.may_leave d.moment d.left_since d.faults o n s t) c.in_ok-stepped-in-Lock.was c.lock_next.ensures)
+    locked_some d o n s t c.requires.planning _ c.requires.budget (subst (LocksPage d o n s t) c.in_ok-stepped-in-Lock.was c.lock_next.ensures)
 
 pub lock_next-requires-clause-unseen : goal.lock_next-requires-clause-unseen
 lock_next-requires-clause-unseen g c = let s = c.args.scope.now in
@@ -65,7 +65,7 @@ returns-in-Made g c = let d = g.D.Device in let o = c.args.self.now in let s = c
     record {
       goes = f.goes;
       moments = λ opening kept. subst (λ (x : Store g.row.D.Denot). LeavesOnly d.moment d.left_since o.store.device x.device (Explains opening o.store)) (sym f.store)
-          (no_call d.seen d.may_leave opening o.store kept d.moment d.left_since g.met.D.Device.only_now);
+          (no_call d opening o.store kept g.met.D.Device.only_now);
       made = f.made;
       log = ap (λ (x : Store g.row.D.Denot). x.log) f.store;
       map = f.map;
@@ -84,8 +84,8 @@ returns-in-Made g c = let d = g.D.Device in let o = c.args.self.now in let s = c
 pub returns-in-Full : goal.returns-in-Full
 returns-in-Full g c = let d = g.D.Device in let o = c.args.self.now in let s = c.args.scope.now in
     record {
-      goes = λ opening relations counters right k small. (right, unled_goes relations counters (world d.seen opening o) s c.requires.planning k);
-      moments = λ opening kept. no_call d.seen d.may_leave opening o.store kept d.moment d.left_since g.met.D.Device.only_now;
+      goes = λ opening relations counters right k small. (right, unled_goes relations counters (world d opening o) s c.requires.planning k);
+      moments = λ opening kept. no_call d opening o.store kept g.met.D.Device.only_now;
       made = λ is. absurd cc;
       log = refl;
       map = refl;
@@ -93,14 +93,14 @@ returns-in-Full g c = let d = g.D.Device in let o = c.args.self.now in let s = c
       budget = record { enough = c.requires.budget.enough; reads = c.requires.budget.reads };
       full = λ is. absurd cc;
       stage = λ not. c.requires.planning;
-      work = ∥∥₁_elim c.requires.right (hlevel props) (λ (opening, relations, counters, right, k, small, some). led_work relations counters (world d.seen opening o) s c.requires.planning right.sound k
-          (claim_free d.seen d.may_leave opening relations counters o s right k c.requires.claims)
+      work = ∥∥₁_elim c.requires.right (hlevel props) (λ (opening, relations, counters, right, k, small, some). led_work relations counters (world d opening o) s c.requires.planning right.sound k
+          (claim_free d opening relations counters o s right k c.requires.claims)
           (subst (λ (a : Act). IfFull a (InPages (looked s) s.room relations counters s.seen.total (λ pages. (free_pages s.seen.total pages < own_needs s.op s.split) ⊎ IsTight s.room pages (record_bytes s.op)))) c.in-Full.is (c.in_ok-page.ensures.full relations counters small k.within)));
       locks = inl refl;
       scope = inr (inr (
         refl,
-        ∥∥₁_elim c.requires.right (hlevel props) (λ (opening, relations, counters, right, k, small, some). led_misled relations counters (world d.seen opening o) s c.requires.planning right.sound k
-            (claim_free d.seen d.may_leave opening relations counters o s right k c.requires.claims)
+        ∥∥₁_elim c.requires.right (hlevel props) (λ (opening, relations, counters, right, k, small, some). led_misled relations counters (world d opening o) s c.requires.planning right.sound k
+            (claim_free d opening relations counters o s right k c.requires.claims)
             (subst (λ (a : Act). IfFull a (InPages (looked s) s.room relations counters s.seen.total (λ pages. (free_pages s.seen.total pages < own_needs s.op s.split) ⊎ IsTight s.room pages (record_bytes s.op)))) c.in-Full.is (c.in_ok-page.ensures.full relations counters small k.within))),
       ));
       why = tt;
@@ -109,18 +109,18 @@ returns-in-Full g c = let d = g.D.Device in let o = c.args.self.now in let s = c
     }
 
 pub lock_next-requires-clause-right : goal.lock_next-requires-clause-right
-lock_next-requires-clause-right g c = one_of g.D.Device.seen g.D.Device.may_leave c.args.self.now c.args.scope.now c.requires.right
+lock_next-requires-clause-right g c = one_of g.D.Device c.args.self.now c.args.scope.now c.requires.right
 
 pub keep_plan-requires-clause-right : goal.keep_plan-requires-clause-right
-keep_plan-requires-clause-right g c = one_of g.D.Device.seen g.D.Device.may_leave c.args.self.now c.args.scope.now c.requires.right
+keep_plan-requires-clause-right g c = one_of g.D.Device c.args.self.now c.args.scope.now c.requires.right
 
 pub plan-requires-clause-sound : goal.plan-requires-clause-sound
-plan-requires-clause-sound g c = (known_within g.D.Device.seen g.D.Device.may_leave c.args.self.now c.args.scope.now c.requires.right).whole
+plan-requires-clause-sound g c = (known_within g.D.Device c.args.self.now c.args.scope.now c.requires.right).whole
 
 pub plan-requires-clause-good : goal.plan-requires-clause-good
 plan-requires-clause-good g c = ∥∥₁_map c.requires.right (λ (opening, relations, counters, right, k, small, some).
-    plans_over relations counters (world g.D.Device.seen opening c.args.self.now) c.args.scope.now c.requires.planning right.sound k small)
+    plans_over relations counters (world g.D.Device opening c.args.self.now) c.args.scope.now c.requires.planning right.sound k small)
 
 pub plan-requires-clause-searched : goal.plan-requires-clause-searched
 plan-requires-clause-searched g c = let s = c.args.scope.now in ∥∥₁_elim c.requires.right (searched_prop (looked s) s.seen.total s.op s.search) (λ (opening, relations, counters, right, k, small, some).
-    (planning_of relations counters (world g.D.Device.seen opening c.args.self.now) s c.requires.planning k).searched)
+    (planning_of relations counters (world g.D.Device opening c.args.self.now) s c.requires.planning k).searched)

@@ -18,7 +18,7 @@ returns g c = record {
       let there : looked s page ≡ Some before = c.in-Some.ensures.some in
       let old = view o.store.pool (seen n.device) page in
       let whole : length before ≡ 4096 = c.requires.whole page before there in
-      let long : length old ≡ 4096 = view_whole o.store.pool (seen n.device) page (steady seen g.D.Device.may_leave o.store c.requires.kept).frames c.requires.there in
+      let long : length old ≡ 4096 = view_whole o.store.pool (seen n.device) page (steady g.D.Device o.store c.requires.kept).frames c.requires.there in
       let none : drop (0 + length before) old ≡ [] = drop_all (0 + length before) old (omega (arith, whole, long)) in
       record {
         area = record { opening = refl; total = ap (λ v. length v.items) e.there };

@@ -17,8 +17,8 @@ returns-then-scope-eq1 g c = c.clear.ensures.back
 
 pub put_back-requires : goal.put_back-requires
 put_back-requires g c = let (change, is, same) = c.requires.page in
-    let ready = returnable_one g.D.Device.seen g.D.Device.may_leave c.args.self.now c.args.scope.now change c.requires.right c.requires.stage c.requires.some is in
-    let k = known g.D.Device.seen g.D.Device.may_leave c.args.self.now c.args.scope.now c.requires.right in
+    let ready = returnable_one g.D.Device c.args.self.now c.args.scope.now change c.requires.right c.requires.stage c.requires.some is in
+    let k = known g.D.Device c.args.self.now c.args.scope.now c.requires.right in
     record {
       kept = k.kept;
       looked = subst (λ (p : ℕ). IsSome (looked c.args.scope.now p)) same ready.some;
@@ -36,7 +36,7 @@ returns g c = let b = c.put_back.ensures in let seen = g.D.Device.seen in let ma
     let t = record s { stage = Taking; standing = s.standing - 1 } in
     record {
       goes = λ opening relations counters right k.
-          back_goes seen may_leave opening relations counters o n s change right k c.requires.stage is (b.kept opening right.kept) b.map b.rooms
+          back_goes g.D.Device opening relations counters o n s change right k c.requires.stage is (b.kept opening right.kept) b.map b.rooms
           t (b.back opening change same) more
           (record { op = record { txn = refl; number = refl; op = refl; undoes = refl; split = refl; total = refl }; room = refl; guards = refl; seen = refl; changes = refl; reply = refl }) refl refl (omega arith);
       device = b.device;
@@ -50,7 +50,7 @@ returns g c = let b = c.put_back.ensures in let seen = g.D.Device.seen in let ma
       records = ap (λ (l : Log). appended l) b.log;
       locks = b.locks;
       budget =
-          record { enough = ∥∥₁_elim c.requires.right (hlevel props) (λ (opening, relations, counters, right, k). left_to_drop relations counters (world seen opening o) s k c.requires.stage some c.requires.budget); reads = c.requires.budget.reads };
+          record { enough = ∥∥₁_elim c.requires.right (hlevel props) (λ (opening, relations, counters, right, k). left_to_drop relations counters (world g.D.Device opening o) s k c.requires.stage some c.requires.budget); reads = c.requires.budget.reads };
       err = tt;
       only_memory = tt;
     }

@@ -23,29 +23,29 @@ held_page-requires-clause-idle g c = ∥∥₁_map c.requires.idle (λ (relation
 
 pub held_page-requires-clause-inside : goal.held_page-requires-clause-inside
 held_page-requires-clause-inside g c = ∥∥₁_elim c.requires.idle (hlevel props) (λ (relations, small, idle).
-    fixed_inside g.D.Device.seen g.D.Device.may_leave relations c.args.self.now c.new.result (omega (arith, c.new.ensures)) idle)
+    fixed_inside g.D.Device relations c.args.self.now c.new.result (omega (arith, c.new.ensures)) idle)
 
 pub held_page-requires-2-clause-idle : goal.held_page-requires-2-clause-idle
 held_page-requires-2-clause-idle g c = ∥∥₁_map c.requires.idle (λ (relations, small, idle).
-    let D = g.D.Device in (relations, read_idle D.seen D.may_leave D.moment D.left_since relations c.args.self.now c.held_page.new.self c.held_page.ensures.read idle))
+    let D = g.D.Device in (relations, read_idle D relations c.args.self.now c.held_page.new.self c.held_page.ensures.read idle))
 
 pub held_page-requires-2-clause-inside : goal.held_page-requires-2-clause-inside
 held_page-requires-2-clause-inside g c = ∥∥₁_elim c.requires.idle (hlevel props) (λ (relations, small, idle).
     let D = g.D.Device in
-    fixed_inside D.seen D.may_leave relations c.held_page.new.self c.new-2.result (omega (arith, c.new-2.ensures))
-    (read_idle D.seen D.may_leave D.moment D.left_since relations c.args.self.now c.held_page.new.self c.held_page.ensures.read idle))
+    fixed_inside D relations c.held_page.new.self c.new-2.result (omega (arith, c.new-2.ensures))
+    (read_idle D relations c.args.self.now c.held_page.new.self c.held_page.ensures.read idle))
 
 pub base_without_rows-requires : goal.base_without_rows-requires
 base_without_rows-requires g c =
     let D = g.D.Device in let o = c.args.self.now in let m = c.held_page.new.self in
-    let two = λ (opening : PageBytes) (relations counters : ℕ) (right : IsRight D.seen D.may_leave opening relations counters m). c.in_ok-held_page-2.ensures.held opening relations counters right ∙ ap (λ (p : ℕ). held_in (world D.seen opening m) p) c.new-2.ensures in
+    let two = λ (opening : PageBytes) (relations counters : ℕ) (right : IsRight D opening relations counters m). c.in_ok-held_page-2.ensures.held opening relations counters right ∙ ap (λ (p : ℕ). held_in (world D opening m) p) c.new-2.ensures in
     record {
       few = ∥∥₁_elim c.requires.idle (hlevel props) (λ (relations, small, idle).
-          let is = (counters_page D.seen D.may_leave relations m c.in_ok-held_page-2.field-0 (λ opening counters right. two opening relations counters right)
-          (read_idle D.seen D.may_leave D.moment D.left_since relations o m c.held_page.ensures.read idle)).0 in omega (arith, is, small));
+          let is = (counters_page D relations m c.in_ok-held_page-2.field-0 (λ opening counters right. two opening relations counters right)
+          (read_idle D relations o m c.held_page.ensures.read idle)).0 in omega (arith, is, small));
       counted = ∥∥₁_elim c.requires.idle (hlevel (props, ints)) (λ (relations, small, idle).
-          (counters_page D.seen D.may_leave relations m c.in_ok-held_page-2.field-0 (λ opening counters right. two opening relations counters right)
-          (read_idle D.seen D.may_leave D.moment D.left_since relations o m c.held_page.ensures.read idle)).1);
+          (counters_page D relations m c.in_ok-held_page-2.field-0 (λ opening counters right. two opening relations counters right)
+          (read_idle D relations o m c.held_page.ensures.read idle)).1);
     }
 
 pub list_pages-requires : goal.list_pages-requires
@@ -53,33 +53,33 @@ list_pages-requires g c =
     let D = g.D.Device in let o = c.args.self.now in let m = c.held_page.new.self in let n = c.held_page-2.new.self in
     record {
       idle = ∥∥₁_elim c.requires.idle (hlevel props) (λ (relations, small, idle).
-          let later = read_idle D.seen D.may_leave D.moment D.left_since relations o m c.held_page.ensures.read idle in
-          let outcome = counters_page D.seen D.may_leave relations m c.in_ok-held_page-2.field-0
-          (λ opening counters right. c.in_ok-held_page-2.ensures.held opening relations counters right ∙ ap (λ (p : ℕ). held_in (world D.seen opening m) p) c.new-2.ensures) later in
-          subst (λ (k : ℕ). IsIdle D.seen D.may_leave k n) (sym (c.in_ok-base.ensures.relations ∙ outcome.0)) (read_idle D.seen D.may_leave D.moment D.left_since relations m n c.held_page-2.ensures.read later));
+          let later = read_idle D relations o m c.held_page.ensures.read idle in
+          let outcome = counters_page D relations m c.in_ok-held_page-2.field-0
+          (λ opening counters right. c.in_ok-held_page-2.ensures.held opening relations counters right ∙ ap (λ (p : ℕ). held_in (world D opening m) p) c.new-2.ensures) later in
+          subst (λ (k : ℕ). IsIdle D k n) (sym (c.in_ok-base.ensures.relations ∙ outcome.0)) (read_idle D relations m n c.held_page-2.ensures.read later));
     }
 
 pub returns-in_err-list_pages-clause-read : goal.returns-in_err-list_pages-clause-read
 returns-in_err-list_pages-clause-read g c =
     let D = g.D.Device in
-    reads_both D.seen D.may_leave D.moment D.left_since c.args.self.now c.held_page.new.self c.list_pages.new.self c.held_page.ensures.read
-    (reads_both D.seen D.may_leave D.moment D.left_since c.held_page.new.self c.held_page-2.new.self c.list_pages.new.self c.held_page-2.ensures.read c.list_pages.ensures.read)
+    reads_both D c.args.self.now c.held_page.new.self c.list_pages.new.self c.held_page.ensures.read
+    (reads_both D c.held_page.new.self c.held_page-2.new.self c.list_pages.new.self c.held_page-2.ensures.read c.list_pages.ensures.read)
 
 pub returns-clause-surveyed : goal.returns-clause-surveyed
 returns-clause-surveyed g c = λ opening relations counters held right holds.
     let D = g.D.Device in let o = c.args.self.now in let m = c.held_page.new.self in let n = c.held_page-2.new.self in let bytes = c.in_ok-held_page-2.field-0 in
     let first = c.held_page.ensures.read in
-    let both = reads_both D.seen D.may_leave D.moment D.left_since o m n first c.held_page-2.ensures.read in
-    let all = reads_both D.seen D.may_leave D.moment D.left_since o n c.list_pages.new.self both c.list_pages.ensures.read in
-    let right1 : IsRight D.seen D.may_leave opening relations counters m = read_right D.seen D.may_leave D.moment D.left_since opening relations counters o m first right in
-    let right2 : IsRight D.seen D.may_leave opening relations counters n = read_right D.seen D.may_leave D.moment D.left_since opening relations counters o n both right in
-    let same1 = read_held D.seen D.may_leave D.moment D.left_since opening o m first in
-    let same2 = read_held D.seen D.may_leave D.moment D.left_since opening o n both in
-    let pages' : PageBytes = held_in (world D.seen opening o) in
-    let counts : bytes ≡ pages' 2 = c.in_ok-held_page-2.ensures.held opening relations counters right1 ∙ ap (λ (p : ℕ). held_in (world D.seen opening m) p) c.new-2.ensures ∙ ap (λ (h : PageBytes). h 2) same1 in
+    let both = reads_both D o m n first c.held_page-2.ensures.read in
+    let all = reads_both D o n c.list_pages.new.self both c.list_pages.ensures.read in
+    let right1 : IsRight D opening relations counters m = read_right D opening relations counters o m first right in
+    let right2 : IsRight D opening relations counters n = read_right D opening relations counters o n both right in
+    let same1 = read_held D opening o m first in
+    let same2 = read_held D opening o n both in
+    let pages' : PageBytes = held_in (world D opening o) in
+    let counts : bytes ≡ pages' 2 = c.in_ok-held_page-2.ensures.held opening relations counters right1 ∙ ap (λ (p : ℕ). held_in (world D opening m) p) c.new-2.ensures ∙ ap (λ (h : PageBytes). h 2) same1 in
     let total : pages n.store.pool ≡ pages o.store.pool = ap (λ (p : Pool). pages p) both.pool in
     let listed : HasListed pages' (pages o.store.pool) (base_of c.list_pages.new.base) = subst (λ (X : Type 0). X) (λ i. HasListed (same2 i) (total i) (base_of c.list_pages.new.base))
-    (c.in_ok-list_pages.ensures.listed opening relations counters held right2 (subst (λ (h : PageBytes). Holds h held) (sym same2) holds) (nothing_listed (held_in (world D.seen opening n)) (base_of c.in_ok-base.base) c.in_ok-base.ensures.rows)) in
+    (c.in_ok-list_pages.ensures.listed opening relations counters held right2 (subst (λ (h : PageBytes). Holds h held) (sym same2) holds) (nothing_listed (held_in (world D opening n)) (base_of c.in_ok-base.base) c.in_ok-base.ensures.rows)) in
     record {
       depth = c.depth-depth.ensures ∙ ap depth_in (c.in_ok-held_page.ensures.held opening relations counters right ∙ ap pages' c.new.ensures);
       free = c.free.ensures ∙ ap (λ (x : SpaceMap). free_of x.space) all.map ∙ ap free_in right.space;
@@ -91,15 +91,15 @@ returns-clause-surveyed g c = λ opening relations counters held right holds.
 pub returns-clause-read : goal.returns-clause-read
 returns-clause-read g c =
     let D = g.D.Device in
-    reads_both D.seen D.may_leave D.moment D.left_since c.args.self.now c.held_page.new.self c.list_pages.new.self c.held_page.ensures.read
-    (reads_both D.seen D.may_leave D.moment D.left_since c.held_page.new.self c.held_page-2.new.self c.list_pages.new.self c.held_page-2.ensures.read c.list_pages.ensures.read)
+    reads_both D c.args.self.now c.held_page.new.self c.list_pages.new.self c.held_page.ensures.read
+    (reads_both D c.held_page.new.self c.held_page-2.new.self c.list_pages.new.self c.held_page-2.ensures.read c.list_pages.ensures.read)
 
 pub returns-in_err-held_page-2-clause-read : goal.returns-in_err-held_page-2-clause-read
 returns-in_err-held_page-2-clause-read g c =
     let D = g.D.Device in
-    reads_both D.seen D.may_leave D.moment D.left_since c.args.self.now c.held_page.new.self c.held_page-2.new.self c.held_page.ensures.read c.held_page-2.ensures.read
+    reads_both D c.args.self.now c.held_page.new.self c.held_page-2.new.self c.held_page.ensures.read c.held_page-2.ensures.read
 
 pub returns-in_err-base-clause-read : goal.returns-in_err-base-clause-read
 returns-in_err-base-clause-read g c =
     let D = g.D.Device in
-    reads_both D.seen D.may_leave D.moment D.left_since c.args.self.now c.held_page.new.self c.held_page-2.new.self c.held_page.ensures.read c.held_page-2.ensures.read
+    reads_both D c.args.self.now c.held_page.new.self c.held_page-2.new.self c.held_page.ensures.read c.held_page-2.ensures.read

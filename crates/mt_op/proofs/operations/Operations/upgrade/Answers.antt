@@ -13,13 +13,13 @@ use Rattle.mt_op.proofs.operations.Operations.upgrade.Goals as goal
 pub returns : goal.returns
 returns g c =
     let seen = g.D.Device.seen in let s = c.args.scope.now in let t = c.hold.new.scope in let o = c.args.self.now in let n = c.hold.new.self in let f = c.hold.ensures in
-    let k = known seen g.D.Device.may_leave o s c.requires.right in
+    let k = known g.D.Device o s c.requires.right in
     let inside = k.inside c.args.page c.requires.next.seen in let total = k.total in
-    let opening : PageBytes = λ p. [] in let w = world seen opening o in let z = world seen opening n in let any = f.held opening in
+    let opening : PageBytes = λ p. [] in let w = world g.D.Device opening o in let z = world g.D.Device opening n in let any = f.held opening in
     record {
       goes = λ opening relations counters right k. let held = f.held opening in (
-        asked_right seen g.D.Device.may_leave opening relations counters o n s t c.args.page Write c.hold.result right k c.requires.planning held f.store f.map f.rooms,
-        upgrade_goes_on relations counters (world seen opening o) (world seen opening n) s t c.args.page Write c.hold.result held c.requires.planning c.requires.next.seen k,
+        asked_right g.D.Device opening relations counters o n s t c.args.page Write c.hold.result right k c.requires.planning held f.store f.map f.rooms,
+        upgrade_goes_on relations counters (world g.D.Device opening o) (world g.D.Device opening n) s t c.args.page Write c.hold.result held c.requires.planning c.requires.next.seen k,
       );
       store = f.store;
       map = f.map;
@@ -32,4 +32,4 @@ returns g c =
     }
 
 pub hold-requires : goal.hold-requires
-hold-requires g c = record { locks = (known g.D.Device.seen g.D.Device.may_leave c.args.self.now c.args.scope.now c.requires.right).locks }
+hold-requires g c = record { locks = (known g.D.Device c.args.self.now c.args.scope.now c.requires.right).locks }

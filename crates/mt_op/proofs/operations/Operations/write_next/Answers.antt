@@ -22,8 +22,8 @@ returns-in_err-bring g c = let d = g.D.Device in let f = c.bring.ensures in let 
     record {
       map = f.map;
       stage = c.requires.writing;
-      ahead = subst (GoesAhead d.seen d.may_leave d.moment d.left_since d.faults o c.bring.new.self s s) (sym (p.1 ∙ ap Err (p.2 ∙ subst (λ (r : Result Bool Refusal). IfErr r (λ why. why ≡ refusal.DeviceFailed)) c.in_err-bring.was c.bring.ensures.only_device)))
-          (idle_ahead d.seen d.may_leave d.moment d.left_since d.faults o c.bring.new.self s f.right f.rests f.moments f.once (ap used f.log) (ap area_size f.log) (ap durable f.log) f.map f.locks (Err refusal.DeviceFailed) tt c.requires.writing c.requires.budget
+      ahead = subst (GoesAhead d o c.bring.new.self s s) (sym (p.1 ∙ ap Err (p.2 ∙ subst (λ (r : Result Bool Refusal). IfErr r (λ why. why ≡ refusal.DeviceFailed)) c.in_err-bring.was c.bring.ensures.only_device)))
+          (idle_ahead d o c.bring.new.self s f.right f.rests f.moments f.once (ap used f.log) (ap area_size f.log) (ap durable f.log) f.map f.locks (Err refusal.DeviceFailed) tt c.requires.writing c.requires.budget
           (λ is. absurd cc) (inr refl) (fault_reported _ _ c.bring.result _ (Err refusal.DeviceFailed) f.cause c.in_err-bring.was refl));
     }
 
@@ -32,14 +32,14 @@ returns-then-not-branch g c = let d = g.D.Device in let f = c.bring.ensures in
     record {
       map = f.map;
       stage = c.requires.writing;
-      ahead = idle_ahead d.seen d.may_leave d.moment d.left_since d.faults c.args.self.now c.bring.new.self c.args.scope.now f.right f.rests f.moments f.once (ap used f.log) (ap area_size f.log) (ap durable f.log) f.map f.locks (Ok stepped.Flush) tt c.requires.writing c.requires.budget
+      ahead = idle_ahead d c.args.self.now c.bring.new.self c.args.scope.now f.right f.rests f.moments f.once (ap used f.log) (ap area_size f.log) (ap durable f.log) f.map f.locks (Ok stepped.Flush) tt c.requires.writing c.requires.budget
           (λ is. f.full (c.in_ok-bring.was ∙ ap Ok c.if-not-branch.true)) tt (no_fault_ok _ _ _ (unfailed _ _ c.bring.result _ f.cause c.in_ok-bring.was));
     }
 
 pub write_there-requires : goal.write_there-requires
 write_there-requires g c = let f = c.bring.ensures in let s = c.args.scope.now in
     record {
-      right = one_rests g.D.Device.seen g.D.Device.may_leave c.args.self.now c.bring.new.self s f.right f.rests c.requires.right;
+      right = one_rests g.D.Device c.args.self.now c.bring.new.self s f.right f.rests c.requires.right;
       writing = c.requires.writing;
       more = c.requires.more;
       there = λ x is.
@@ -54,12 +54,12 @@ returns g c = let d = g.D.Device in let f = c.bring.ensures in
     record {
       map = c.write_there.ensures.map ∙ f.map;
       stage = c.write_there.ensures.stage;
-      ahead = ahead_behind d.seen d.may_leave d.moment d.left_since d.faults c.args.self.now c.bring.new.self c.args.scope.now f.right f.rests f.moments f.once (ap used f.log) (ap area_size f.log) (ap durable f.log) f.map f.locks c.write_there.new.self c.write_there.new.scope c.write_there.result
+      ahead = ahead_behind d c.args.self.now c.bring.new.self c.args.scope.now f.right f.rests f.moments f.once (ap used f.log) (ap area_size f.log) (ap durable f.log) f.map f.locks c.write_there.new.self c.write_there.new.scope c.write_there.result
           c.write_there.ensures.ahead c.write_there.ensures.device c.write_there.ensures.never (unfailed _ _ c.bring.result _ f.cause c.in_ok-bring.was);
     }
 
 pub bring-requires-clause-kept : goal.bring-requires-clause-kept
-bring-requires-clause-kept g c = (known g.D.Device.seen g.D.Device.may_leave c.args.self.now c.args.scope.now c.requires.right).kept
+bring-requires-clause-kept g c = (known g.D.Device c.args.self.now c.args.scope.now c.requires.right).kept
 
 pub bring-requires-clause-inside : goal.bring-requires-clause-inside
-bring-requires-clause-inside g c = (writes_on g.D.Device.seen g.D.Device.may_leave c.args.self.now c.args.scope.now c.requires.right c.requires.writing).inside c.index.result.now c.requires.more c.index.ensures
+bring-requires-clause-inside g c = (writes_on g.D.Device c.args.self.now c.args.scope.now c.requires.right c.requires.writing).inside c.index.result.now c.requires.more c.index.ensures

@@ -9,7 +9,7 @@ returns-clause-keeps g c = record {
       let f = c.append.ensures in
       let r = c.requires in
       let more = one_more c.append.result c.args.entry s.log c.append.new.self r.no_page f.log f.err in
-      kept_append g.D.Device.seen g.D.Device.may_leave opening s k c.append.new.self more.0 more.1
+      kept_append g.D.Device opening s k c.append.new.self more.0 more.1
       (sound_either c.append.result _ s.log c.append.new.self c.args.entry f.log f.err r.grammar (any_page _ c.args.entry r.no_page) r.rules) more.2 more.3;
-  moments = λ opening k. no_call g.D.Device.seen g.D.Device.may_leave opening c.args.self.now k g.D.Device.moment g.D.Device.left_since g.met.D.Device.only_now;
+  moments = λ opening k. no_call g.D.Device opening c.args.self.now k g.met.D.Device.only_now;
 }

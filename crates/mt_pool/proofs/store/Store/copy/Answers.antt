@@ -8,19 +8,19 @@ use Rattle.mt_pool.proofs.store.Store.copy.Goals as goal
 
 pub returns-clause-keeps : goal.returns-clause-keeps
 returns-clause-keeps g c =
-    let kept : (opening : _) → IsKept g.D.Device.seen g.D.Device.may_leave opening c.args.self.now → IsKept g.D.Device.seen g.D.Device.may_leave opening _ = λ opening k.
+    let kept : (opening : _) → IsKept g.D.Device opening c.args.self.now → IsKept g.D.Device opening _ = λ opening k.
     let e = c.copy.ensures in let pool = c.args.self.now.pool in
-    kept_read g.D.Device.seen g.D.Device.may_leave opening c.args.self.now k pool c.copy.new.device k.frames (subst (λ (l : List ℕ). Shows pool l) (sym e.seen) k.shows) refl refl refl
+    kept_read g.D.Device opening c.args.self.now k pool c.copy.new.device k.frames (subst (λ (l : List ℕ). Shows pool l) (sym e.seen) k.shows) refl refl refl
     (λ q. ap (λ (l : List ℕ). view pool l q) e.seen) e.seen e.crash in
     record {
       kept = kept;
       moments = λ opening k.
-          each_moment g.D.Device.seen g.D.Device.may_leave g.D.Device.moment g.D.Device.left_since g.met.D.Device.only_now opening c.args.self.now _ k (kept opening k) refl refl refl refl refl
+          each_moment g.D.Device g.met.D.Device.only_now opening c.args.self.now _ k (kept opening k) refl refl refl refl refl
           [] (sym (append-nil (durable c.args.self.now.log))) c.copy.ensures.time;
     }
 
 pub copy-requires-clause-pool : goal.copy-requires-clause-pool
-copy-requires-clause-pool g c = (steady g.D.Device.seen g.D.Device.may_leave c.args.self.now c.requires.open).frames
+copy-requires-clause-pool g c = (steady g.D.Device c.args.self.now c.requires.open).frames
 
 pub copy-requires-clause-shows : goal.copy-requires-clause-shows
-copy-requires-clause-shows g c = (steady g.D.Device.seen g.D.Device.may_leave c.args.self.now c.requires.open).shows
+copy-requires-clause-shows g c = (steady g.D.Device c.args.self.now c.requires.open).shows

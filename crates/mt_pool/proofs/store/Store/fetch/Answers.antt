@@ -7,17 +7,17 @@ use Rattle.mt_pool.proofs.store.Store.fetch.Goals as goal
 
 pub returns-clause-keeps : goal.returns-clause-keeps
 returns-clause-keeps g c =
-    let kept : (opening : _) → IsKept g.D.Device.seen g.D.Device.may_leave opening c.args.self.now → IsKept g.D.Device.seen g.D.Device.may_leave opening _ = λ opening k. let f = c.fetch.ensures in
-    kept_read g.D.Device.seen g.D.Device.may_leave opening c.args.self.now k c.fetch.new.self c.fetch.new.device f.pool f.shows f.waits f.place f.pages f.views f.seen f.crash in
+    let kept : (opening : _) → IsKept g.D.Device opening c.args.self.now → IsKept g.D.Device opening _ = λ opening k. let f = c.fetch.ensures in
+    kept_read g.D.Device opening c.args.self.now k c.fetch.new.self c.fetch.new.device f.pool f.shows f.moves.waits f.moves.place f.moves.pages f.views f.seen f.crash in
     record {
       kept = kept;
       moments = λ opening k. let f = c.fetch.ensures in
-          each_moment g.D.Device.seen g.D.Device.may_leave g.D.Device.moment g.D.Device.left_since g.met.D.Device.only_now opening c.args.self.now _ k (kept opening k) refl refl f.place f.pages refl
+          each_moment g.D.Device g.met.D.Device.only_now opening c.args.self.now _ k (kept opening k) refl refl f.moves.place f.moves.pages refl
           [] (sym (append-nil (durable c.args.self.now.log))) f.time;
     }
 
 pub fetch-requires-clause-pool : goal.fetch-requires-clause-pool
-fetch-requires-clause-pool g c = (steady g.D.Device.seen g.D.Device.may_leave c.args.self.now c.requires.open).frames
+fetch-requires-clause-pool g c = (steady g.D.Device c.args.self.now c.requires.open).frames
 
 pub fetch-requires-clause-shows : goal.fetch-requires-clause-shows
-fetch-requires-clause-shows g c = (steady g.D.Device.seen g.D.Device.may_leave c.args.self.now c.requires.open).shows
+fetch-requires-clause-shows g c = (steady g.D.Device c.args.self.now c.requires.open).shows

@@ -1,7 +1,7 @@
 use Rattle.std.proofs.Common.{◌≡◌, ◌∙◌, ◌++◌, ℕ, List, length, refl, ap, sym, subst, arith, append-nil}
 use Rattle.mt_frame.specs.declared.records.Record.{Record}
 use Rattle.std.proofs.lemmas.List.{length-map}
-use Rattle.mt_frame.specs.History.{some_record, is_of_page}
+use Rattle.mt_area_rules.specs.History.{some_record, is_of_page}
 use Rattle.mt_log.specs.Words.{appended, durable, in_flight, waiting}
 use Rattle.mt_log.specs.Sound.{IsSound}
 use Rattle.mt_pool.specs.Images.{IsSafe}
@@ -36,3 +36,14 @@ returns-clause-kept g c = λ opening safe views.
       rules = r.rules;
       unnamed = λ p lt none. ap (λ (x : List Record). some_record (is_of_page p) x) all ∙ (n.knows.none p lt none).1;
     }
+
+pub returns-clause-over : goal.returns-clause-over
+returns-clause-over g c = let n = c.note_images.ensures in record {
+  views = n.views;
+  page_count = n.pages;
+  frame_count = n.many;
+  place = n.place;
+  log = refl;
+  ruling = refl;
+  device = refl;
+}

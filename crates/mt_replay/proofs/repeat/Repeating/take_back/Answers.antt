@@ -1,6 +1,11 @@
 use Rattle.std.proofs.Common.{◌≡◌, ◌∙◌, ◌++◌, ◌+◌, ◌-◌, ℕ, Bool, List, length, drop, is_some, refl, ap, sym, subst, arith}
 use Rattle.std.specs.BTreeMap.{get}
+use Rattle.std.specs.BTreeSet.{IsFromIterResult}
+use Rattle.std.specs.Map.{keys_of}
 use Rattle.std.specs.Ordering.{nat_cmp}
+use Rattle.std.proofs.lemmas.Iterator.Adapters.{fact_from_collect}
+use Rattle.std.proofs.lemmas.Iterator.Consumers.{YieldsList-from_rest}
+use Rattle.std.proofs.lemmas.Result.{IfOk-at_ok}
 use Rattle.mt_frame.specs.declared.records.Record.{Record}
 use Rattle.mt_log.specs.Batch.{joined}
 use Rattle.mt_log.specs.Found.{records_of}
@@ -11,7 +16,7 @@ use Rattle.mt_steps.specs.Repeated.{logged, put_back}
 use Rattle.mt_replay.specs.Memory.{AreFirst}
 use Rattle.mt_replay.specs.Passes.{AreKnown, IsBackTo, left}
 use Rattle.mt_replay.specs.declared.repeat.TakingBack.{TakingBack}
-use Rattle.mt_replay.proofs.Leaving.{back_none, behind_all, held_is, known_drop, known_shown}
+use Rattle.mt_replay.proofs.Leaving.{back_none, behind_all, held_is, keys_are, known_drop, known_shown}
 use Rattle.mt_replay.proofs.Walking.{joined_at, each_at}
 use Rattle.mt_replay.proofs.repeat.Repeating.take_back.Goals as goal
 
@@ -49,12 +54,14 @@ pub loop-i-init : goal.loop-i-init
 loop-i-init c =
     let bs = c.args.batches.now in
     let known : ℕ → Bool = λ o. is_some (get nat_cmp c.args.self.unfinished o) in
-    let start : TakingBack = record { pages = c.args.self.pages; «open» = c.args.self.unfinished } in
+    let start : TakingBack = record { pages = c.args.self.pages; «open» = c.in_ok-open.«open» } in
+    let entries = c.args.self.unfinished.entries in
+    let made = IfOk-at_ok _ c.in_ok-open.was (fact_from_collect (IsFromIterResult nat_cmp) c.collect.result c.collect.ensures.ran (YieldsList-from_rest (keys_of entries) c.into_keys.ensures.rest)) in
     record {
       inside = omega arith;
       whole = c.requires.whole;
       count = refl;
-      back = λ f first all. subst (λ (rs : List Record). IsBackTo known start rs f) (sym (behind_all bs)) (back_none start known f first (λ o. refl));
+      back = λ f first all. subst (λ (rs : List Record). IsBackTo known start rs f) (sym (behind_all bs)) (back_none start known f first (λ o. made.0 o ∙ keys_are entries o));
     }
 
 pub returns-clause-held : goal.returns-clause-held

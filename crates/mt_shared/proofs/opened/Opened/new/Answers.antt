@@ -9,11 +9,11 @@ use Rattle.mt_shared.proofs.opened.Opened.new.Goals as goal
 
 pub marked-requires-clause-legal : goal.marked-requires-clause-legal
 marked-requires-clause-legal g c = let D = g.D.Device in
-    subst (λ (book : List Committed). IsLegal c.args.base.now book) (sym c.book.ensures.book) (legal_book D.seen D.may_leave c.args.base.now c.args.kernel c.requires.began)
+    subst (λ (book : List Committed). IsLegal c.args.base.now book) (sym c.book.ensures.book) (legal_book c.args.base.now c.args.kernel c.requires.began)
 
 pub invariant_of-result : goal.invariant_of-result
 invariant_of-result g c = let D = g.D.Device in let m = c.in-Ok.ensures in (
-  subst (λ (b : Base). BeganOn D.seen D.may_leave b c.args.kernel) (sym m.base_is) c.requires.began,
+  subst (λ (b : Base). BeganOn b c.args.kernel) (sym m.base_is) c.requires.began,
   m.confirmed,
   m.list ∙ ap labelled (sym m.book_is),
   m.book_is ∙ c.book.ensures.book,

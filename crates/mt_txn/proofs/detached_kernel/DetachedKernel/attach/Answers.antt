@@ -8,9 +8,9 @@ pub invariant_of-result : goal.invariant_of-result
 invariant_of-result g c = let D = g.D.Device in let rest = c.args.self in
     record {
       well = ∥∥₁_elim c.requires ∥∥₁_prop (λ (was, reads, well, first, starts).
-          subst (IsWell D.seen D.may_leave rest.relations rest.counters) (sym c.attach.ensures) (well_attached D.seen D.may_leave D.moment D.left_since rest.relations rest.counters rest.core was c.args.device reads well));
+          subst (IsWell D rest.relations rest.counters) (sym c.attach.ensures) (well_attached D rest.relations rest.counters rest.core was c.args.device reads well));
       starts = ∥∥₁_map c.requires (λ (was, reads, well, first, starts).
-          (first, subst (RestartsFrom D.seen D.may_leave rest.relations rest.counters first) (sym c.attach.ensures) (restarts_attached D.seen D.may_leave D.moment D.left_since rest.relations rest.counters rest.core was c.args.device reads first starts)));
+          (first, subst (RestartsFrom D rest.relations rest.counters first) (sym c.attach.ensures) (restarts_attached D rest.relations rest.counters rest.core was c.args.device reads first starts)));
       schema = rest.schema;
     }
 
@@ -21,6 +21,6 @@ returns g c = let D = g.D.Device in let rest = c.args.self in
       relations = refl;
       counters = refl;
       failed = refl;
-      state = λ was reads first s shows. subst (ShowsIn D.seen D.may_leave rest.relations rest.counters first s) (sym c.attach.ensures) (shows_attached D.seen D.may_leave D.moment D.left_since rest.relations rest.counters rest.core was c.args.device reads first s shows);
-      restarts = λ was reads first starts. subst (RestartsFrom D.seen D.may_leave rest.relations rest.counters first) (sym c.attach.ensures) (restarts_attached D.seen D.may_leave D.moment D.left_since rest.relations rest.counters rest.core was c.args.device reads first starts);
+      state = λ was reads first s shows. subst (ShowsIn D rest.relations rest.counters first s) (sym c.attach.ensures) (shows_attached D rest.relations rest.counters rest.core was c.args.device reads first s shows);
+      restarts = λ was reads first starts. subst (RestartsFrom D rest.relations rest.counters first) (sym c.attach.ensures) (restarts_attached D rest.relations rest.counters rest.core was c.args.device reads first starts);
     }

@@ -9,7 +9,7 @@ use Rattle.mt_txn.proofs.kernel.Kernel.abort_step.Goals as goal
 
 pub returns-in-Some-clause-moments : goal.returns-in-Some-clause-moments
 returns-in-Some-clause-moments g c = λ first r schema. let D = g.D.Device in let k = c.args.self.now in
-    no_call D.seen D.may_leave k.relations k.counters first D.moment D.left_since g.met.D.Device.only_now k.core _ refl r schema
+    no_call D k.relations k.counters first g.met.D.Device.only_now k.core _ refl r schema
 
 pub returns-in_default-place_of-clause-fails : goal.returns-in_default-place_of-clause-fails
 returns-in_default-place_of-clause-fails g c =

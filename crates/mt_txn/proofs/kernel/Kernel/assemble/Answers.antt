@@ -32,7 +32,7 @@ invariant_of-result g c = record {
 pub returns : goal.returns
 returns g c = record {
   shows = λ first o. ∥∥₁_map o (λ (origin, is, y).
-      (origin, origin.first, is, subst (λ (b : Base). IsIn g.D.Device.seen g.D.Device.may_leave origin origin.first (start b) c.new.result) is.first_is (c.new.ensures.state origin y.schema y.bounds y.holds y.right y.escrowed)));
+      (origin, origin.first, is, subst (λ (b : Base). IsIn g.D.Device origin origin.first (start b) c.new.result) is.first_is (c.new.ensures.state origin y.schema y.bounds y.holds y.right y.escrowed)));
   restarts = λ first o. ∥∥₁_map o (λ (origin, is, y). (
     origin,
     origin.first,

@@ -6,4 +6,4 @@ use Rattle.mt_txn.proofs.kernel.Kernel.book.Goals as goal
 
 pub returns-clause-legal : goal.returns-clause-legal
 returns-clause-legal g c = λ first s shows. subst (λ (b : List Committed). ∥ ((s.book ≡ b) × IsLegal first b) ∥₁) (sym c.book.ensures)
-    (legal_of g.D.Device.seen g.D.Device.may_leave c.args.self.now.relations c.args.self.now.counters c.args.self.now.core first s shows)
+    (legal_of g.D.Device c.args.self.now.relations c.args.self.now.counters c.args.self.now.core first s shows)

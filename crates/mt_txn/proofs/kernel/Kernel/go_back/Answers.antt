@@ -18,13 +18,13 @@ use Rattle.mt_txn.proofs.Stepping.{others_of}
 use Rattle.mt_txn.proofs.kernel.Kernel.go_back.Goals as goal
 
 pub take_back_step-outcome-requires-clause-safe : goal.take_back_step-outcome-requires-clause-safe
-take_back_step-outcome-requires-clause-safe g c = sound_of g.D.Device.seen g.D.Device.may_leave c.args.self.now.relations c.args.self.now.counters c.args.self.now.core c.args.self.now.well
+take_back_step-outcome-requires-clause-safe g c = sound_of g.D.Device c.args.self.now.relations c.args.self.now.counters c.args.self.now.core c.args.self.now.well
 
 pub take_back_step-outcome-requires-clause-aborting : goal.take_back_step-outcome-requires-clause-aborting
 take_back_step-outcome-requires-clause-aborting g c = λ r there. let own = c.requires.own r there in (own.1, ap (state_in c.args.self.now.core.live.members) own.0 ∙ c.requires.aborting)
 
 pub invariant_of-self : goal.invariant_of-self
-invariant_of-self g c = record { well = back_well g.D.Device.seen g.D.Device.may_leave c.args.self.now.relations c.args.self.now.counters c.args.self.now.core c.take_back_step-outcome.new.self c.args.place c.take_back_step-outcome.result c.requires.within c.take_back_step-outcome.ensures.back c.args.self.now.well; starts = ∥∥₁_map c.args.self.now.starts (λ (first, r). let D = g.D.Device in let k = c.args.self.now in (first, restarts_on D.seen D.may_leave k.relations k.counters first k.core c.take_back_step-outcome.new.self (back_goes D.seen D.may_leave k.core c.take_back_step-outcome.new.self c.args.place c.take_back_step-outcome.result c.requires.within c.take_back_step-outcome.ensures.back) (c.take_back_step-outcome.ensures.restartable) r)); schema = c.args.self.now.schema }
+invariant_of-self g c = record { well = back_well g.D.Device c.args.self.now.relations c.args.self.now.counters c.args.self.now.core c.take_back_step-outcome.new.self c.args.place c.take_back_step-outcome.result c.requires.within c.take_back_step-outcome.ensures.back c.args.self.now.well; starts = ∥∥₁_map c.args.self.now.starts (λ (first, r). let D = g.D.Device in let k = c.args.self.now in (first, restarts_on D k.relations k.counters first k.core c.take_back_step-outcome.new.self (back_goes D k.core c.take_back_step-outcome.new.self c.args.place c.take_back_step-outcome.result c.requires.within c.take_back_step-outcome.ensures.back) (c.take_back_step-outcome.ensures.restartable) r)); schema = c.args.self.now.schema }
 
 pub returns-in_err-outcome-clause-steps : goal.returns-in_err-outcome-clause-steps
 returns-in_err-outcome-clause-steps g c = record {
@@ -34,7 +34,7 @@ returns-in_err-outcome-clause-steps g c = record {
   states = search rules;
   work = let k = c.args.self.now.core in let n = c.take_back_step-outcome.new.self in
       let at = at_place k.running.items c.args.place c.requires.within in
-      let lowers = subst (λ t. LowersBack c.take_back_step-outcome.result (undo_steps k t) (undo_steps n t)) (c.requires.own at.0 at.1).0 (c.take_back_step-outcome.ensures.lowers at.0 at.1) in
+      let lowers = subst (λ t. LowersBack c.take_back_step-outcome.result (undo_steps k t) (undo_steps n t)) (c.requires.own at.0 at.1).0 (c.take_back_step-outcome.ensures.put.lowers at.0 at.1) in
       let few : undo_steps n c.args.txn ≤ undo_steps k c.args.txn = subst (λ (r : Result TakenBack Refusal). LowersBack r (undo_steps k c.args.txn) (undo_steps n c.args.txn)) c.in_err-outcome.was lowers in
       let p = err_from_is_err_and c.from_residual.result c.from_residual.ensures.1 in
       subst (λ (r : Result AbortStepped Refusal). LowersAbort (pages k.operations.store.pool) r (undo_steps k c.args.txn) (undo_steps n c.args.txn)) (sym p.1) few;
@@ -46,13 +46,13 @@ returns-in_err-outcome-clause-steps g c = record {
   out = search rules;
   schema = search rules;
   restarts = λ first r. let D = g.D.Device in let k = c.args.self.now in
-      restarts_on D.seen D.may_leave k.relations k.counters first k.core c.take_back_step-outcome.new.self (back_goes D.seen D.may_leave k.core c.take_back_step-outcome.new.self c.args.place c.take_back_step-outcome.result c.requires.within c.take_back_step-outcome.ensures.back) (c.take_back_step-outcome.ensures.restartable) r;
+      restarts_on D k.relations k.counters first k.core c.take_back_step-outcome.new.self (back_goes D k.core c.take_back_step-outcome.new.self c.args.place c.take_back_step-outcome.result c.requires.within c.take_back_step-outcome.ensures.back) (c.take_back_step-outcome.ensures.restartable) r;
   moments = λ first r schema. let D = g.D.Device in let k = c.args.self.now in
-      meanwhile D.seen D.may_leave k.relations k.counters first D.moment D.left_since g.met.D.Device.only_now k.core _ c.take_back_step-outcome.ensures.moments r schema;
-  once = c.take_back_step-outcome.ensures.once;
-  others = others_of c.args.self.now.core.running.items c.take_back_step-outcome.new.self.running.items c.args.place c.args.txn c.requires.within (λ r at. (c.requires.own r at).0) c.take_back_step-outcome.ensures.others;
+      meanwhile D k.relations k.counters first g.met.D.Device.only_now k.core _ c.take_back_step-outcome.ensures.put.moments r schema;
+  once = c.take_back_step-outcome.ensures.put.once;
+  others = others_of c.args.self.now.core.running.items c.take_back_step-outcome.new.self.running.items c.args.place c.args.txn c.requires.within (λ r at. (c.requires.own r at).0) c.take_back_step-outcome.ensures.put.others;
   aborted = λ first s shows. let p = err_from_is_err_and c.from_residual.result c.from_residual.ensures.1 in
-      err_aborted _ s c.args.txn c.from_residual.result p.0 p.1 (subst (BackShown g.D.Device.seen g.D.Device.may_leave c.args.self.now.relations c.args.self.now.counters c.take_back_step-outcome.new.self first s c.args.txn) c.in_err-outcome.was (back_shown g.D.Device.seen g.D.Device.may_leave c.args.self.now.relations c.args.self.now.counters c.args.self.now.core c.take_back_step-outcome.new.self first s c.args.txn c.args.place c.take_back_step-outcome.result c.requires.within (λ r there. (c.requires.own r there).0) c.take_back_step-outcome.ensures.back shows));
+      err_aborted _ s c.args.txn c.from_residual.result p.0 p.1 (subst (BackShown g.D.Device c.args.self.now.relations c.args.self.now.counters c.take_back_step-outcome.new.self first s c.args.txn) c.in_err-outcome.was (back_shown g.D.Device c.args.self.now.relations c.args.self.now.counters c.args.self.now.core c.take_back_step-outcome.new.self first s c.args.txn c.args.place c.take_back_step-outcome.result c.requires.within (λ r there. (c.requires.own r there).0) c.take_back_step-outcome.ensures.back shows));
 }
 
 pub returns-in-More-clause-steps : goal.returns-in-More-clause-steps
@@ -63,7 +63,7 @@ returns-in-More-clause-steps g c = record {
   states = search rules;
   work = let k = c.args.self.now.core in let n = c.take_back_step-outcome.new.self in
       let at = at_place k.running.items c.args.place c.requires.within in
-      let lowers = subst (λ t. LowersBack c.take_back_step-outcome.result (undo_steps k t) (undo_steps n t)) (c.requires.own at.0 at.1).0 (c.take_back_step-outcome.ensures.lowers at.0 at.1) in
+      let lowers = subst (λ t. LowersBack c.take_back_step-outcome.result (undo_steps k t) (undo_steps n t)) (c.requires.own at.0 at.1).0 (c.take_back_step-outcome.ensures.put.lowers at.0 at.1) in
       subst (λ (r : Result TakenBack Refusal). LowersBack r (undo_steps k c.args.txn) (undo_steps n c.args.txn)) (c.in_ok-outcome.was ∙ ap Ok c.in-More.is) lowers;
   other = search rules;
   full = search rules;
@@ -73,13 +73,13 @@ returns-in-More-clause-steps g c = record {
   out = search rules;
   schema = search rules;
   restarts = λ first r. let D = g.D.Device in let k = c.args.self.now in
-      restarts_on D.seen D.may_leave k.relations k.counters first k.core c.take_back_step-outcome.new.self (back_goes D.seen D.may_leave k.core c.take_back_step-outcome.new.self c.args.place c.take_back_step-outcome.result c.requires.within c.take_back_step-outcome.ensures.back) (c.take_back_step-outcome.ensures.restartable) r;
+      restarts_on D k.relations k.counters first k.core c.take_back_step-outcome.new.self (back_goes D k.core c.take_back_step-outcome.new.self c.args.place c.take_back_step-outcome.result c.requires.within c.take_back_step-outcome.ensures.back) (c.take_back_step-outcome.ensures.restartable) r;
   moments = λ first r schema. let D = g.D.Device in let k = c.args.self.now in
-      meanwhile D.seen D.may_leave k.relations k.counters first D.moment D.left_since g.met.D.Device.only_now k.core _ c.take_back_step-outcome.ensures.moments r schema;
-  once = c.take_back_step-outcome.ensures.once;
-  others = others_of c.args.self.now.core.running.items c.take_back_step-outcome.new.self.running.items c.args.place c.args.txn c.requires.within (λ r at. (c.requires.own r at).0) c.take_back_step-outcome.ensures.others;
-  aborted = λ first s shows. back_stands g.D.Device.seen g.D.Device.may_leave c.args.self.now.relations c.args.self.now.counters c.take_back_step-outcome.new.self first s c.args.txn (subst (BackShown g.D.Device.seen g.D.Device.may_leave c.args.self.now.relations c.args.self.now.counters c.take_back_step-outcome.new.self first s c.args.txn) (c.in_ok-outcome.was ∙ ap Ok c.in-More.is)
-      (back_shown g.D.Device.seen g.D.Device.may_leave c.args.self.now.relations c.args.self.now.counters c.args.self.now.core c.take_back_step-outcome.new.self first s c.args.txn c.args.place c.take_back_step-outcome.result c.requires.within (λ r there. (c.requires.own r there).0) c.take_back_step-outcome.ensures.back shows));
+      meanwhile D k.relations k.counters first g.met.D.Device.only_now k.core _ c.take_back_step-outcome.ensures.put.moments r schema;
+  once = c.take_back_step-outcome.ensures.put.once;
+  others = others_of c.args.self.now.core.running.items c.take_back_step-outcome.new.self.running.items c.args.place c.args.txn c.requires.within (λ r at. (c.requires.own r at).0) c.take_back_step-outcome.ensures.put.others;
+  aborted = λ first s shows. back_stands g.D.Device c.args.self.now.relations c.args.self.now.counters c.take_back_step-outcome.new.self first s c.args.txn (subst (BackShown g.D.Device c.args.self.now.relations c.args.self.now.counters c.take_back_step-outcome.new.self first s c.args.txn) (c.in_ok-outcome.was ∙ ap Ok c.in-More.is)
+      (back_shown g.D.Device c.args.self.now.relations c.args.self.now.counters c.args.self.now.core c.take_back_step-outcome.new.self first s c.args.txn c.args.place c.take_back_step-outcome.result c.requires.within (λ r there. (c.requires.own r there).0) c.take_back_step-outcome.ensures.back shows));
 }
 
 pub returns-in-Flush-clause-steps : goal.returns-in-Flush-clause-steps
@@ -90,7 +90,7 @@ returns-in-Flush-clause-steps g c = record {
   states = search rules;
   work = let k = c.args.self.now.core in let n = c.take_back_step-outcome.new.self in
       let at = at_place k.running.items c.args.place c.requires.within in
-      let lowers = subst (λ t. LowersBack c.take_back_step-outcome.result (undo_steps k t) (undo_steps n t)) (c.requires.own at.0 at.1).0 (c.take_back_step-outcome.ensures.lowers at.0 at.1) in
+      let lowers = subst (λ t. LowersBack c.take_back_step-outcome.result (undo_steps k t) (undo_steps n t)) (c.requires.own at.0 at.1).0 (c.take_back_step-outcome.ensures.put.lowers at.0 at.1) in
       subst (λ (r : Result TakenBack Refusal). LowersBack r (undo_steps k c.args.txn) (undo_steps n c.args.txn)) (c.in_ok-outcome.was ∙ ap Ok c.in-Flush.is) lowers;
   other = search rules;
   full = search rules;
@@ -100,13 +100,13 @@ returns-in-Flush-clause-steps g c = record {
   out = search rules;
   schema = search rules;
   restarts = λ first r. let D = g.D.Device in let k = c.args.self.now in
-      restarts_on D.seen D.may_leave k.relations k.counters first k.core c.take_back_step-outcome.new.self (back_goes D.seen D.may_leave k.core c.take_back_step-outcome.new.self c.args.place c.take_back_step-outcome.result c.requires.within c.take_back_step-outcome.ensures.back) (c.take_back_step-outcome.ensures.restartable) r;
+      restarts_on D k.relations k.counters first k.core c.take_back_step-outcome.new.self (back_goes D k.core c.take_back_step-outcome.new.self c.args.place c.take_back_step-outcome.result c.requires.within c.take_back_step-outcome.ensures.back) (c.take_back_step-outcome.ensures.restartable) r;
   moments = λ first r schema. let D = g.D.Device in let k = c.args.self.now in
-      meanwhile D.seen D.may_leave k.relations k.counters first D.moment D.left_since g.met.D.Device.only_now k.core _ c.take_back_step-outcome.ensures.moments r schema;
-  once = c.take_back_step-outcome.ensures.once;
-  others = others_of c.args.self.now.core.running.items c.take_back_step-outcome.new.self.running.items c.args.place c.args.txn c.requires.within (λ r at. (c.requires.own r at).0) c.take_back_step-outcome.ensures.others;
-  aborted = λ first s shows. subst (BackShown g.D.Device.seen g.D.Device.may_leave c.args.self.now.relations c.args.self.now.counters c.take_back_step-outcome.new.self first s c.args.txn) (c.in_ok-outcome.was ∙ ap Ok c.in-Flush.is)
-      (back_shown g.D.Device.seen g.D.Device.may_leave c.args.self.now.relations c.args.self.now.counters c.args.self.now.core c.take_back_step-outcome.new.self first s c.args.txn c.args.place c.take_back_step-outcome.result c.requires.within (λ r there. (c.requires.own r there).0) c.take_back_step-outcome.ensures.back shows);
+      meanwhile D k.relations k.counters first g.met.D.Device.only_now k.core _ c.take_back_step-outcome.ensures.put.moments r schema;
+  once = c.take_back_step-outcome.ensures.put.once;
+  others = others_of c.args.self.now.core.running.items c.take_back_step-outcome.new.self.running.items c.args.place c.args.txn c.requires.within (λ r at. (c.requires.own r at).0) c.take_back_step-outcome.ensures.put.others;
+  aborted = λ first s shows. subst (BackShown g.D.Device c.args.self.now.relations c.args.self.now.counters c.take_back_step-outcome.new.self first s c.args.txn) (c.in_ok-outcome.was ∙ ap Ok c.in-Flush.is)
+      (back_shown g.D.Device c.args.self.now.relations c.args.self.now.counters c.args.self.now.core c.take_back_step-outcome.new.self first s c.args.txn c.args.place c.take_back_step-outcome.result c.requires.within (λ r there. (c.requires.own r there).0) c.take_back_step-outcome.ensures.back shows);
 }
 
 pub returns-in-Clear-clause-steps : goal.returns-in-Clear-clause-steps
@@ -117,7 +117,7 @@ returns-in-Clear-clause-steps g c = record {
   states = search rules;
   work = let k = c.args.self.now.core in let n = c.take_back_step-outcome.new.self in
       let at = at_place k.running.items c.args.place c.requires.within in
-      let lowers = subst (λ t. LowersBack c.take_back_step-outcome.result (undo_steps k t) (undo_steps n t)) (c.requires.own at.0 at.1).0 (c.take_back_step-outcome.ensures.lowers at.0 at.1) in
+      let lowers = subst (λ t. LowersBack c.take_back_step-outcome.result (undo_steps k t) (undo_steps n t)) (c.requires.own at.0 at.1).0 (c.take_back_step-outcome.ensures.put.lowers at.0 at.1) in
       subst (λ (r : Result TakenBack Refusal). LowersBack r (undo_steps k c.args.txn) (undo_steps n c.args.txn)) (c.in_ok-outcome.was ∙ ap Ok c.in-Clear.is) lowers;
   other = search rules;
   full = search rules;
@@ -127,11 +127,11 @@ returns-in-Clear-clause-steps g c = record {
   out = search rules;
   schema = search rules;
   restarts = λ first r. let D = g.D.Device in let k = c.args.self.now in
-      restarts_on D.seen D.may_leave k.relations k.counters first k.core c.take_back_step-outcome.new.self (back_goes D.seen D.may_leave k.core c.take_back_step-outcome.new.self c.args.place c.take_back_step-outcome.result c.requires.within c.take_back_step-outcome.ensures.back) (c.take_back_step-outcome.ensures.restartable) r;
+      restarts_on D k.relations k.counters first k.core c.take_back_step-outcome.new.self (back_goes D k.core c.take_back_step-outcome.new.self c.args.place c.take_back_step-outcome.result c.requires.within c.take_back_step-outcome.ensures.back) (c.take_back_step-outcome.ensures.restartable) r;
   moments = λ first r schema. let D = g.D.Device in let k = c.args.self.now in
-      meanwhile D.seen D.may_leave k.relations k.counters first D.moment D.left_since g.met.D.Device.only_now k.core _ c.take_back_step-outcome.ensures.moments r schema;
-  once = c.take_back_step-outcome.ensures.once;
-  others = others_of c.args.self.now.core.running.items c.take_back_step-outcome.new.self.running.items c.args.place c.args.txn c.requires.within (λ r at. (c.requires.own r at).0) c.take_back_step-outcome.ensures.others;
-  aborted = λ first s shows. subst (BackShown g.D.Device.seen g.D.Device.may_leave c.args.self.now.relations c.args.self.now.counters c.take_back_step-outcome.new.self first s c.args.txn) (c.in_ok-outcome.was ∙ ap Ok c.in-Clear.is)
-      (back_shown g.D.Device.seen g.D.Device.may_leave c.args.self.now.relations c.args.self.now.counters c.args.self.now.core c.take_back_step-outcome.new.self first s c.args.txn c.args.place c.take_back_step-outcome.result c.requires.within (λ r there. (c.requires.own r there).0) c.take_back_step-outcome.ensures.back shows);
+      meanwhile D k.relations k.counters first g.met.D.Device.only_now k.core _ c.take_back_step-outcome.ensures.put.moments r schema;
+  once = c.take_back_step-outcome.ensures.put.once;
+  others = others_of c.args.self.now.core.running.items c.take_back_step-outcome.new.self.running.items c.args.place c.args.txn c.requires.within (λ r at. (c.requires.own r at).0) c.take_back_step-outcome.ensures.put.others;
+  aborted = λ first s shows. subst (BackShown g.D.Device c.args.self.now.relations c.args.self.now.counters c.take_back_step-outcome.new.self first s c.args.txn) (c.in_ok-outcome.was ∙ ap Ok c.in-Clear.is)
+      (back_shown g.D.Device c.args.self.now.relations c.args.self.now.counters c.args.self.now.core c.take_back_step-outcome.new.self first s c.args.txn c.args.place c.take_back_step-outcome.result c.requires.within (λ r there. (c.requires.own r there).0) c.take_back_step-outcome.ensures.back shows);
 }

@@ -21,19 +21,19 @@ use Rattle.mt_core.specs.Work.{steps_in}
 use Rattle.mt_txn.proofs.kernel.Kernel.undo_next.Goals as goal
 
 pub undo_begin-requires-clause-safe : goal.undo_begin-requires-clause-safe
-undo_begin-requires-clause-safe g c = sound_of g.D.Device.seen g.D.Device.may_leave c.args.self.now.relations c.args.self.now.counters c.args.self.now.core c.args.self.now.well
+undo_begin-requires-clause-safe g c = sound_of g.D.Device c.args.self.now.relations c.args.self.now.counters c.args.self.now.core c.args.self.now.well
 
 pub invariant_of-self : goal.invariant_of-self
-invariant_of-self g c = record { well = well_led g.D.Device.seen g.D.Device.may_leave c.args.self.now.relations c.args.self.now.counters c.args.self.now.core c.undo_begin.new.self (λ z. z) (stays_led g.D.Device.seen g.D.Device.may_leave c.args.self.now.relations c.args.self.now.counters c.args.self.now.core c.undo_begin.new.self c.undo_begin.ensures.state) c.args.self.now.well; starts = ∥∥₁_map c.args.self.now.starts (λ (first, r). let D = g.D.Device in let k = c.args.self.now in (first, restarts_on D.seen D.may_leave k.relations k.counters first k.core c.undo_begin.new.self (stays_goes D.seen D.may_leave k.core c.undo_begin.new.self c.undo_begin.ensures.state) (c.undo_begin.ensures.restartable) r)); schema = c.args.self.now.schema }
+invariant_of-self g c = record { well = well_led g.D.Device c.args.self.now.relations c.args.self.now.counters c.args.self.now.core c.undo_begin.new.self (λ z. z) (stays_led g.D.Device c.args.self.now.relations c.args.self.now.counters c.args.self.now.core c.undo_begin.new.self c.undo_begin.ensures.state) c.args.self.now.well; starts = ∥∥₁_map c.args.self.now.starts (λ (first, r). let D = g.D.Device in let k = c.args.self.now in (first, restarts_on D k.relations k.counters first k.core c.undo_begin.new.self (stays_goes D k.core c.undo_begin.new.self c.undo_begin.ensures.state) (c.undo_begin.ensures.restartable) r)); schema = c.args.self.now.schema }
 
 pub invariant_of-self-then-branch : goal.invariant_of-self-then-branch
-invariant_of-self-then-branch g c = record { well = well_led g.D.Device.seen g.D.Device.may_leave c.args.self.now.relations c.args.self.now.counters c.args.self.now.core c.undo_begin.new.self (λ z. z) (stays_led g.D.Device.seen g.D.Device.may_leave c.args.self.now.relations c.args.self.now.counters c.args.self.now.core c.undo_begin.new.self c.undo_begin.ensures.state) c.args.self.now.well; starts = ∥∥₁_map c.args.self.now.starts (λ (first, r). let D = g.D.Device in let k = c.args.self.now in (first, restarts_on D.seen D.may_leave k.relations k.counters first k.core c.undo_begin.new.self (stays_goes D.seen D.may_leave k.core c.undo_begin.new.self c.undo_begin.ensures.state) (c.undo_begin.ensures.restartable) r)); schema = c.args.self.now.schema }
+invariant_of-self-then-branch g c = record { well = well_led g.D.Device c.args.self.now.relations c.args.self.now.counters c.args.self.now.core c.undo_begin.new.self (λ z. z) (stays_led g.D.Device c.args.self.now.relations c.args.self.now.counters c.args.self.now.core c.undo_begin.new.self c.undo_begin.ensures.state) c.args.self.now.well; starts = ∥∥₁_map c.args.self.now.starts (λ (first, r). let D = g.D.Device in let k = c.args.self.now in (first, restarts_on D k.relations k.counters first k.core c.undo_begin.new.self (stays_goes D k.core c.undo_begin.new.self c.undo_begin.ensures.state) (c.undo_begin.ensures.restartable) r)); schema = c.args.self.now.schema }
 
 pub abort_end-requires-clause-safe : goal.abort_end-requires-clause-safe
-abort_end-requires-clause-safe g c = sound_of g.D.Device.seen g.D.Device.may_leave c.args.self.now.relations c.args.self.now.counters c.undo_begin.new.self (well_led g.D.Device.seen g.D.Device.may_leave c.args.self.now.relations c.args.self.now.counters c.args.self.now.core c.undo_begin.new.self (λ z. z) (stays_led g.D.Device.seen g.D.Device.may_leave c.args.self.now.relations c.args.self.now.counters c.args.self.now.core c.undo_begin.new.self c.undo_begin.ensures.state) c.args.self.now.well)
+abort_end-requires-clause-safe g c = sound_of g.D.Device c.args.self.now.relations c.args.self.now.counters c.undo_begin.new.self (well_led g.D.Device c.args.self.now.relations c.args.self.now.counters c.args.self.now.core c.undo_begin.new.self (λ z. z) (stays_led g.D.Device c.args.self.now.relations c.args.self.now.counters c.args.self.now.core c.undo_begin.new.self c.undo_begin.ensures.state) c.args.self.now.well)
 
 pub invariant_of-self-2 : goal.invariant_of-self-2
-invariant_of-self-2 g c = record { well = well_either g.D.Device.seen g.D.Device.may_leave c.args.self.now.relations c.args.self.now.counters c.undo_begin.new.self c.abort_end.new.self (λ s. gone s c.args.txn) c.abort_end.result c.abort_end.ensures.gone c.abort_end.ensures.err (well_led g.D.Device.seen g.D.Device.may_leave c.args.self.now.relations c.args.self.now.counters c.args.self.now.core c.undo_begin.new.self (λ z. z) (stays_led g.D.Device.seen g.D.Device.may_leave c.args.self.now.relations c.args.self.now.counters c.args.self.now.core c.undo_begin.new.self c.undo_begin.ensures.state) c.args.self.now.well); starts = ∥∥₁_map c.args.self.now.starts (λ (first, r). let D = g.D.Device in let k = c.args.self.now in (first, restarts_on D.seen D.may_leave k.relations k.counters first c.undo_begin.new.self c.abort_end.new.self (either_goes D.seen D.may_leave c.undo_begin.new.self c.abort_end.new.self (λ s. gone s c.args.txn) c.abort_end.result c.abort_end.ensures.gone c.abort_end.ensures.err) c.abort_end.ensures.restartable (restarts_on D.seen D.may_leave k.relations k.counters first k.core c.undo_begin.new.self (stays_goes D.seen D.may_leave k.core c.undo_begin.new.self c.undo_begin.ensures.state) (c.undo_begin.ensures.restartable) r))); schema = c.args.self.now.schema }
+invariant_of-self-2 g c = record { well = well_either g.D.Device c.args.self.now.relations c.args.self.now.counters c.undo_begin.new.self c.abort_end.new.self (λ s. gone s c.args.txn) c.abort_end.result c.abort_end.ensures.gone c.abort_end.ensures.err (well_led g.D.Device c.args.self.now.relations c.args.self.now.counters c.args.self.now.core c.undo_begin.new.self (λ z. z) (stays_led g.D.Device c.args.self.now.relations c.args.self.now.counters c.args.self.now.core c.undo_begin.new.self c.undo_begin.ensures.state) c.args.self.now.well); starts = ∥∥₁_map c.args.self.now.starts (λ (first, r). let D = g.D.Device in let k = c.args.self.now in (first, restarts_on D k.relations k.counters first c.undo_begin.new.self c.abort_end.new.self (either_goes D c.undo_begin.new.self c.abort_end.new.self (λ s. gone s c.args.txn) c.abort_end.result c.abort_end.ensures.gone c.abort_end.ensures.err) c.abort_end.ensures.restartable (restarts_on D k.relations k.counters first k.core c.undo_begin.new.self (stays_goes D k.core c.undo_begin.new.self c.undo_begin.ensures.state) (c.undo_begin.ensures.restartable) r))); schema = c.args.self.now.schema }
 
 pub returns-in_err-undo_begin-clause-steps : goal.returns-in_err-undo_begin-clause-steps
 returns-in_err-undo_begin-clause-steps g c = record {
@@ -52,13 +52,13 @@ returns-in_err-undo_begin-clause-steps g c = record {
   out = search rules;
   schema = search rules;
   restarts = λ first r. let D = g.D.Device in let k = c.args.self.now in
-      restarts_on D.seen D.may_leave k.relations k.counters first k.core c.undo_begin.new.self (stays_goes D.seen D.may_leave k.core c.undo_begin.new.self c.undo_begin.ensures.state) (c.undo_begin.ensures.restartable) r;
+      restarts_on D k.relations k.counters first k.core c.undo_begin.new.self (stays_goes D k.core c.undo_begin.new.self c.undo_begin.ensures.state) (c.undo_begin.ensures.restartable) r;
   moments = λ first r schema. let D = g.D.Device in let k = c.args.self.now in
-      no_call D.seen D.may_leave k.relations k.counters first D.moment D.left_since g.met.D.Device.only_now k.core _ (ap (λ (s : Store g.row.D.Denot). s.device) c.undo_begin.ensures.store) r schema;
-  once = once_same _ _ (ap g.D.Device.moment (ap (λ (s : Store g.row.D.Denot). s.device) c.undo_begin.ensures.store));
-  others = c.undo_begin.ensures.others;
+      no_call D k.relations k.counters first g.met.D.Device.only_now k.core _ (ap (λ (s : Store g.row.D.Denot). s.device) c.undo_begin.ensures.keeps.store) r schema;
+  once = once_same _ _ (ap g.D.Device.moment (ap (λ (s : Store g.row.D.Denot). s.device) c.undo_begin.ensures.keeps.store));
+  others = c.undo_begin.ensures.keeps.others;
   aborted = λ first s shows. let p = err_from_is_err_and c.from_residual.result c.from_residual.ensures.1 in
-      err_aborted _ s c.args.txn c.from_residual.result p.0 p.1 (led g.D.Device.seen g.D.Device.may_leave c.args.self.now.relations c.args.self.now.counters c.args.self.now.core c.undo_begin.new.self (λ z. z) first s (stays_led g.D.Device.seen g.D.Device.may_leave c.args.self.now.relations c.args.self.now.counters c.args.self.now.core c.undo_begin.new.self c.undo_begin.ensures.state) shows);
+      err_aborted _ s c.args.txn c.from_residual.result p.0 p.1 (led g.D.Device c.args.self.now.relations c.args.self.now.counters c.args.self.now.core c.undo_begin.new.self (λ z. z) first s (stays_led g.D.Device c.args.self.now.relations c.args.self.now.counters c.args.self.now.core c.undo_begin.new.self c.undo_begin.ensures.state) shows);
 }
 
 pub returns-then-branch-clause-steps : goal.returns-then-branch-clause-steps
@@ -76,12 +76,12 @@ returns-then-branch-clause-steps g c = record {
   out = search rules;
   schema = search rules;
   restarts = λ first r. let D = g.D.Device in let k = c.args.self.now in
-      restarts_on D.seen D.may_leave k.relations k.counters first k.core c.undo_begin.new.self (stays_goes D.seen D.may_leave k.core c.undo_begin.new.self c.undo_begin.ensures.state) (c.undo_begin.ensures.restartable) r;
+      restarts_on D k.relations k.counters first k.core c.undo_begin.new.self (stays_goes D k.core c.undo_begin.new.self c.undo_begin.ensures.state) (c.undo_begin.ensures.restartable) r;
   moments = λ first r schema. let D = g.D.Device in let k = c.args.self.now in
-      no_call D.seen D.may_leave k.relations k.counters first D.moment D.left_since g.met.D.Device.only_now k.core _ (ap (λ (s : Store g.row.D.Denot). s.device) c.undo_begin.ensures.store) r schema;
-  once = once_same _ _ (ap g.D.Device.moment (ap (λ (s : Store g.row.D.Denot). s.device) c.undo_begin.ensures.store));
-  others = c.undo_begin.ensures.others;
-  aborted = λ first s shows. back_stands g.D.Device.seen g.D.Device.may_leave c.args.self.now.relations c.args.self.now.counters c.undo_begin.new.self first s c.args.txn (led g.D.Device.seen g.D.Device.may_leave c.args.self.now.relations c.args.self.now.counters c.args.self.now.core c.undo_begin.new.self (λ z. z) first s (stays_led g.D.Device.seen g.D.Device.may_leave c.args.self.now.relations c.args.self.now.counters c.args.self.now.core c.undo_begin.new.self c.undo_begin.ensures.state) shows);
+      no_call D k.relations k.counters first g.met.D.Device.only_now k.core _ (ap (λ (s : Store g.row.D.Denot). s.device) c.undo_begin.ensures.keeps.store) r schema;
+  once = once_same _ _ (ap g.D.Device.moment (ap (λ (s : Store g.row.D.Denot). s.device) c.undo_begin.ensures.keeps.store));
+  others = c.undo_begin.ensures.keeps.others;
+  aborted = λ first s shows. back_stands g.D.Device c.args.self.now.relations c.args.self.now.counters c.undo_begin.new.self first s c.args.txn (led g.D.Device c.args.self.now.relations c.args.self.now.counters c.args.self.now.core c.undo_begin.new.self (λ z. z) first s (stays_led g.D.Device c.args.self.now.relations c.args.self.now.counters c.args.self.now.core c.undo_begin.new.self c.undo_begin.ensures.state) shows);
 }
 
 pub returns-in_err-abort_end-clause-steps : goal.returns-in_err-abort_end-clause-steps
@@ -103,14 +103,14 @@ returns-in_err-abort_end-clause-steps g c = record {
   out = search rules;
   schema = search rules;
   restarts = λ first r. let D = g.D.Device in let k = c.args.self.now in
-      restarts_on D.seen D.may_leave k.relations k.counters first c.undo_begin.new.self c.abort_end.new.self (either_goes D.seen D.may_leave c.undo_begin.new.self c.abort_end.new.self (λ s. gone s c.args.txn) c.abort_end.result c.abort_end.ensures.gone c.abort_end.ensures.err) c.abort_end.ensures.restartable
-      (restarts_on D.seen D.may_leave k.relations k.counters first k.core c.undo_begin.new.self (stays_goes D.seen D.may_leave k.core c.undo_begin.new.self c.undo_begin.ensures.state) (c.undo_begin.ensures.restartable) r);
+      restarts_on D k.relations k.counters first c.undo_begin.new.self c.abort_end.new.self (either_goes D c.undo_begin.new.self c.abort_end.new.self (λ s. gone s c.args.txn) c.abort_end.result c.abort_end.ensures.gone c.abort_end.ensures.err) c.abort_end.ensures.restartable
+      (restarts_on D k.relations k.counters first k.core c.undo_begin.new.self (stays_goes D k.core c.undo_begin.new.self c.undo_begin.ensures.state) (c.undo_begin.ensures.restartable) r);
   moments = λ first r schema. let D = g.D.Device in let k = c.args.self.now in
-      no_call D.seen D.may_leave k.relations k.counters first D.moment D.left_since g.met.D.Device.only_now k.core _ (c.abort_end.ensures.device ∙ ap (λ (s : Store g.row.D.Denot). s.device) c.undo_begin.ensures.store) r schema;
-  once = once_same _ _ (ap g.D.Device.moment (c.abort_end.ensures.device ∙ ap (λ (s : Store g.row.D.Denot). s.device) c.undo_begin.ensures.store));
-  others = λ u other. ap (λ v. steps_in v.items u) c.abort_end.ensures.running ∙ c.undo_begin.ensures.others u other;
+      no_call D k.relations k.counters first g.met.D.Device.only_now k.core _ (c.abort_end.ensures.keeps.device ∙ ap (λ (s : Store g.row.D.Denot). s.device) c.undo_begin.ensures.keeps.store) r schema;
+  once = once_same _ _ (ap g.D.Device.moment (c.abort_end.ensures.keeps.device ∙ ap (λ (s : Store g.row.D.Denot). s.device) c.undo_begin.ensures.keeps.store));
+  others = λ u other. ap (λ v. steps_in v.items u) c.abort_end.ensures.keeps.running ∙ c.undo_begin.ensures.keeps.others u other;
   aborted = λ first s shows. let p = err_from_is_err_and c.from_residual-in_err-abort_end.result c.from_residual-in_err-abort_end.ensures.1 in
-      err_aborted _ s c.args.txn c.from_residual-in_err-abort_end.result p.0 p.1 (led g.D.Device.seen g.D.Device.may_leave c.args.self.now.relations c.args.self.now.counters c.undo_begin.new.self c.abort_end.new.self (λ z. z) first s (λ origin base safe. (base, c.in_err-abort_end.ensures.err origin base safe)) (led g.D.Device.seen g.D.Device.may_leave c.args.self.now.relations c.args.self.now.counters c.args.self.now.core c.undo_begin.new.self (λ z. z) first s (stays_led g.D.Device.seen g.D.Device.may_leave c.args.self.now.relations c.args.self.now.counters c.args.self.now.core c.undo_begin.new.self c.undo_begin.ensures.state) shows));
+      err_aborted _ s c.args.txn c.from_residual-in_err-abort_end.result p.0 p.1 (led g.D.Device c.args.self.now.relations c.args.self.now.counters c.undo_begin.new.self c.abort_end.new.self (λ z. z) first s (λ origin base safe. (base, c.in_err-abort_end.ensures.err origin base safe)) (led g.D.Device c.args.self.now.relations c.args.self.now.counters c.args.self.now.core c.undo_begin.new.self (λ z. z) first s (stays_led g.D.Device c.args.self.now.relations c.args.self.now.counters c.args.self.now.core c.undo_begin.new.self c.undo_begin.ensures.state) shows));
 }
 
 pub returns-clause-steps : goal.returns-clause-steps
@@ -120,7 +120,7 @@ returns-clause-steps g c = record {
   quiet = search rules;
   states = search rules;
   work = let same : c.undo_begin.new.self ≡ c.args.self.now.core = c.undo_begin.ensures.same (c.in_ok-undo_begin.was ∙ ap Ok c.if-branch.false) in
-      ap (λ (x : Core g.row.D.Denot). undo_steps x c.args.txn) (sym same) ∙ c.in_ok-abort_end.ensures.none_left;
+      ap (λ (x : Core g.row.D.Denot). undo_steps x c.args.txn) (sym same) ∙ c.in_ok-abort_end.ensures.ends.none_left;
   other = search rules;
   full = search rules;
   durable = search rules;
@@ -129,14 +129,14 @@ returns-clause-steps g c = record {
   out = search rules;
   schema = search rules;
   restarts = λ first r. let D = g.D.Device in let k = c.args.self.now in
-      restarts_on D.seen D.may_leave k.relations k.counters first c.undo_begin.new.self c.abort_end.new.self (either_goes D.seen D.may_leave c.undo_begin.new.self c.abort_end.new.self (λ s. gone s c.args.txn) c.abort_end.result c.abort_end.ensures.gone c.abort_end.ensures.err) c.abort_end.ensures.restartable
-      (restarts_on D.seen D.may_leave k.relations k.counters first k.core c.undo_begin.new.self (stays_goes D.seen D.may_leave k.core c.undo_begin.new.self c.undo_begin.ensures.state) (c.undo_begin.ensures.restartable) r);
+      restarts_on D k.relations k.counters first c.undo_begin.new.self c.abort_end.new.self (either_goes D c.undo_begin.new.self c.abort_end.new.self (λ s. gone s c.args.txn) c.abort_end.result c.abort_end.ensures.gone c.abort_end.ensures.err) c.abort_end.ensures.restartable
+      (restarts_on D k.relations k.counters first k.core c.undo_begin.new.self (stays_goes D k.core c.undo_begin.new.self c.undo_begin.ensures.state) (c.undo_begin.ensures.restartable) r);
   moments = λ first r schema. let D = g.D.Device in let k = c.args.self.now in
-      no_call D.seen D.may_leave k.relations k.counters first D.moment D.left_since g.met.D.Device.only_now k.core _ (c.abort_end.ensures.device ∙ ap (λ (s : Store g.row.D.Denot). s.device) c.undo_begin.ensures.store) r schema;
-  once = once_same _ _ (ap g.D.Device.moment (c.abort_end.ensures.device ∙ ap (λ (s : Store g.row.D.Denot). s.device) c.undo_begin.ensures.store));
-  others = λ u other. ap (λ v. steps_in v.items u) c.abort_end.ensures.running ∙ c.undo_begin.ensures.others u other;
+      no_call D k.relations k.counters first g.met.D.Device.only_now k.core _ (c.abort_end.ensures.keeps.device ∙ ap (λ (s : Store g.row.D.Denot). s.device) c.undo_begin.ensures.keeps.store) r schema;
+  once = once_same _ _ (ap g.D.Device.moment (c.abort_end.ensures.keeps.device ∙ ap (λ (s : Store g.row.D.Denot). s.device) c.undo_begin.ensures.keeps.store));
+  others = λ u other. ap (λ v. steps_in v.items u) c.abort_end.ensures.keeps.running ∙ c.undo_begin.ensures.keeps.others u other;
   aborted = λ first s shows. (
-    led g.D.Device.seen g.D.Device.may_leave c.args.self.now.relations c.args.self.now.counters c.undo_begin.new.self c.abort_end.new.self (λ z. gone z c.args.txn) first s (λ origin base safe. (base, c.in_ok-abort_end.ensures.gone origin base safe)) (led g.D.Device.seen g.D.Device.may_leave c.args.self.now.relations c.args.self.now.counters c.args.self.now.core c.undo_begin.new.self (λ z. z) first s (stays_led g.D.Device.seen g.D.Device.may_leave c.args.self.now.relations c.args.self.now.counters c.args.self.now.core c.undo_begin.new.self c.undo_begin.ensures.state) shows),
+    led g.D.Device c.args.self.now.relations c.args.self.now.counters c.undo_begin.new.self c.abort_end.new.self (λ z. gone z c.args.txn) first s (λ origin base safe. (base, c.in_ok-abort_end.ensures.gone origin base safe)) (led g.D.Device c.args.self.now.relations c.args.self.now.counters c.args.self.now.core c.undo_begin.new.self (λ z. z) first s (stays_led g.D.Device c.args.self.now.relations c.args.self.now.counters c.args.self.now.core c.undo_begin.new.self c.undo_begin.ensures.state) shows),
     ∥∥₁_map shows (λ (origin, base, is, x). ap (λ (z : State). last_effect c.args.txn z.standing) x.state ∙ c.undo_begin.ensures.nothing (c.in_ok-undo_begin.was ∙ ap Ok c.if-branch.false)),
   );
 }

@@ -21,25 +21,25 @@ use Rattle.mt_txn.proofs.Stepping.{others_of}
 use Rattle.mt_txn.proofs.kernel.Kernel.undo_step.Goals as goal
 
 pub undo_step-outcome-requires-clause-safe : goal.undo_step-outcome-requires-clause-safe
-undo_step-outcome-requires-clause-safe g c = sound_of g.D.Device.seen g.D.Device.may_leave c.args.self.now.relations c.args.self.now.counters c.args.self.now.core c.args.self.now.well
+undo_step-outcome-requires-clause-safe g c = sound_of g.D.Device c.args.self.now.relations c.args.self.now.counters c.args.self.now.core c.args.self.now.well
 
 pub undo_step-outcome-requires-clause-stage : goal.undo_step-outcome-requires-clause-stage
-undo_step-outcome-requires-clause-stage g c = inverse_stage g.D.Device.seen g.D.Device.may_leave c.args.self.now.relations c.args.self.now.counters c.args.self.now.core c.args.place c.args.self.now.well c.requires.within (λ r there. (c.requires.own r there).1)
+undo_step-outcome-requires-clause-stage g c = inverse_stage g.D.Device c.args.self.now.relations c.args.self.now.counters c.args.self.now.core c.args.place c.args.self.now.well c.requires.within (λ r there. (c.requires.own r there).1)
 
 pub invariant_of-self : goal.invariant_of-self
-invariant_of-self g c = record { well = undo_well g.D.Device.seen g.D.Device.may_leave c.args.self.now.relations c.args.self.now.counters c.args.self.now.core c.undo_step-outcome.new.self c.args.place c.undo_step-outcome.result c.requires.within c.undo_step-outcome.ensures.steps c.args.self.now.well; starts = ∥∥₁_map c.args.self.now.starts (λ (first, r). let D = g.D.Device in let k = c.args.self.now in (first, restarts_on D.seen D.may_leave k.relations k.counters first k.core c.undo_step-outcome.new.self (undo_goes D.seen D.may_leave k.core c.undo_step-outcome.new.self c.args.place c.undo_step-outcome.result c.requires.within c.undo_step-outcome.ensures.steps) (c.undo_step-outcome.ensures.restartable) r)); schema = c.args.self.now.schema }
+invariant_of-self g c = record { well = undo_well g.D.Device c.args.self.now.relations c.args.self.now.counters c.args.self.now.core c.undo_step-outcome.new.self c.args.place c.undo_step-outcome.result c.requires.within c.undo_step-outcome.ensures.steps c.args.self.now.well; starts = ∥∥₁_map c.args.self.now.starts (λ (first, r). let D = g.D.Device in let k = c.args.self.now in (first, restarts_on D k.relations k.counters first k.core c.undo_step-outcome.new.self (undo_goes D k.core c.undo_step-outcome.new.self c.args.place c.undo_step-outcome.result c.requires.within c.undo_step-outcome.ensures.steps) (c.undo_step-outcome.ensures.restartable) r)); schema = c.args.self.now.schema }
 
 pub returns-in-Going-clause-locks : goal.returns-in-Going-clause-locks
 returns-in-Going-clause-locks g c = λ r at. let k = c.args.self.now.core in let n = c.undo_step-outcome.new.self in let place = c.args.place in
     let seen = g.D.Device.seen in let may_leave = g.D.Device.may_leave in
     let was = c.in_ok-reply.was ∙ ap Ok c.in-Going.is in
-    abort_locks seen may_leave c.args.self.now.relations c.args.self.now.counters k n c.args.txn place c.in-Going.going c.going.result r (λ q there. (c.requires.own q there).0)
+    abort_locks g.D.Device c.args.self.now.relations c.args.self.now.counters k n c.args.txn place c.in-Going.going c.going.result r (λ q there. (c.requires.own q there).0)
     (record {
       within = c.requires.within;
-      states = c.undo_step-outcome.ensures.states;
-      consistent = λ origin base safe. (subst (UndoSteps seen may_leave origin base k n place) was (c.undo_step-outcome.ensures.steps origin base safe)).consistent;
-      names = λ origin base safe. subst (λ (x : Result Stepping Refusal). AtPlace k.running.items place (λ q. NamesOther n.running.items q.txn x)) was (c.undo_step-outcome.ensures.other origin base safe);
-    }) c.args.self.now.well c.going.ensures (subst (KeepsPageLocks k n r) was (c.undo_step-outcome.ensures.locks r at))
+      states = c.undo_step-outcome.ensures.stepped.states;
+      consistent = λ origin base safe. (subst (UndoSteps g.D.Device origin base k n place) was (c.undo_step-outcome.ensures.steps origin base safe)).consistent;
+      names = λ origin base safe. subst (λ (x : Result Stepping Refusal). AtPlace k.running.items place (λ q. NamesOther n.running.items q.txn x)) was (c.undo_step-outcome.ensures.stepped.other origin base safe);
+    }) c.args.self.now.well c.going.ensures (subst (KeepsPageLocks k n r) was (c.undo_step-outcome.ensures.stepped.locks r at))
 
 pub returns-in_err-reply-clause-steps : goal.returns-in_err-reply-clause-steps
 returns-in_err-reply-clause-steps g c = record {
@@ -61,13 +61,13 @@ returns-in_err-reply-clause-steps g c = record {
   out = search rules;
   schema = search rules;
   restarts = λ first r. let D = g.D.Device in let k = c.args.self.now in
-      restarts_on D.seen D.may_leave k.relations k.counters first k.core c.undo_step-outcome.new.self (undo_goes D.seen D.may_leave k.core c.undo_step-outcome.new.self c.args.place c.undo_step-outcome.result c.requires.within c.undo_step-outcome.ensures.steps) (c.undo_step-outcome.ensures.restartable) r;
+      restarts_on D k.relations k.counters first k.core c.undo_step-outcome.new.self (undo_goes D k.core c.undo_step-outcome.new.self c.args.place c.undo_step-outcome.result c.requires.within c.undo_step-outcome.ensures.steps) (c.undo_step-outcome.ensures.restartable) r;
   moments = λ first r schema. let D = g.D.Device in let k = c.args.self.now in
-      meanwhile D.seen D.may_leave k.relations k.counters first D.moment D.left_since g.met.D.Device.only_now k.core _ c.undo_step-outcome.ensures.moments r schema;
-  once = c.undo_step-outcome.ensures.once;
-  others = others_of c.args.self.now.core.running.items c.undo_step-outcome.new.self.running.items c.args.place c.args.txn c.requires.within (λ r at. (c.requires.own r at).0) c.undo_step-outcome.ensures.others;
+      meanwhile D k.relations k.counters first g.met.D.Device.only_now k.core _ c.undo_step-outcome.ensures.stepped.moments r schema;
+  once = c.undo_step-outcome.ensures.stepped.once;
+  others = others_of c.args.self.now.core.running.items c.undo_step-outcome.new.self.running.items c.args.place c.args.txn c.requires.within (λ r at. (c.requires.own r at).0) c.undo_step-outcome.ensures.stepped.others;
   aborted = λ first s shows. let p = err_from_is_err_and c.from_residual.result c.from_residual.ensures.1 in
-      err_aborted _ s c.args.txn c.from_residual.result p.0 p.1 (subst (UndoShown g.D.Device.seen g.D.Device.may_leave c.args.self.now.relations c.args.self.now.counters c.undo_step-outcome.new.self first s c.args.txn) (c.in_err-reply.was) (undo_shown g.D.Device.seen g.D.Device.may_leave c.args.self.now.relations c.args.self.now.counters c.args.self.now.core c.undo_step-outcome.new.self first s c.args.txn c.args.place c.undo_step-outcome.result c.requires.within (λ r there. (c.requires.own r there).0) c.undo_step-outcome.ensures.steps shows));
+      err_aborted _ s c.args.txn c.from_residual.result p.0 p.1 (subst (UndoShown g.D.Device c.args.self.now.relations c.args.self.now.counters c.undo_step-outcome.new.self first s c.args.txn) (c.in_err-reply.was) (undo_shown g.D.Device c.args.self.now.relations c.args.self.now.counters c.args.self.now.core c.undo_step-outcome.new.self first s c.args.txn c.args.place c.undo_step-outcome.result c.requires.within (λ r there. (c.requires.own r there).0) c.undo_step-outcome.ensures.steps shows));
 }
 
 pub returns-in-Ended-clause-steps : goal.returns-in-Ended-clause-steps
@@ -88,12 +88,12 @@ returns-in-Ended-clause-steps g c = record {
   out = search rules;
   schema = search rules;
   restarts = λ first r. let D = g.D.Device in let k = c.args.self.now in
-      restarts_on D.seen D.may_leave k.relations k.counters first k.core c.undo_step-outcome.new.self (undo_goes D.seen D.may_leave k.core c.undo_step-outcome.new.self c.args.place c.undo_step-outcome.result c.requires.within c.undo_step-outcome.ensures.steps) (c.undo_step-outcome.ensures.restartable) r;
+      restarts_on D k.relations k.counters first k.core c.undo_step-outcome.new.self (undo_goes D k.core c.undo_step-outcome.new.self c.args.place c.undo_step-outcome.result c.requires.within c.undo_step-outcome.ensures.steps) (c.undo_step-outcome.ensures.restartable) r;
   moments = λ first r schema. let D = g.D.Device in let k = c.args.self.now in
-      meanwhile D.seen D.may_leave k.relations k.counters first D.moment D.left_since g.met.D.Device.only_now k.core _ c.undo_step-outcome.ensures.moments r schema;
-  once = c.undo_step-outcome.ensures.once;
-  others = others_of c.args.self.now.core.running.items c.undo_step-outcome.new.self.running.items c.args.place c.args.txn c.requires.within (λ r at. (c.requires.own r at).0) c.undo_step-outcome.ensures.others;
-  aborted = λ first s shows. subst (UndoShown g.D.Device.seen g.D.Device.may_leave c.args.self.now.relations c.args.self.now.counters c.undo_step-outcome.new.self first s c.args.txn) (c.in_ok-reply.was ∙ ap Ok c.in-Ended.is) (undo_shown g.D.Device.seen g.D.Device.may_leave c.args.self.now.relations c.args.self.now.counters c.args.self.now.core c.undo_step-outcome.new.self first s c.args.txn c.args.place c.undo_step-outcome.result c.requires.within (λ r there. (c.requires.own r there).0) c.undo_step-outcome.ensures.steps shows);
+      meanwhile D k.relations k.counters first g.met.D.Device.only_now k.core _ c.undo_step-outcome.ensures.stepped.moments r schema;
+  once = c.undo_step-outcome.ensures.stepped.once;
+  others = others_of c.args.self.now.core.running.items c.undo_step-outcome.new.self.running.items c.args.place c.args.txn c.requires.within (λ r at. (c.requires.own r at).0) c.undo_step-outcome.ensures.stepped.others;
+  aborted = λ first s shows. subst (UndoShown g.D.Device c.args.self.now.relations c.args.self.now.counters c.undo_step-outcome.new.self first s c.args.txn) (c.in_ok-reply.was ∙ ap Ok c.in-Ended.is) (undo_shown g.D.Device c.args.self.now.relations c.args.self.now.counters c.args.self.now.core c.undo_step-outcome.new.self first s c.args.txn c.args.place c.undo_step-outcome.result c.requires.within (λ r there. (c.requires.own r there).0) c.undo_step-outcome.ensures.steps shows);
 }
 
 pub returns-in-Going-clause-steps : goal.returns-in-Going-clause-steps
@@ -109,12 +109,12 @@ returns-in-Going-clause-steps g c = record {
   other = let k = c.args.self.now.core in let n = c.undo_step-outcome.new.self in let place = c.args.place in
       let seen = g.D.Device.seen in let may_leave = g.D.Device.may_leave in
       let was = c.in_ok-reply.was ∙ ap Ok c.in-Going.is in
-      abort_other seen may_leave c.args.self.now.relations c.args.self.now.counters k n c.args.txn place c.in-Going.going c.going.result (λ r there. (c.requires.own r there).0)
+      abort_other g.D.Device c.args.self.now.relations c.args.self.now.counters k n c.args.txn place c.in-Going.going c.going.result (λ r there. (c.requires.own r there).0)
       (record {
         within = c.requires.within;
-        states = c.undo_step-outcome.ensures.states;
-        consistent = λ origin base safe. (subst (UndoSteps seen may_leave origin base k n place) was (c.undo_step-outcome.ensures.steps origin base safe)).consistent;
-        names = λ origin base safe. subst (λ (r : Result Stepping Refusal). AtPlace k.running.items place (λ q. NamesOther n.running.items q.txn r)) was (c.undo_step-outcome.ensures.other origin base safe);
+        states = c.undo_step-outcome.ensures.stepped.states;
+        consistent = λ origin base safe. (subst (UndoSteps g.D.Device origin base k n place) was (c.undo_step-outcome.ensures.steps origin base safe)).consistent;
+        names = λ origin base safe. subst (λ (r : Result Stepping Refusal). AtPlace k.running.items place (λ q. NamesOther n.running.items q.txn r)) was (c.undo_step-outcome.ensures.stepped.other origin base safe);
       }) c.args.self.now.well c.going.ensures;
   full = search rules;
   durable = search rules;
@@ -123,10 +123,10 @@ returns-in-Going-clause-steps g c = record {
   out = search rules;
   schema = search rules;
   restarts = λ first r. let D = g.D.Device in let k = c.args.self.now in
-      restarts_on D.seen D.may_leave k.relations k.counters first k.core c.undo_step-outcome.new.self (undo_goes D.seen D.may_leave k.core c.undo_step-outcome.new.self c.args.place c.undo_step-outcome.result c.requires.within c.undo_step-outcome.ensures.steps) (c.undo_step-outcome.ensures.restartable) r;
+      restarts_on D k.relations k.counters first k.core c.undo_step-outcome.new.self (undo_goes D k.core c.undo_step-outcome.new.self c.args.place c.undo_step-outcome.result c.requires.within c.undo_step-outcome.ensures.steps) (c.undo_step-outcome.ensures.restartable) r;
   moments = λ first r schema. let D = g.D.Device in let k = c.args.self.now in
-      meanwhile D.seen D.may_leave k.relations k.counters first D.moment D.left_since g.met.D.Device.only_now k.core _ c.undo_step-outcome.ensures.moments r schema;
-  once = c.undo_step-outcome.ensures.once;
-  others = others_of c.args.self.now.core.running.items c.undo_step-outcome.new.self.running.items c.args.place c.args.txn c.requires.within (λ r at. (c.requires.own r at).0) c.undo_step-outcome.ensures.others;
-  aborted = λ first s shows. going_aborted _ s c.args.txn c.going.result (abort_goes _ _ _ c.going.ensures) (subst (UndoShown g.D.Device.seen g.D.Device.may_leave c.args.self.now.relations c.args.self.now.counters c.undo_step-outcome.new.self first s c.args.txn) (c.in_ok-reply.was ∙ ap Ok c.in-Going.is) (undo_shown g.D.Device.seen g.D.Device.may_leave c.args.self.now.relations c.args.self.now.counters c.args.self.now.core c.undo_step-outcome.new.self first s c.args.txn c.args.place c.undo_step-outcome.result c.requires.within (λ r there. (c.requires.own r there).0) c.undo_step-outcome.ensures.steps shows));
+      meanwhile D k.relations k.counters first g.met.D.Device.only_now k.core _ c.undo_step-outcome.ensures.stepped.moments r schema;
+  once = c.undo_step-outcome.ensures.stepped.once;
+  others = others_of c.args.self.now.core.running.items c.undo_step-outcome.new.self.running.items c.args.place c.args.txn c.requires.within (λ r at. (c.requires.own r at).0) c.undo_step-outcome.ensures.stepped.others;
+  aborted = λ first s shows. going_aborted _ s c.args.txn c.going.result (abort_goes _ _ _ c.going.ensures) (subst (UndoShown g.D.Device c.args.self.now.relations c.args.self.now.counters c.undo_step-outcome.new.self first s c.args.txn) (c.in_ok-reply.was ∙ ap Ok c.in-Going.is) (undo_shown g.D.Device c.args.self.now.relations c.args.self.now.counters c.args.self.now.core c.undo_step-outcome.new.self first s c.args.txn c.args.place c.undo_step-outcome.result c.requires.within (λ r there. (c.requires.own r there).0) c.undo_step-outcome.ensures.steps shows));
 }

@@ -1,0 +1,4 @@
+pub mod Whole
+pub mod Checks
+pub mod Faults
+pub mod Naming

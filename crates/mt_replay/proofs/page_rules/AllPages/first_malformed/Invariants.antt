@@ -1,6 +1,0 @@
-use Rattle.std.proofs.Common.{◌<◌, ℕ}
-use Rattle.mt_replay.specs.Checks.{IsRecordPage}
-use Rattle.mt_replay.proofs.page_rules.AllPages.first_malformed.Given as goal
-
-abbrev pub invariant-loop-number : goal.invariant-loop-number
-invariant-loop-number l = (p : ℕ) → p < l.number → IsRecordPage l.self.pages.items l.relations p

@@ -1,6 +1,0 @@
-use Rattle.std.proofs.Common.{◌<◌, ℕ}
-use Rattle.mt_replay.specs.Checks.{AreListedAt}
-use Rattle.mt_replay.proofs.page_rules.AllPages.has_listed.Given as goal
-
-abbrev pub invariant-loop-slot : goal.invariant-loop-slot
-invariant-loop-slot l = (s : ℕ) → s < l.slot → AreListedAt l.self.pages.items l.page s

@@ -1,5 +1,0 @@
-use Rattle.mt_replay.specs.Naming.{AreNamed}
-use Rattle.mt_replay.proofs.page_rules.AllPages.named_slots.Given as goal
-
-abbrev pub invariant-loop-page : goal.invariant-loop-page
-invariant-loop-page l = AreNamed l.self.pages.items l.page l.marks.items

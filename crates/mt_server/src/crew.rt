@@ -146,8 +146,8 @@ fn queue_of<R: Wait>(
     Ok(queue)
 }
 
-/// The scripts are served by as many workers as there are passes, while one more thread tends the kernel. If that
-/// cannot be started, it is tended once they are served.
+/// The scripts are served by as many workers as there are passes, while one more thread turns the log over as it is
+/// due. If that thread cannot be started, the log is not turned over.
 pub(crate) fn crew<
     D: Device + Drop + Send,
     G: Gate + Drop + Send + Sync,

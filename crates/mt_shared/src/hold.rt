@@ -19,8 +19,8 @@ use mt_txn::{AbortStepped, Called, Stepped};
 use std::alloc::Global;
 use std::sync::{MutexGuard, Wait};
 
-/// Calls that one hold of the lock has at most: a begin and 16 operations.
-const CALLS: u8 = 17;
+/// Calls that one hold of the lock has at most: a begin, 16 operations, and a commit or one operation more.
+const CALLS: u8 = 18;
 
 /// A thread's calls of what is shared, which keep its lock from one to the next. So a transaction of at most 16
 /// operations is begun and run, and its commit appended, in one hold of the lock.
@@ -126,11 +126,15 @@ impl<'a, D: Device, G: Gate + Drop, J: Naming> Hold<'a, D, G, J> {
         ensures why { IfErr result IsBeginRefusal }
     {
         if pass.is_busy() {
+            self.give_back();
             return Err(Refusal::Busy);
         }
         let number = match self.begun(rt, session) {
             Ok(number) => number,
-            Err(why) => return Err(self.shared.refusing(why)),
+            Err(why) => {
+                self.stir();
+                return Err(self.shared.refusing(why));
+            }
         };
         let txn = give_token(alloc, pass, number, session);
         self.shared.tell(session, Point::Began);
@@ -168,6 +172,7 @@ impl<'a, D: Device, G: Gate + Drop, J: Naming> Hold<'a, D, G, J> {
         // out of the token meanwhile, if it is known that there is room for one more
         let mut calls = take_calls(txn);
         if calls.reserve(1).is_err() {
+            self.give_back();
             put_calls(txn, calls);
             return Err(Refusal::NoMemory);
         }
@@ -200,7 +205,11 @@ impl<'a, D: Device, G: Gate + Drop, J: Naming> Hold<'a, D, G, J> {
             match locked.call(number, op) {
                 Ok(Called::Started) => return self.stepped(rt, locked, number, session),
                 Ok(Called::Wait(_)) => locked = self.sleep(rt, locked),
-                Err(why) => return Err(self.shared.refusing(why)),
+                Err(why) => {
+                    drop(locked);
+                    self.stir();
+                    return Err(self.shared.refusing(why));
+                }
             }
         }
         unreachable!()
@@ -291,6 +300,7 @@ impl<'a, D: Device, G: Gate + Drop, J: Naming> Hold<'a, D, G, J> {
         ensures why { IfErr result (λ r. IsAbortRefusal r.why) }
     {
         if txn.pass() != pass.number() {
+            self.give_back();
             return Err(Refused {
                 why: Refusal::Stranger,
                 txn: Some(txn),
@@ -319,6 +329,8 @@ impl<'a, D: Device, G: Gate + Drop, J: Naming> Hold<'a, D, G, J> {
     {
         let mut locked = self.lock(rt);
         if let Err(why) = locked.abort_begin(number) {
+            drop(locked);
+            self.stir();
             return Err(self.shared.refusing(why));
         }
         for _ in rt.forever() {
@@ -365,6 +377,7 @@ impl<'a, D: Device, G: Gate + Drop, J: Naming> Hold<'a, D, G, J> {
         ensures why { IfErr result (λ r. IsCommitRefusal r.why) }
     {
         if txn.pass() != pass.number() {
+            self.give_back();
             return Err(Refused {
                 why: Refusal::Stranger,
                 txn: Some(txn),

@@ -74,7 +74,7 @@ impl<D: Device> Core<D> {
     /// once on the base that the pages hold, and stands after all others with the model's reply. Else it leaves that
     /// base. It waits, or begins anew, only for an operation of another transaction.
     ///
-    /// Refused with 1 for want of memory, and with 2 if the device has failed; the base is as before.
+    /// Refused with 1 for want of memory, and with 2 if the device fails in this call; the base is as before.
     pub fn step(&mut self, alloc: Global, place: usize) -> Result<Stepping, Refusal>
         requires safe { IsSound D.Device self.old }
         requires within { place < length self.old.running.items }
@@ -100,7 +100,7 @@ impl<D: Device> Core<D> {
     /// what it takes back stands no more, nor what its transaction did after that. Its add, if it is one, is
     /// pending no more. It waits, or begins anew, only for an operation of another transaction.
     ///
-    /// Refused with 1 for want of memory, and with 2 if the device has failed; the base is as before.
+    /// Refused with 1 for want of memory, and with 2 if the device fails in this call; the base is as before.
     pub fn undo_step(&mut self, alloc: Global, place: usize) -> Result<Stepping, Refusal>
         requires safe { IsSound D.Device self.old }
         requires within { place < length self.old.running.items }

@@ -44,7 +44,7 @@ pub enum Due {
 }
 
 /// What lies under the lock: the kernel, or what a rotation left of it, with its end of the mark. Its first commits
-/// are the history, as many as the mark counts. Contracts see the book and the history.
+/// are the history, as many as the mark counts. Contracts see the kernel, the book and the history.
 pub struct Locked<D: Device, J: Naming> {
     pub(crate) standing: Standing<D>,
     pub(crate) end: End,

@@ -1,5 +1,6 @@
-// What a device's bytes represent, found without a write. The passes of a restart are made in memory, and all pages
-// that they leave are surveyed. mt_device_commands asks it of a device that nothing is to change.
+// What a device's bytes represent, found without a write. The passes of a restart are made in memory.
+// mt_device_commands asks for a report, or a check. `inspect` surveys the pages too, for whoever embeds the kernel, and
+// for tests.
 ghost use Rattle.std.specs.Prelude.{◌≡◌, ◌⊎◌, ◌<◌, ◌≤◌, ◌+◌, ℕ, List, length, IfErr, IfOk, OnOk, Err};
 ghost use Rattle.mt_base.specs.declared.limits.TheConstants.{MAX_PAGES};
 ghost use Rattle.mt_base.specs.declared.refusal.Refusal.{Refusal};

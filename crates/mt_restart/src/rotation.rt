@@ -73,8 +73,8 @@ fn turn_over<D: Device + Drop>(
 /// Turns the log of a kernel over while no transaction is active, and gives the kernel with so many pages in frames.
 /// The state that it shows goes on: its book, and the numbers of its transactions. The kernel has not failed.
 ///
-/// The log is forced, and the device recovered as [`open`](crate::open) does. It is synced, and its pages are read
-/// back and written in place if they are not. The other area begins and comes to rule, once. Whenever a crash comes
+/// The log is forced, and the device recovered as [`open`](crate::open) does: it is synced and read, and its pages with
+/// an image in the area are written in place. The other area begins and comes to rule, once. Whenever a crash comes
 /// in this call, a restart finds what some of the first commits lead to, with the whole book of the kernel.
 ///
 /// Refused with the kernel as it was, before anything is done:

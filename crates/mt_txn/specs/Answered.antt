@@ -1,14 +1,16 @@
 -- What each call answers of a kernel that is lent, and what it leaves of it: k before, and n after the call.
-use Rattle.std.specs.Prelude.{ℕ, ◌≡◌, ◌≢◌, ◌⊎◌, Err, IfErr, IfOk, List, None, OnErr, OnOk, Option, Result, Ok, Some}
+use Rattle.std.specs.Prelude.{ℕ, ◌≡◌, ◌≢◌, ◌⊎◌, Err, IfErr, IfOk, List, None, OnErr, OnOk, Option, Result, Ok, Some, ◌+◌, ◌++◌, ◌∷◌, [], length}
 use Rattle.mt_disk.specs.declared.device.Device.{Ghosts}
 use Rattle.mt_base.specs.declared.refusal.Refusal.{Refusal}
 use Rattle.mt_base.specs.declared.refusal.Refusal.TheVariants.{NoMemory}
 use Rattle.mt_core.specs.Consistent.{SameCommits, SameStates, SameStatesBut, SetsState}
 use Rattle.mt_core.specs.Runs.{state_in}
 use Rattle.mt_core.specs.declared.calls.Called.{Called}
+use Rattle.mt_core.specs.declared.parts.Commit.{Commit}
+use Rattle.mt_frame.specs.declared.records.Record.TheVariants as record_of
 use Rattle.mt_live.specs.Machine.{State}
 use Rattle.mt_live.specs.declared.transactions.TxnState.TheVariants.{Aborting, Committing, Open}
-use Rattle.mt_log.specs.Words.{appended}
+use Rattle.mt_log.specs.Words.{appended, waiting}
 use Rattle.mt_model.specs.Model.{Base}
 use Rattle.mt_model.specs.declared.operations.Op.{Op}
 use Rattle.mt_pool.specs.declared.flushes.Flushed.{Flushed}
@@ -33,9 +35,13 @@ module _ {D : Type 0} where
     pub opened : IfOk result (λ txn. SetsState k.core n.core txn (Some Open))
     pub err : OnErr result (n.core ≡ k.core)
 
-  -- the commit is appended then, or no record is
+  -- the commit is appended then, as the last of those under way, whose place in the book is answered; or no record is
   pub record AnswersCommit (k : KernelSeen D) (t : ℕ) (result : Result ℕ Refusal) (n : KernelSeen D) : Type 0 where
     pub refused : IsRefusedFor (commit_cause (has_failed_in k) k.core t) result
+    pub place : IfOk result (λ place. place ≡ length k.core.book.items + length k.core.commits.items + 1)
+    pub queue : OnOk result ((c : Commit) × (c.txn ≡ t) × (c.place ≡ length (appended (core_log n.core)))
+        × (n.core.commits.items ≡ k.core.commits.items ++ c ∷ []))
+    pub waits : OnOk result (waiting (core_log n.core) ≡ waiting (core_log k.core) ++ record_of.Commit t ∷ [])
     pub commits : OnOk result (SetsState k.core n.core t (Some Committing))
     pub unappended : OnErr result (appended (core_log n.core) ≡ appended (core_log k.core))
     pub states : OnErr result (SameStates k.core n.core × SameCommits k.core n.core)

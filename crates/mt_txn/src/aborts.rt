@@ -131,8 +131,8 @@ impl<D: Device> Kernel<D> {
     /// for another transaction that lives. It locks no page but one that the plan of an inverse asks for next, and
     /// gives no other operation's page locks back. It makes no record of the log durable.
     ///
-    /// How many steps: each that answers [`AbortStepped::More`] lowers what the abort has left, and the end comes if
-    /// nothing is left. [`AbortStepped::Again`] adds two steps a page at most.
+    /// How many steps: each that answers [`AbortStepped::More`] lowers what the abort has left, and the end comes
+    /// only if nothing is left. [`AbortStepped::Again`] adds two steps a page at most.
     ///
     /// Refused, in this order: 2 if the device has failed, 15 if the transaction is not being undone, 1 for
     /// want of memory. It is refused with 2, too, if the device fails in this step, so no fault is passed over. The

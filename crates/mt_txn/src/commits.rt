@@ -51,9 +51,9 @@ impl<D: Device> Kernel<D> {
         Ok(place as u64)
     }
 
-    /// Makes a step of a force, with one call of the device. What was appended before its first step becomes durable
-    /// with its last, which answers the transactions whose commits are durable now. They are in the book then, in the
-    /// order of their commits, and live no more.
+    /// Makes a step of a force, with one call of the device, or none if all is durable. What was appended before its
+    /// first step becomes durable with its last, which answers the transactions whose commits are durable now. They
+    /// are in the book then, in the order of their commits, and are active no more.
     ///
     /// Refused, in this order: 2 if the device has failed, 1 for want of memory, 2 if the device fails in this
     /// call. So no fault is passed over. The state is as before.

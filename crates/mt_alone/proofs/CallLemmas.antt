@@ -12,8 +12,8 @@ use Rattle.mt_live.proofs.Alone.{alone_is_free}
 use Rattle.mt_live.specs.Lives.{calls_of}
 use Rattle.mt_live.specs.Machine.{State, called}
 use Rattle.mt_model.specs.History.{Call, run}
-use Rattle.mt_model.specs.Locks.{Bars, Held, IsFree}
-use Rattle.mt_model.specs.Model.{Base, mode_of, object_of, reply_of}
+use Rattle.mt_model.specs.Locks.{AreAllFree, BarsSome, Held}
+use Rattle.mt_model.specs.Model.{Base, locks_of, reply_of}
 use Rattle.mt_model.specs.declared.operations.Op.{Op}
 use Rattle.mt_model.specs.declared.operations.Op.TheVariants.{Get, Insert, Update, Delete, Add, Read}
 use Rattle.mt_model.specs.declared.operations.Reply.{Reply}
@@ -88,7 +88,7 @@ no_fault true many fault is = absurd cc
 no_fault false true fault is = absurd cc
 no_fault false false fault is = is
 
--- ---- what is wanting, where nobody is in the way of its lock
+-- ---- what is wanting, where nobody is in the way of its locks
 
 adds_only : {D : Type 0} (k : Core D) (t : ℕ) (op : Op) → ¬ IsAskedFor k.escrow t op → is_add op ≡ true
 adds_only k t (Add c d) never = refl
@@ -102,7 +102,7 @@ module _ {D : Type 0} (g : Ghosts D) (k : Core D) (t : ℕ) (op : Op) where
   abbrev IsRefusedIn : Refusal → Type 0
   IsRefusedIn why = ∥ ((origin : Origin) × IsRefusedCall g origin k (log_kept k) t op true why) ∥₁
 
-  want_of : (why : Refusal) → IsFree (held_of k.locks) t (object_of op) (mode_of op) → IsRefusedIn why → IsCallWant op why
+  want_of : (why : Refusal) → AreAllFree (held_of k.locks) t (locks_of op) → IsRefusedIn why → IsCallWant op why
   want_of refusal.NoMemory free x = tt
   want_of refusal.TooManyOperations free x = tt
   want_of refusal.NoRoom free x = tt
@@ -137,11 +137,11 @@ module _ {D : Type 0} {g : Ghosts D} (p : Play) (k : Kernel D g) (t : ℕ) (call
       ap₂ (λ (a b : Option Refusal). first_of a (first_of b (first_of (count_cause k.core t) fault))) (open_is k t o.state)
       (ap (λ (b : Bool). if b then Some refusal.Busy else None) (opened_idle p t calls k o))
 
-  opened_free : IsOpened p t calls k → IsFree (held_of k.core.locks) t (object_of op) (mode_of op)
+  opened_free : IsOpened p t calls k → AreAllFree (held_of k.core.locks) t (locks_of op)
   opened_free o u bars = ∥∥₁_elim o.shown (hlevel props) (λ (first, s, shows, (played, alone)). ∥∥₁_elim (kept_of g k.relations k.counters k.core first s shows) (hlevel props) (λ kept.
       ∥∥₁_elim shows (hlevel props) (λ (origin, base, is, x).
       let same : held_of k.core.locks ≡ s.held = ap (λ (z : State). z.held) (sym x.state) in
-      alone_is_free first s t p.session calls kept alone (object_of op) (mode_of op) u (subst (λ (h : Held). Bars h t (object_of op) (mode_of op) u) same bars))))
+      alone_is_free first s t p.session calls kept alone (locks_of op) u (subst (λ (h : Held). BarsSome h t (locks_of op) u) same bars))))
 
   -- where it was not refused at once, it has no fault
   answered_late : (r : Result Called Refusal) (x : Called) → r ≡ Ok x → ((why : Refusal) → call_cause k.relations k.counters (is_failed k) k.core t op ≡ Some why → r ≡ Err why) → call_cause k.relations k.counters (is_failed k) k.core t op ≡ None

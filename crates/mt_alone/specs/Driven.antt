@@ -33,11 +33,11 @@ pub record IsPlayed (first : Base) (p : Play) (s : State) : Type 0 where
   pub book : s.book ≡ p.book
   pub base : after first p.book ≡ p.base
 
--- A transaction is the only one that lives, and these are its calls.
+-- A transaction is the only one that is active, and these are its calls.
 abbrev pub IsPlaying : Base → Play → ℕ → List Call → State → Type 0
 IsPlaying first p t calls s = IsPlayed first p s × IsAlone s t p.session calls
 
--- nobody but it lives
+-- none but it is active
 pub record IsUndone (first : Base) (p : Play) (t : ℕ) (s : State) : Type 0 where
   pub played : IsPlayed first p s
   pub others : (u : ℕ) → u ≢ t → s.sessions u ≡ None
@@ -55,7 +55,7 @@ module _ {D : Type 0} {g : Ghosts D} where
   abbrev pub IsLeft : Play → Kernel D g → Type 0
   IsLeft p k = ShowsOne (λ first s. IsPlayed first p s) k
 
-  -- between two lines: nobody lives; or only the open transaction does, and runs nothing
+  -- between two lines: no transaction is active; or only the open one is, and runs nothing
   pub record IsResting (p : Play) (k : Kernel D g) : Type 0 where
     pub shown : ShowsOne (λ first s. IsPlayed first p s × NobodyLives s) k
     pub nothing : p.under_way ≡ None

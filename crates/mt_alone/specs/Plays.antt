@@ -109,7 +109,7 @@ pub data IsTurn (relations counters : ℕ) (IsDue : Line → Refusal → Type 0)
       ⊎ (IsWant p.under_way line why × IsDue line why)
       → IsTurn relations counters IsDue p line (Refused why) p
 
--- lines, each with its answer, one after the other, from one place to another
+-- lines, each with its answer, one after the other, from one state to another
 pub data Runs {S : Type 0} (Turn : S → Line → Answer → S → Type 0) (start : S) : List Line → List Answer
     → S → Type 0 where
   starts : Runs Turn start [] [] start

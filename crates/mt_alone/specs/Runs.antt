@@ -90,7 +90,7 @@ module _ {D : Type 0} {g : Ghosts D} where
     pub outcome : Appends was now (transcript_text answers)
     pub beside : IsBeside play live n
 
-  -- The script ran to its end; a transaction that was open there is aborted, and that was written too; nobody lives.
+  -- The script ran to its end; a transaction that was open there is aborted, and that was written too; none is active.
   pub record HasRun (stop : Bool) (why : Option Refusal) (p : Play) (k : Kernel D g) (lines : List Line)
       (was now : Option (List ℕ)) (n : Kernel D g) : Type 0 where
     pub answers : List Answer

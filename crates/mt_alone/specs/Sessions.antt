@@ -57,7 +57,7 @@ Close stop (Some why) transcripts =
 abbrev pub in_session : Play → ℕ → Play
 in_session p i = record p { session = i }
 
--- Scripts, each with its transcript, one after the other, from one place to another. They are numbered from 1.
+-- Scripts, each with its transcript, one after the other, from one state to another. They are numbered from 1.
 pub data Serves {S : Type 0} (Session : S → ℕ → List Line → List Answer → S → Type 0) (start : S) : List (List Line)
     → List (List Answer) → S → Type 0 where
   no_script : Serves Session start [] [] start
@@ -84,7 +84,7 @@ module _ {D : Type 0} {g : Ghosts D} where
   StandsEach k Promises = (p : Play) → IsBeside p None k → Restarts p.first k → Promises p
 
   -- A session of a kernel, beside the model: its script ran by itself, in this kernel or in one that goes on as it
-  -- with its log turned over, and nobody lives after it.
+  -- with its log turned over, and no transaction is active after it.
   pub record HasServed (start : Play × Kernel D g) (i : ℕ) (lines : List Line) (outcome : List Answer)
       (end : Play × Kernel D g) : Type 0 where
     pub answers : List Answer

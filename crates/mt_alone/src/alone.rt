@@ -163,7 +163,7 @@ pub(crate) fn end_live<D: Device, W: Write>(
     }
 }
 
-/// Runs a script by itself on a kernel in which no transaction lives, and writes the answer of each
+/// Runs a script by itself on a kernel in which no transaction is active, and writes the answer of each
 /// line as one line. A transaction that is open at the script's end is aborted, with the line
 /// `aborted`.
 ///
@@ -175,7 +175,7 @@ pub(crate) fn end_live<D: Device, W: Write>(
 /// unless the device had failed. After refusal 1 it stands as it was. Refusal 2 is the last line, and the device has
 /// failed. There is no other refusal.
 ///
-/// What is promised holds beside whatever play of the model the kernel stands at. Nobody lives there, and its book
+/// What is promised holds beside whatever play of the model the kernel stands at. None is active there, and its book
 /// and the base that this leaves are the model's.
 pub fn run_alone<D: Device, W: Write>(
     kernel: &mut Kernel<D>,

@@ -46,8 +46,8 @@ pub(crate) fn is_due<D: Device>(kernel: &Kernel<D>) -> bool
 }
 
 /// Turns the log over, and answers what stands then. If it is refused, the kernel goes on over its log as it is: a
-/// transaction lives, memory is wanting, or its images have no room in the other area. There is no kernel only if the
-/// device failed.
+/// transaction is active, memory is wanting, or its images have no room in the other area. There is no kernel only if
+/// the device failed.
 pub(crate) fn turned<D: Device + Drop>(
     alloc: Global,
     kernel: Kernel<D>,

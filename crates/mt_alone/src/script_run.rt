@@ -67,7 +67,7 @@ fn run_each<D: Device + Drop, W: Write>(
     Ok((kernel, live, None))
 }
 
-/// Runs a script on a kernel in which no transaction lives, as [`run_alone`](crate::run_alone) does. Before a line
+/// Runs a script on a kernel in which no transaction is active, as [`run_alone`](crate::run_alone) does. Before a line
 /// outside of a transaction it turns the log over, if more than half of its area is in use. The kernel then has so many
 /// pages in frames. If that is refused for want of memory, or of room in the other area, the kernel goes on. It is
 /// tried again before a later line.

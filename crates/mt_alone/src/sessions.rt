@@ -64,8 +64,8 @@ fn run_session<D: Device + Drop, W: Write>(
     }
 }
 
-/// Serves scripts to a kernel in which no transaction lives, one after the other, as sessions from 1 on. It writes the
-/// line `session I` before the transcript of each; that is what [`run_alone`](crate::run_alone) writes.
+/// Serves scripts to a kernel in which no transaction is active, one after the other, as sessions from 1 on. It writes
+/// the line `session I` before the transcript of each; that is what [`run_alone`](crate::run_alone) writes.
 ///
 /// Before a line outside of a transaction the kernel's log is turned over, if more than half of its area is in
 /// use. The kernel then has so many pages in frames. So the log of many short transactions does not fill. The play

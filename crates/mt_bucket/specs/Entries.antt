@@ -16,6 +16,10 @@ abbrev pub look : ℕ → List ℕ → List Entry → Option RecordName
 look r k [] = None
 look r k (e ∷ es) = cond (is_at r k e) (Some e.name) (look r k es)
 
+-- the entry's name, if it is of this relation
+abbrev pub name_under : ℕ → Entry → Option RecordName
+name_under r e = cond (e.relation == r) (Some e.name) None
+
 -- the list whose first entry of this relation and key gives another name
 abbrev pub renamed : ℕ → List ℕ → RecordName → List Entry → List Entry
 renamed r k n [] = []

@@ -17,5 +17,5 @@ pub use heads::{
     CELL_BYTES, HEAD_BYTES, MAX_ENTRIES, count, depth, empty, next, set_depth, set_next,
 };
 pub use key_hash::{has_bit, hash};
-pub use lookup::{EntryView, entry, find, place_of};
+pub use lookup::{EntryView, entry, find, name_in, place_of};
 pub use page_rules::check;

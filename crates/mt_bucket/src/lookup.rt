@@ -2,7 +2,7 @@
 ghost use Rattle.std.specs.Prelude.{◌≡◌, ◌+◌, ◌*◌, ◌≤◌, ◌<◌, length, get_or, IfSome, IfNone};
 ghost use Rattle.mt_bucket.specs.declared.heads.TheConstants.{CELL_BYTES, HEAD_BYTES};
 ghost use Rattle.mt_base.specs.declared.limits.TheConstants.{MAX_KEY_BYTES, PAGE_BYTES};
-ghost use Rattle.mt_bucket.specs.Entries.{is_at, look};
+ghost use Rattle.mt_bucket.specs.Entries.{is_at, look, name_under};
 ghost use Rattle.mt_bucket.specs.Page.{cell, entry_of, count_of, entries, IsFirst, HasNone};
 
 use crate::heads::{CELL_BYTES, HEAD_BYTES, count};
@@ -62,6 +62,20 @@ pub fn place_of(page: &[u8], relation: RelNo, key: &[u8]) -> Option<usize>
         }
     }
     None
+}
+
+/// The name in the entry at a place, from 0, if the entry is of this relation.
+pub fn name_in(page: &[u8], i: usize, relation: RelNo) -> Option<RecordName>
+    requires whole { length page.now ≡ PAGE_BYTES }
+    requires there { i < count_of page.now }
+    ensures { result ≡ name_under relation (entry_of (cell page.now (HEAD_BYTES + CELL_BYTES * i))) }
+{
+    let at = HEAD_BYTES + CELL_BYTES * i;
+    if u16::from(page[at]) == relation.get() {
+        Some(name_at(page, at))
+    } else {
+        None
+    }
 }
 
 // Whether the cell at a place is of a relation and a key.

@@ -1,5 +1,5 @@
 -- What the program's commands do.
-use Rattle.std.specs.Prelude.{ℕ, pos, ◌≡◌, ◌⊎◌, Bool, List, [], ◌∷◌, ◌++◌, length, Option, Some, None, IfSome, map, option_map, string_bytes}
+use Rattle.std.specs.Prelude.{ℕ, pos, ◌≡◌, ◌⊎◌, Bool, List, [], ◌∷◌, ◌++◌, length, Option, Some, None, IfSome, map, option_map, string_bytes, ⊤}
 use Rattle.std.specs.Io.KnownBytes.{Appends, Keeps}
 use Rattle.mt_cli.specs.declared.commands.TheConstants.{AREA_MIB, PAGES}
 use Rattle.mt_base.specs.Limits.{device_bytes_of}
@@ -43,6 +43,7 @@ use Rattle.mt_alone.specs.Runs.{HasTurned, IsReportedFor, last_line}
 use Rattle.mt_world.specs.Schedules.{HasRunTo}
 use Rattle.mt_world.specs.declared.events.Answer.{Answer as Reported}
 use Rattle.mt_world.specs.declared.events.Event.{Event}
+use Rattle.mt_restart.specs.Frames.{IsFrameCount}
 use Rattle.mt_restart.specs.declared.standing.Standing.{Standing}
 
 -- two relations without rows, and one counter from 0 to 10 that starts at 5
@@ -107,6 +108,11 @@ pub record Around : Type 0 where
   pub before : Files
   pub after : Files
   pub input : Option (List ℕ)
+
+-- if it serves scripts, as many pages are in frames as a kernel may have
+abbrev pub HasFrameCount : Command → Type 0
+HasFrameCount (Run s wait) = IsFrameCount s.frames
+HasFrameCount _ = ⊤
 
 -- what a command leaves on the output once it is done, and of the files
 abbrev pub IsDone : {D : Type 0} → Ghosts D → Command → Around → Option (List ℕ) → Option (List ℕ) → Type 0

@@ -115,7 +115,7 @@ pub record AreUnread (files : Files) (input : Option (List ℕ)) (names : List (
   pub read : AreRead files input before scripts left
   pub unread : IsUnreadScript (bytes_at files name left) why
 
--- that is the fault: one of them, by its place, was not read
+-- that is the fault: one of them, by its index, was not read
 abbrev pub HasNoScript : Files → Option (List ℕ) → List (List ℕ) → Fault → Type 0
 HasNoScript files input names (fault.Unread why at) = AreUnread files input names at why
 HasNoScript files input names (fault.Unscheduled why) = ⊥

@@ -1,6 +1,7 @@
 // `run` by several workers: scripts, served at once to the device in a file.
 ghost use Rattle.std.specs.Prelude.{◌≡◌, ℕ, IfErr, IfOk, List, OnErr, OnOk, false, length, map, string_bytes};
 ghost use Rattle.std.specs.Io.KnownBytes.{Appends};
+ghost use Rattle.mt_restart.specs.Frames.{IsFrameCount};
 ghost use Rattle.mt_script.specs.Answers.{AppendsFront};
 ghost use Rattle.mt_script.specs.declared.lines.Line.{Line};
 ghost use Rattle.mt_server.specs.Heard.{AreReported};
@@ -11,10 +12,10 @@ ghost use Rattle.mt_txn.specs.Turned.{HasNobody};
 ghost use Rattle.mt_txn.specs.Words.{kernel_book};
 ghost use Rattle.mt_cli.specs.Serves.{AreServedAtOnce, IsEndOf, IsServedAtOnce, IsUnservedAtOnce, session_text, texts_in_order};
 
+use crate::named_inputs::are_too_many;
 use mt_alone::write_session;
 use mt_args::Serving;
 use mt_base::Refusal;
-use mt_base::limits::MAX_SESSIONS;
 use mt_device_commands::Patience;
 use mt_disk::Device;
 use mt_folder::Folder;
@@ -71,6 +72,7 @@ fn serve_over_at_once<
     workers: usize,
     gate: G,
 ) -> Result<Behind<D>, Refusal>
+    requires frames { IsFrameCount frames }
     ensures served { IfOk result (λ b. AreServedAtOnce b.has_failed (D.seen device) (map lines_in scripts.items)
         b.transcripts.items (D.seen b.device)) }
     ensures refused { IfErr result (IsUnserved (D.seen device) (length scripts.items)) }
@@ -150,6 +152,7 @@ pub(crate) fn serve_file_at_once<
     out: &mut O,
     gate: G,
 ) -> Result<(), Fault>
+    requires frames { IsFrameCount serving.now.frames }
     ensures served { OnOk result (IsServedAtOnce (F.files folder.old) (F.files folder.new)
         (string_bytes serving.now.file) (map lines_in scripts.items) (O.contents out.old) (O.contents out.new)) }
     ensures unserved { IfErr result (IsUnservedAtOnce (F.files folder.old) (F.files folder.new)
@@ -160,7 +163,7 @@ pub(crate) fn serve_file_at_once<
         Ok(device) => device,
         Err(refusal) => return Err(Fault::Refused(refusal)),
     };
-    if scripts.len() > MAX_SESSIONS {
+    if are_too_many(&scripts) {
         folder.back(name, device);
         return Err(Fault::Refused(Refusal::BadLength));
     }

@@ -5,7 +5,7 @@ ghost use Rattle.mt_script.specs.Answers.{AppendsFront};
 ghost use Rattle.mt_args.specs.CommandLines.{IsMistaken};
 ghost use Rattle.mt_folder.specs.Folders.{AreKept, IsUnmade};
 ghost use Rattle.mt_report.specs.declared.faults.Fault.{Fault};
-ghost use Rattle.mt_cli.specs.Performs.{IsFirstSchema, StandsFirst, HasTried, HaveRun, IsTried, IsScheduled, IsCutTrial, IsUntried, IsUnscheduled, IsDone, IsUndone, IsWordsDone, IsGivenUp, IsWordsGivenUp, IsReported, IsWordsReported, Around};
+ghost use Rattle.mt_cli.specs.Performs.{IsFirstSchema, StandsFirst, HasTried, HaveRun, IsTried, IsScheduled, IsCutTrial, IsUntried, IsUnscheduled, IsDone, IsUndone, HasFrameCount, IsWordsDone, IsGivenUp, IsWordsGivenUp, IsReported, IsWordsReported, Around};
 ghost use Rattle.mt_report.specs.Advice.{IsReportedOf};
 ghost use Rattle.mt_cli.specs.Reads.{source_of};
 ghost use Rattle.std.specs.Io.KnownBytes.{Appends, Keeps};
@@ -286,6 +286,7 @@ fn do_command<
     out: &mut O,
     gate: G,
 ) -> Result<(), Fault>
+    requires frames { HasFrameCount command.now }
     ensures done { OnOk result (IsDone ⟦<MemDevice as Device>⟧ command.now
         (record { before = F.files folder.old; after = F.files folder.new; input = I.remaining input.old })
         (O.contents out.old) (O.contents out.new)) }
@@ -321,7 +322,7 @@ fn do_command<
 /// - 0: it was done. Refusals within a transcript count as done, unless the command is to stop at one.
 /// - 1: it was refused, or `out` could not be written. The refusal's text is on `err`, with the file that it is about
 /// in a line after it, and what to do or why the folder's call failed. An input that cannot be read, and a file that
-/// is not there or cannot be   read, is refusal 2.
+/// is not there or cannot be read, is refusal 2.
 ///
 /// A script or a schedule is read whole before any of it runs, and all scripts of `run` before the first of them
 /// runs. A device is only read by `check` and `explain`, and if `format` is refused each file is as it was. A device
@@ -349,6 +350,7 @@ pub fn perform<
     err: &mut E,
     gate: G,
 ) -> u8
+    requires frames { HasFrameCount command.now }
     ensures done { result ≡ 0 → IsDone ⟦<MemDevice as Device>⟧ command.now
         (record { before = F.files folder.old; after = F.files folder.new; input = I.remaining input.old })
         (O.contents out.old) (O.contents out.new) × (err.new ≡ err.old) }

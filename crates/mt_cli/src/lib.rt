@@ -7,11 +7,9 @@ mod at_once;
 mod commands;
 mod named_inputs;
 mod run_command;
-mod silence;
 mod text_faults;
 
 pub use commands::{perform, perform_words};
 pub use mt_args::{CliFault, Command, Numbers, Serving, command_of};
 pub use mt_folder::{DiskFolder, Folder, MemFolder, Reason};
 pub use mt_shared::{Gate, Point};
-pub use silence::Silence;

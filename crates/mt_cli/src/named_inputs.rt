@@ -1,5 +1,6 @@
 // Scripts and schedules, read by name. No text is read further than the longest one could go.
-ghost use Rattle.std.specs.Prelude.{◌≡◌, ◌++◌, ◌<◌, length, OnOk, false, IfErr, IfOk, IfSome, is_some, map, option_map, string_bytes, true};
+ghost use Rattle.std.specs.Prelude.{◌≡◌, ◌++◌, ◌<◌, ◌≤◌, length, OnOk, false, IfErr, IfOk, IfSome, MatchBool, is_some, map, option_map, string_bytes, true};
+ghost use Rattle.mt_base.specs.declared.limits.TheConstants.{MAX_SESSIONS};
 ghost use Rattle.mt_script.specs.Grammars.{AreLines};
 ghost use Rattle.mt_script.specs.Scripts.{lines_in};
 ghost use Rattle.mt_folder.specs.Folders.{AreKept, IsUnmade, known_in};
@@ -7,6 +8,7 @@ ghost use Rattle.mt_cli.specs.Reads.{AreUnreadFor, HasNoScript, HaveBeenRead, Is
 
 use crate::text_faults::{MAX_TEXT_BYTES, text_fault};
 use mt_base::Refusal;
+use mt_base::limits::MAX_SESSIONS;
 use mt_folder::Folder;
 use mt_report::{Fault, ReadFault, TextFault};
 use mt_script::{Grammar, Script, ScriptFault, ScriptGrammar, ScriptWord, read_lines};
@@ -225,4 +227,11 @@ pub(crate) fn scripts_of<F: Folder, I: Read>(
         }
     }
     Ok(scripts)
+}
+
+/// Whether these are more scripts than one run serves, one after the other or at once.
+pub(crate) fn are_too_many(scripts: &[Script]) -> bool
+    ensures { MatchBool result (MAX_SESSIONS < length scripts.now) (length scripts.now ≤ MAX_SESSIONS) }
+{
+    scripts.len() > MAX_SESSIONS
 }

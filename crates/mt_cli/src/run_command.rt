@@ -3,16 +3,16 @@ ghost use Rattle.std.specs.Prelude.{◌≡◌, ◌≤◌, ℕ, IfErr, IfOk, None
 ghost use Rattle.mt_base.specs.declared.limits.TheConstants.{MAX_SESSIONS};
 ghost use Rattle.mt_disk.specs.Disk.{Only};
 ghost use Rattle.mt_model.specs.Model.{Base};
+ghost use Rattle.mt_restart.specs.Frames.{IsFrameCount};
 ghost use Rattle.mt_restart.specs.Resumed.{IsOpened};
 ghost use Rattle.mt_script.specs.Scripts.{lines_in};
 ghost use Rattle.mt_cli.specs.Serves.{AreShortOn, AreUnserved, HasNotRun, HasRunScripts, HaveServedOn, IsServedIn, IsUnservedIn, ServesFrom, end_of};
 
 use crate::at_once::serve_file_at_once;
-use crate::named_inputs::scripts_of;
+use crate::named_inputs::{are_too_many, scripts_of};
 use mt_alone::{RunFault, Stop, run_sessions};
 use mt_args::Serving;
 use mt_base::Refusal;
-use mt_base::limits::MAX_SESSIONS;
 use mt_device_commands::Patience;
 use mt_disk::Device;
 use mt_folder::Folder;
@@ -74,13 +74,14 @@ fn serve_over<D: Device + Drop, O: Write>(
     scripts: &[Script],
     out: &mut O,
 ) -> (Result<(), Fault>, D)
+    requires frames { IsFrameCount frames }
     requires settled { Only (D.seen device) (D.may_leave device) }
     ensures served { OnOk result.0 (ServesFrom stop None (D.seen device) (map lines_in scripts.now)
         (O.contents out.old) (O.contents out.new) (D.seen result.1)) }
     ensures unserved { IfErr result.0 (AreUnserved stop (D.seen device) (map lines_in scripts.now)
         (O.contents out.old) (O.contents out.new) (D.seen result.1)) }
 {
-    if scripts.len() > MAX_SESSIONS {
+    if are_too_many(scripts) {
         return (Err(Fault::Refused(Refusal::BadLength)), device);
     }
     match open(alloc, device, frames) {
@@ -101,6 +102,7 @@ fn serve_file<F: Folder, O: Write, R: Clock>(
     scripts: &[Script],
     out: &mut O,
 ) -> Result<(), Fault>
+    requires frames { IsFrameCount serving.now.frames }
     ensures served { OnOk result (IsServedIn serving.now.stop (F.files folder.old) (F.files folder.new)
         (string_bytes serving.now.file) (map lines_in scripts.now) (O.contents out.old) (O.contents out.new)) }
     ensures unserved { IfErr result (IsUnservedIn serving.now.stop (F.files folder.old) (F.files folder.new)
@@ -127,7 +129,7 @@ fn serve_file<F: Folder, O: Write, R: Clock>(
 ///
 /// Further by one worker if a script does not run to its end, by `NoMemory`, `DeviceFailed` or `LogFull`. The file
 /// then represents the commits until then, or these and some that were under way. If that worker is to stop at a
-/// refusal, and a line is refused with anything but `Escrow` and `Die`, it is a fault with the line's place. The file
+/// refusal, and a line is refused with anything but `Escrow` and `Die`, it is a fault with the line's number. The file
 /// then represents the commits until then.
 ///
 /// Several workers do not stop at a refusal. By several it is refused if the device failed meanwhile, by
@@ -149,6 +151,7 @@ pub(crate) fn perform_run<
     out: &mut O,
     gate: G,
 ) -> Result<(), Fault>
+    requires frames { IsFrameCount serving.now.frames }
     ensures ran { OnOk result (HasRunScripts serving.now.stop serving.now.workers
         (F.files folder.old) (F.files folder.new) (string_bytes serving.now.file)
         (map string_bytes serving.now.scripts.items) (I.remaining input.old)

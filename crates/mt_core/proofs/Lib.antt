@@ -29,7 +29,6 @@ pub mod First
 pub mod Firsts
 pub mod Dropping
 pub mod Beginning
-pub mod Granting
 pub mod Locked
 pub mod Resting
 pub mod Committing

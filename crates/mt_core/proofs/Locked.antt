@@ -1,5 +1,5 @@
--- A call on its way from its lock to its operation, and back where it is refused.
-use Rattle.std.proofs.Common.{◌≡◌, ℕ, ◌<◌, ◌+◌, true, false, List, [], ◌∷◌, ◌++◌, sym, ap, ◌∙◌, subst}
+-- A call on its way from its locks to its operation, and back where it is refused.
+use Rattle.std.proofs.Common.{◌≡◌, ℕ, ◌<◌, ◌+◌, List, [], ◌∷◌, ◌++◌, sym, ap, ◌∙◌, subst}
 use Rattle.std.specs.Option.{option_map}
 use Rattle.mt_disk.specs.declared.device.Device.{Ghosts}
 use Rattle.mt_escrow.specs.Seen.{Escrowed, add_of}
@@ -9,21 +9,23 @@ use Rattle.mt_live.specs.Machine.{IsKept, IsAdmitted}
 use Rattle.mt_live.specs.Members.{Member}
 use Rattle.mt_model.specs.Escrow.{IsAdmissible}
 use Rattle.mt_model.specs.History.{after}
-use Rattle.mt_model.specs.Locks.{with_lock, without_lock, IsFree}
-use Rattle.mt_model.specs.Model.{Base, object_of, mode_of, IsWithin}
+use Rattle.mt_model.specs.Locks.{with_locks, without_locks, AreAllFree}
+use Rattle.mt_model.specs.Model.{Base, asks_of, locks_of, IsWithin}
 use Rattle.mt_model.specs.Pending.{steps_at}
 use Rattle.mt_model.specs.Tables.{count_at}
 use Rattle.mt_model.specs.declared.counters.Count.{Count}
 use Rattle.mt_model.specs.declared.objects.Object.{Object}
 use Rattle.mt_model.specs.declared.operations.Op.{Op}
 use Rattle.mt_model.specs.declared.operations.Op.TheVariants.{Get, Insert, Update, Delete, Add, Read}
+use Rattle.mt_slock.specs.Answers.{MarksFresh, fresh_in}
 use Rattle.mt_slock.specs.Views.{held_of}
 use Rattle.mt_slock.specs.declared.holders.Holder.{Holder}
+use Rattle.mt_slock.specs.declared.table.Fresh.{Fresh}
+use Rattle.mt_slock.proofs.Asking.{taken_out}
 use Rattle.mt_core.specs.Consistent.{Origin, state_of, IsConsistent, MayRun, IsGranted, IsLocked, IsAskedFor, IsRestored, IsIn}
 use Rattle.mt_core.specs.Runs.{running_in}
 use Rattle.mt_core.specs.declared.parts.Core.{Core}
 use Rattle.mt_core.proofs.Calling.{claims_consistent}
-use Rattle.mt_core.proofs.Granting.{held_already, taken_out}
 
 admitted_of : (relations counters : ℕ) (m : Base) (e : Escrowed) (t : ℕ) (op : Op) → IsWithin relations counters op → ((c : ℕ) → c < counters → count_at e.committed c ≡ m.counts c) → IsAskedFor e t op → IsAdmitted m e.pending t op
 admitted_of relations counters m e t (Add c d) within same asked = subst (λ (n : Count). IsAdmissible n (steps_at c (e.pending ++ add_of t c d ∷ []))) (same c within.0) asked
@@ -85,7 +87,7 @@ module _ {D : Type 0} (g : Ghosts D) (origin : Origin) (base : Base) where
         state = state;
       }
 
-  pub locked_from : (k n : Core D) (t : ℕ) (op : Op) → IsConsistent g origin base k → MayRun origin k t op → IsFree (held_of k.locks) t (object_of op) (mode_of op) → held_of n.locks ≡ with_lock (held_of k.locks) t (object_of op) (mode_of op)
+  pub locked_from : (k n : Core D) (t : ℕ) (op : Op) → IsConsistent g origin base k → MayRun origin k t op → AreAllFree (held_of k.locks) t (locks_of op) → held_of n.locks ≡ with_locks (held_of k.locks) t (locks_of op)
       → IsLocked g origin base k.locks (record k { locks = n.locks }) t op
   locked_from k n t op safe may free locked = record { was = safe; may = record { within = may.within; at_work = may.at_work; room = may.room; idle = may.idle }; locked = locked; free = free }
 
@@ -93,21 +95,13 @@ module _ {D : Type 0} (g : Ghosts D) (origin : Origin) (base : Base) where
   restored : (k n : Core D) → IsConsistent g origin base k → IsRestored g k n → IsConsistent g origin base n
   restored k n safe r = subst (IsConsistent g origin base) (sym r.same) (claims_consistent g origin base k n safe (r.right origin.pages origin.relations origin.counters safe.fit.right) r.store r.page_locks r.claimed)
 
-  -- the lock was held before
-  pub restored_in : (k m n : Core D) (t : ℕ) (op : Op) → IsConsistent g origin base k → held_of m.locks ≡ with_lock (held_of k.locks) t (object_of op) (mode_of op) → held_of k.locks t (object_of op) (mode_of op) ≡ true → IsRestored g (record k { locks = m.locks }) n
-      → IsIn g origin base (state_of k base) n
-  restored_in k m n t op safe locked had r =
-      let z : Core D = record k { locks = m.locks } in
-      let a = relocked_in k z safe (locked ∙ held_already (held_of k.locks) t (object_of op) (mode_of op) had) in
-      record { consistent = restored z n a.consistent r; state = a.state ∙ (λ i. state_of (sym r.same i) base) }
-
-  -- it was not, and is taken out
-  pub restored_out : (k m n p : Core D) (t : ℕ) (op : Op) → IsConsistent g origin base k → held_of m.locks ≡ with_lock (held_of k.locks) t (object_of op) (mode_of op) → held_of k.locks t (object_of op) (mode_of op) ≡ false → IsRestored g (record k { locks = m.locks }) n
-      → held_of p.locks ≡ without_lock (held_of n.locks) t (object_of op) (mode_of op) → IsIn g origin base (state_of k base) (record n { locks = p.locks })
-  restored_out k m n p t op safe locked new r out =
+  -- those of its locks that were not held before are taken out
+  pub restored_out : (k m n p : Core D) (t : ℕ) (op : Op) (fresh : Fresh) → IsConsistent g origin base k → held_of m.locks ≡ with_locks (held_of k.locks) t (locks_of op) → MarksFresh (held_of k.locks) t (asks_of op) fresh → IsRestored g (record k { locks = m.locks }) n
+      → held_of p.locks ≡ without_locks (held_of n.locks) t (fresh_in (asks_of op) fresh) → IsIn g origin base (state_of k base) (record n { locks = p.locks })
+  restored_out k m n p t op fresh safe locked marks r out =
       let z : Core D = record k { locks = m.locks } in
       let held : held_of n.locks ≡ held_of m.locks = ap (λ (x : Core D). held_of x.locks) r.same in
-      let back : held_of p.locks ≡ held_of k.locks = out ∙ (λ i. without_lock ((held ∙ locked) i) t (object_of op) (mode_of op)) ∙ taken_out (held_of k.locks) t (object_of op) (mode_of op) new in
+      let back : held_of p.locks ≡ held_of k.locks = out ∙ (λ i. without_locks ((held ∙ locked) i) t (fresh_in (asks_of op) fresh)) ∙ taken_out (held_of k.locks) t (asks_of op) fresh marks in
       let b = relocked_in k (record k { locks = p.locks }) safe back in
       let r2 : IsRestored g (record k { locks = p.locks }) (record n { locks = p.locks }) = record { same = ap (λ (x : Core D). record x { locks = p.locks }) r.same; right = r.right; store = r.store; page_locks = r.page_locks; claimed = r.claimed } in
       record { consistent = restored (record k { locks = p.locks }) (record n { locks = p.locks }) b.consistent r2; state = b.state ∙ (λ i. state_of (sym r2.same i) base) }

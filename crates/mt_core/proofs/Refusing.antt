@@ -1,5 +1,5 @@
 -- Why a call is refused, from why its parts are.
-use Rattle.std.proofs.Common.{ℕ, Bool, List, ap, arith}
+use Rattle.std.proofs.Common.{ℕ, Bool, ap, arith}
 use Rattle.std.specs.Prelude.{ℤ}
 use Rattle.std.proofs.Props.{props}
 use Rattle.mt_disk.specs.declared.device.Device.{Ghosts}
@@ -12,8 +12,8 @@ use Rattle.mt_inverse.specs.Steps.{IsWithinSteps}
 use Rattle.mt_pool.specs.Same.{Operation-prop}
 use Rattle.mt_live.specs.Lives.{IsAbove}
 use Rattle.mt_live.specs.Members.{Member}
-use Rattle.mt_model.specs.Locks.{IsFree}
-use Rattle.mt_model.specs.Model.{object_of, mode_of}
+use Rattle.mt_model.specs.Locks.{AreAllFree}
+use Rattle.mt_model.specs.Model.{asks_of, locks_of}
 use Rattle.mt_model.specs.declared.operations.Op.{Op}
 use Rattle.mt_model.specs.declared.operations.Op.TheVariants.{Get, Insert, Update, Delete, Add, Read}
 use Rattle.mt_slock.specs.Answers.{IsRefused}
@@ -61,7 +61,7 @@ module _ {D : Type 0} (g : Ghosts D) (origin : Origin) (k : Core D) (kept t : �
   behind (refusal.BadLine x) a u = absurd u
 
   -- nobody was in the way
-  pub refused_call : (why : Refusal) → IsFree (held_of k.locks) t (object_of op) (mode_of op) → IsRefusedBehind g origin k kept t op split why → IsRefusedCall g origin k kept t op split why
+  pub refused_call : (why : Refusal) → AreAllFree (held_of k.locks) t (locks_of op) → IsRefusedBehind g origin k kept t op split why → IsRefusedCall g origin k kept t op split why
   refused_call refusal.NoMemory f b = tt
   refused_call refusal.DeviceFailed f b = (f, b)
   refused_call refusal.NotFormatted f b = (f, b)
@@ -82,7 +82,7 @@ module _ {D : Type 0} (g : Ghosts D) (origin : Origin) (k : Core D) (kept t : �
   refused_call (refusal.BadLine x) f b = (f, b)
 
   -- somebody was
-  pub barred_call : (why : Refusal) → IsRefused (held_of k.locks) t (object_of op) (mode_of op) why → IsRefusedCall g origin k kept t op split why
+  pub barred_call : (why : Refusal) → IsRefused (held_of k.locks) t (asks_of op) why → IsRefusedCall g origin k kept t op split why
   barred_call refusal.NoMemory b = tt
   barred_call refusal.DeviceFailed b = absurd b
   barred_call refusal.NotFormatted b = absurd b

@@ -138,8 +138,8 @@ pub record LeavesFirst {D : Type 0} (g : Ghosts D) (k n : Core D) (txn : ℕ) : 
   pub restartable : (c : Commit) (cs : List Commit) → k.commits.items ≡ c ∷ cs → c.place ≤ length (durable (core_log k))
       → StaysRestartable g k n
 
--- An operation of a transaction was called, its object locked first.
-pub record LocksObject {D : Type 0} (g : Ghosts D) (k n : Core D) (txn : ℕ)
+-- An operation of a transaction was called, its locks asked for first.
+pub record LocksCall {D : Type 0} (g : Ghosts D) (k n : Core D) (txn : ℕ)
     (op : Op) (split : Bool) (r : Result Called Refusal) : Type 0 where
   pub called : (origin : Origin) (base : Base) → IsConsistent g origin base k → MayRun origin k txn op
       → IsCalled g origin base (state_of k base) n txn op r
@@ -151,7 +151,7 @@ pub record LocksObject {D : Type 0} (g : Ghosts D) (k n : Core D) (txn : ℕ)
   pub store : core_store n ≡ core_store k
   pub book : n.book ≡ k.book
 
--- A call that has its lock and its room in escrow is begun, or refused with all as it was.
+-- A call that has its locks and its room in escrow is begun, or refused with all as it was.
 pub record StartsCall {D : Type 0} (g : Ghosts D) (k n : Core D) (txn : ℕ)
     (end : Op) (split : Bool) (r : Result Unit (Refusal × Op)) : Type 0 where
   pub ok : (origin : Origin) (base : Base) (locks : List (Object × List Holder)) (escrow : Escrowed)
@@ -171,7 +171,7 @@ pub record StartsCall {D : Type 0} (g : Ghosts D) (k n : Core D) (txn : ℕ)
   pub store : core_store n ≡ core_store k
   pub book : n.book ≡ k.book
 
--- A call that has its lock is admitted, or refused with all as it was.
+-- A call that has its locks is admitted, or refused with all as it was.
 pub record AdmitsCall {D : Type 0} (g : Ghosts D) (k n : Core D) (txn : ℕ)
     (op : Op) (split : Bool) (r : Result Unit (Refusal × Op)) : Type 0 where
   pub ok : (origin : Origin) (base : Base) (locks : List (Object × List Holder))

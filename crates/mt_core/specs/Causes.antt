@@ -1,11 +1,11 @@
 -- Why a call is refused, and what it had if it is not.
-use Rattle.std.specs.Prelude.{ℕ, ◌<◌, ◌≤◌, ◌+◌, ◌*◌, Bool, List, Result, Ok, Err, ⊤}
+use Rattle.std.specs.Prelude.{ℕ, ◌<◌, ◌≤◌, ◌+◌, ◌*◌, Bool, Result, Ok, Err, ⊤}
 use Rattle.mt_disk.specs.declared.device.Device.{Ghosts}
 use Rattle.mt_base.specs.declared.refusal.Refusal.{Refusal}
 use Rattle.mt_base.specs.declared.refusal.Refusal.TheVariants as refusal
 use Rattle.mt_log.specs.Words.{area_size}
-use Rattle.mt_model.specs.Locks.{IsFree, IsLeastBar}
-use Rattle.mt_model.specs.Model.{object_of, mode_of}
+use Rattle.mt_model.specs.Locks.{AreAllFree, IsLeastBarOf}
+use Rattle.mt_model.specs.Model.{locks_of}
 use Rattle.mt_model.specs.declared.operations.Op.{Op}
 use Rattle.mt_op.specs.Operations.{world, claimed}
 use Rattle.mt_op.specs.World.{held_in}
@@ -60,18 +60,18 @@ IsRefusedBehind g origin k kept t op split refusal.Escrow = ¬ IsAskedFor k.escr
 IsRefusedBehind g origin k kept t op split refusal.NoMemory = ⊤
 IsRefusedBehind g origin k kept t op split why = IsAskedFor k.escrow t op × IsUnreserved g origin k kept op split why
 
--- an older transaction is in the way of its lock; or else nobody is, and it is refused after it
+-- an older transaction is in the way of one of its locks; or else nobody is, and it is refused after them
 abbrev pub IsRefusedCall : {D : Type 0} → Ghosts D → Origin → Core D → ℕ → ℕ → Op → Bool → Refusal → Type 0
 IsRefusedCall g origin k kept t op split (refusal.Die holder) =
-    IsLeastBar (held_of k.locks) t (object_of op) (mode_of op) holder × (holder < t)
+    IsLeastBarOf (held_of k.locks) t (locks_of op) holder × (holder < t)
 IsRefusedCall g origin k kept t op split refusal.NoMemory = ⊤
 IsRefusedCall g origin k kept t op split why =
-    IsFree (held_of k.locks) t (object_of op) (mode_of op) × IsRefusedBehind g origin k kept t op split why
+    AreAllFree (held_of k.locks) t (locks_of op) × IsRefusedBehind g origin k kept t op split why
 
 -- It runs only if nobody is in the way and all that it reserves is there; it waits only for a younger one.
 abbrev pub IsAnswered : {D : Type 0} → Ghosts D → Origin → Core D → ℕ → ℕ → Op → Bool → Result Called Refusal → Type 0
 IsAnswered g origin k kept t op split (Ok answer.Started) =
-    IsFree (held_of k.locks) t (object_of op) (mode_of op) × IsAdmittedBy g origin k kept t op split
+    AreAllFree (held_of k.locks) t (locks_of op) × IsAdmittedBy g origin k kept t op split
 IsAnswered g origin k kept t op split (Ok (answer.Wait holder)) =
-    IsLeastBar (held_of k.locks) t (object_of op) (mode_of op) holder × (t < holder)
+    IsLeastBarOf (held_of k.locks) t (locks_of op) holder × (t < holder)
 IsAnswered g origin k kept t op split (Err why) = IsRefusedCall g origin k kept t op split why

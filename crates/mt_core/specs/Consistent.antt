@@ -26,8 +26,8 @@ use Rattle.mt_model.specs.declared.operations.Op.{Op}
 use Rattle.mt_model.specs.declared.operations.Op.TheVariants.{Get, Insert, Update, Delete, Add, Read}
 use Rattle.mt_model.specs.declared.objects.Object.{Object}
 use Rattle.mt_model.specs.History.{after, Call}
-use Rattle.mt_model.specs.Locks.{with_lock, IsFree}
-use Rattle.mt_model.specs.Model.{Base, reply_of, base_after, inverse_of, object_of, mode_of, IsWithin}
+use Rattle.mt_model.specs.Locks.{with_locks, AreAllFree}
+use Rattle.mt_model.specs.Model.{Base, reply_of, base_after, inverse_of, locks_of, IsWithin}
 use Rattle.mt_model.specs.Tables.{count_at}
 use Rattle.mt_op.specs.Begun.{AreImages}
 use Rattle.mt_op.specs.Operations.{world, IsRight, claimed, operation_log}
@@ -330,22 +330,22 @@ pub record MayBeCalled {D : Type 0} (origin : Origin) (k : Core D) (t : ℕ) (op
   pub at_work : is_open (member_of k.live.members t) ≡ true
   pub idle : All (λ (r : OpScope). r.txn ≢ t) k.running.items
 
--- Its lock is held: nobody was in the way. But for that lock the parts are as they were.
+-- Its locks are held: nobody was in the way of any. But for those locks the parts are as they were.
 pub record IsLocked {D : Type 0} (g : Ghosts D) (origin : Origin) (base : Base)
     (was_locks : List (Object × List Holder)) (k : Core D) (t : ℕ) (op : Op) : Type 0 where
   pub was : IsConsistent g origin base (record k { locks = was_locks })
   pub may : MayRun origin k t op
-  pub locked : held_of k.locks ≡ with_lock (held_of was_locks) t (object_of op) (mode_of op)
-  pub free : IsFree (held_of was_locks) t (object_of op) (mode_of op)
+  pub locked : held_of k.locks ≡ with_locks (held_of was_locks) t (locks_of op)
+  pub free : AreAllFree (held_of was_locks) t (locks_of op)
 
--- If it is an add, the escrow admits it besides, and it is pending. But for that and the lock the parts are as they
+-- If it is an add, the escrow admits it besides, and it is pending. But for that and the locks the parts are as they
 -- were.
 pub record IsGranted {D : Type 0} (g : Ghosts D) (origin : Origin) (base : Base)
     (was_locks : List (Object × List Holder)) (was_escrow : Escrowed) (k : Core D) (t : ℕ) (op : Op) : Type 0 where
   pub was : IsConsistent g origin base (record k { locks = was_locks; escrow = was_escrow })
   pub may : MayRun origin k t op
-  pub locked : held_of k.locks ≡ with_lock (held_of was_locks) t (object_of op) (mode_of op)
-  pub free : IsFree (held_of was_locks) t (object_of op) (mode_of op)
+  pub locked : held_of k.locks ≡ with_locks (held_of was_locks) t (locks_of op)
+  pub free : AreAllFree (held_of was_locks) t (locks_of op)
   pub committed : k.escrow.committed ≡ was_escrow.committed
   pub more : k.escrow.pending ≡ was_escrow.pending ++ add_before t op []
   pub admitted : IsAdmitted (after origin.first k.book.items) was_escrow.pending t op

@@ -1,4 +1,4 @@
-// An operation is called: its lock, its pending add, what is kept for its inverse, and its begin.
+// An operation is called: its locks, its pending add, what is kept for its inverse, and its begin.
 ghost use Rattle.std.specs.Prelude.{◌≡◌, ◌==◌, is_some, ◌<◌, ◌≤◌, ◌+◌, ◌*◌, ◌^◌, ℕ, length, List};
 ghost use Rattle.std.specs.Bool.{OnTrue, OnFalse};
 ghost use Rattle.std.specs.List.{list_any};
@@ -7,7 +7,7 @@ ghost use Rattle.mt_base.specs.declared.limits.TheConstants.{MAX_BEGUN};
 ghost use Rattle.mt_escrow.specs.Seen.{Escrowed};
 ghost use Rattle.mt_live.specs.Machine.{called};
 ghost use Rattle.mt_log.specs.Words.{area_size};
-ghost use Rattle.mt_model.specs.Model.{Base, IsWithin, object_of};
+ghost use Rattle.mt_model.specs.Model.{Base, IsWithin, asks_of};
 ghost use Rattle.mt_model.specs.declared.objects.Object.{Object};
 ghost use Rattle.mt_pool.specs.Views.{pages};
 ghost use Rattle.mt_slock.specs.declared.holders.Holder.{Holder};
@@ -16,7 +16,7 @@ ghost use Rattle.mt_core.specs.Causes.{IsAnswered};
 ghost use Rattle.mt_core.specs.Restartable.{StaysRestartable};
 ghost use Rattle.mt_core.specs.Work.{CallRuns};
 ghost use Rattle.mt_op.specs.declared.scope.OpScope.{OpScope};
-ghost use Rattle.mt_core.specs.Advancing.{AdmitsCall, AsksLeave, LocksObject, StartsCall};
+ghost use Rattle.mt_core.specs.Advancing.{AdmitsCall, AsksLeave, LocksCall, StartsCall};
 ghost use Rattle.mt_core.specs.Seen.{core_log, core_pool, core_store};
 
 use crate::ends::let_go;
@@ -25,7 +25,7 @@ use crate::reservations::left_in;
 use mt_base::{OpNo, Refusal, TxnNo};
 use mt_disk::Device;
 use mt_escrow::Escrow;
-use mt_model::{Object, Op};
+use mt_model::{Asks, Op};
 use mt_op::{OpScope, log_bytes_for};
 use mt_slock::Asked;
 use mt_steps::{pages_for, pages_to_undo};
@@ -51,20 +51,6 @@ fn ask(escrow: &mut Escrow, txn: TxnNo, op: &Op) -> Result<(), Refusal>
     Ok(())
 }
 
-// The object of an operation, which is spent. It takes no memory.
-fn into_object(op: Op) -> Object
-    ensures { result ≡ object_of op }
-{
-    match op {
-        Op::Get(relation, key) => Object::Key(relation, key),
-        Op::Insert(relation, key, _value) => Object::Key(relation, key),
-        Op::Update(relation, key, _value) => Object::Key(relation, key),
-        Op::Delete(relation, key) => Object::Key(relation, key),
-        Op::Add(counter, _) => Object::Counter(counter),
-        Op::Read(counter) => Object::Counter(counter),
-    }
-}
-
 // The place of a transaction's operation among those under way, if it has one.
 fn place_in(running: &[OpScope], txn: TxnNo) -> Option<usize>
     ensures { IsPlaceOf running.now txn result }
@@ -86,7 +72,7 @@ impl<D: Device> Core<D> {
         place_in(self.running.as_slice(), txn)
     }
 
-    /// Calls an operation of a transaction at work that runs nothing, and starts it. It takes the operation's lock,
+    /// Calls an operation of a transaction at work that runs nothing, and starts it. It takes the operation's locks,
     /// the escrow's leave if it is an add, and pages and log bytes for it and for its inverse. `split` says
     /// whether an insert may split a bucket of the index.
     ///
@@ -118,10 +104,10 @@ impl<D: Device> Core<D> {
         ensures restartable { StaysRestartable D.Device self.old self.new }
     {
         let own = op.try_clone()?;
-        let object = op.object()?;
+        let asks = op.asks()?;
         self.live.room(txn)?;
         self.running.reserve(1)?;
-        self.lock(alloc, txn, own, split, object)
+        self.lock(alloc, txn, own, split, asks)
     }
 
     // Whether the log has room for so many bytes beside those that are kept.
@@ -173,7 +159,7 @@ impl<D: Device> Core<D> {
         }
     }
 
-    // Asks leave for an operation that is an add, and starts it. Its lock is had. If it is refused it is given
+    // Asks leave for an operation that is an add, and starts it. Its locks are had. If it is refused it is given
     // back.
     fn admit(&mut self, alloc: Global, txn: TxnNo, op: Op, split: bool) -> Result<(), (Refusal, Op)>
         requires locked { ∥ ((origin : Origin) × (base : Base) × (locks : List (Object × List Holder))
@@ -195,37 +181,31 @@ impl<D: Device> Core<D> {
         }
     }
 
-    // Locks the operation's object, and starts it.
+    // Takes the locks that the operation asks for, and starts it.
     fn lock(
         &mut self,
         alloc: Global,
         txn: TxnNo,
         op: Op,
         split: bool,
-        object: Object,
+        asks: Asks,
     ) -> Result<Called, Refusal>
         requires safe { ∥ ((origin : Origin) × (base : Base) × IsConsistent D.Device origin base self.old
             × MayRun origin self.old txn op) ∥₁ }
-        requires same { object ≡ object_of op }
+        requires same { asks ≡ asks_of op }
         requires room { vec_len self.old.running < vec_capacity self.old.running }
         requires few { self.old.last < MAX_BEGUN }
-        ensures { LocksObject D.Device self.old self.new txn op split result }
+        ensures { LocksCall D.Device self.old self.new txn op split result }
     {
-        let mode = op.mode();
-        match self.locks.ask(txn, object, mode)? {
+        match self.locks.ask(txn, asks)? {
             Asked::Wait(holder) => Ok(Called::Wait(holder)),
-            Asked::Granted { was_held } => {
-                match self.admit(alloc, txn, op, split) {
-                    Ok(()) => Ok(Called::Started),
-                    Err((why, op)) => {
-                        if was_held {
-                            return Err(why);
-                        }
-                        self.locks.take_out(txn, &into_object(op), mode);
-                        Err(why)
-                    }
+            Asked::Granted(fresh) => match self.admit(alloc, txn, op, split) {
+                Ok(()) => Ok(Called::Started),
+                Err((why, op)) => {
+                    self.locks.take_out(txn, &op.into_asks(), fresh);
+                    Err(why)
                 }
-            }
+            },
         }
     }
 }

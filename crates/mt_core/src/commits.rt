@@ -1,5 +1,5 @@
 // Transactions that begin, commit and leave, and the writes that make commits durable.
-ghost use Rattle.std.specs.Prelude.{◌≡◌, ◌≢◌, ◌⊎◌, ◌<◌, ◌≤◌, ◌+◌, List, ◌∷◌, ◌++◌, [], length, drop, true, All, Some, Ok, IfOk, IfErr, OnOk, OnErr};
+ghost use Rattle.std.specs.Prelude.{◌≡◌, ◌≢◌, ◌⊎◌, ◌<◌, ◌≤◌, ◌+◌, List, ◌∷◌, ◌++◌, [], length, drop, true, All, Some, Ok, Err, IfOk, IfErr, OnOk, OnErr};
 ghost use Rattle.mt_live.specs.Lives.{member_of};
 ghost use Rattle.mt_live.specs.Machine.{begun};
 ghost use Rattle.mt_live.specs.declared.transactions.TxnState.TheVariants.{Open, Aborting};
@@ -72,6 +72,8 @@ impl<D: Device> Core<D> {
             (log_kept self.old + TRANSACTION_LOG_BYTES < area_size (core_log self.old)) }
         ensures cause { IfErr result (λ why. (why ≡ Refusal.NoMemory) ⊎ ((why ≡ Refusal.LogFull)
             × (area_size (core_log self.old) ≤ log_kept self.old + TRANSACTION_LOG_BYTES))) }
+        ensures full { area_size (core_log self.old) ≤ log_kept self.old + TRANSACTION_LOG_BYTES
+            → result ≡ Err Refusal.LogFull }
         ensures opened { IfOk result (λ txn. SetsState self.old self.new txn (Some Open)) }
         ensures same_running { SameRunning self.old self.new }
         ensures same_commits { SameCommits self.old self.new }

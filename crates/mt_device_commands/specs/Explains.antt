@@ -16,7 +16,7 @@ use Rattle.mt_explain.specs.declared.history.History.{History}
 use Rattle.mt_report.specs.declared.faults.Fault.{Fault}
 use Rattle.mt_report.specs.declared.faults.Fault.TheVariants.{Output, Refused}
 
--- the area that the slot names holds these batches and no others, each at its place
+-- the area that the slot names holds these batches and no others, each at its offset
 pub record AreBatchesIn (c : List ℕ) (slot : MasterSlot) (batches : List Batch) : Type 0 where
   pub area : HasArea c slot (records_of batches)
   pub places : places_of batches ≡ places_from (area_start slot) (records_of batches)

@@ -102,8 +102,8 @@ fn write_check<W: Write>(writer: &mut W, report: &Report, pages: bool) -> Result
 /// for. The file is only read.
 ///
 /// Refused by `NoMemory`, by `DeviceFailed` if there is no such file or it cannot be read, by `NotFormatted`, and by
-/// `BadFormat` with a place that breaks the format. Nothing is written then. If the output fails, it has a beginning of
-/// the report.
+/// `BadFormat` with an offset that breaks the format. Nothing is written then. If the output fails, it has a beginning
+/// of the report.
 pub fn perform_check<F: Folder, O: Write, R: Clock>(
     alloc: Global,
     patience: &Patience<'_, R>,

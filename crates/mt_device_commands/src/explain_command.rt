@@ -65,7 +65,7 @@ fn history_of_file<F: Folder, R: Clock>(
 /// The file is only read.
 ///
 /// Refused by `NoMemory`, by `DeviceFailed` if there is no such file or it cannot be read, by `NotFormatted`, and by
-/// `BadFormat` with a place that breaks the log's format. Nothing is written then. If the output fails, it has a
+/// `BadFormat` with an offset that breaks the log's format. Nothing is written then. If the output fails, it has a
 /// beginning of the lines.
 pub fn perform_explain<F: Folder, O: Write, R: Clock>(
     alloc: Global,

@@ -19,9 +19,8 @@ Only content outcomes = (c : List ℕ) → outcomes c → c ≡ content
 abbrev pub LeavesTheSame : (List ℕ → Type 0) → (List ℕ → Type 0) → Type 0
 LeavesTheSame old new = (c : List ℕ) → new c ↔ old c
 
--- The time of one call at most: a moment passes in it at most, so that two calls have no such time; and what a crash
--- since some earlier moment might have left is what it might have left before the call, or what it may leave after
--- it.
+-- The time of one call: a moment passes in it at most. What a crash since some earlier moment might have left is what
+-- it might have left before the call, or what it may leave after it.
 pub record Elapses (before now : ℕ) (past since : ℕ → List ℕ → Type 0) (may_leave : List ℕ → Type 0) : Type 0 where
   pub later : before ≤ now
   pub at_once : now ≤ before + 1

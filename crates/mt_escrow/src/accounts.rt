@@ -2,7 +2,7 @@
 ghost use Rattle.std.specs.Prelude.{◌≡◌, ◌<◌, ◌⊎◌, ℕ, [], length, OnOk, OnErr, IfOk, IfErr};
 ghost use Rattle.mt_base.specs.Limits.{IsStep};
 ghost use Rattle.mt_model.specs.Pending.{pending_without, moved_by, TakesOut};
-ghost use Rattle.mt_model.specs.Tables.{AreLimited, IsLimited, count_at};
+ghost use Rattle.mt_model.specs.Tables.{AreLimited, count_at};
 ghost use Rattle.mt_escrow.specs.Seen.{add_of, with_add, CanStand, LosesLast, AreAdmissible};
 
 use crate::rooms::{Room, last_place, settle};
@@ -108,16 +108,6 @@ impl Escrow {
             let room = &mut self.rooms[usize::from(counter.get())];
             *room = room.without(step);
         }
-    }
-
-    /// A counter as it is committed: its bounds, and its number with the adds of all the
-    /// transactions that committed.
-    pub fn committed(&self, counter: CtrNo) -> Count
-        requires { counter < length self.now.committed }
-        ensures count { result ≡ count_at self.now.committed counter }
-        ensures limited { IsLimited result }
-    {
-        self.rooms[usize::from(counter.get())].count
     }
 
     /// The pending adds in order of grant, lent. Whichever of them are made, each counter stays in

@@ -83,7 +83,7 @@ entry_line (OpDropped txn op) = op_start txn op ++ codes "dropped\n"
 entry_line (Commit txn) = txn_line txn (codes "commit")
 entry_line (AbortEnd txn) = txn_line txn (codes "aborted")
 
--- after the number of its batch, from 1, and the place of that on the device
+-- after the number of its batch, from 1, and the offset of that on the device
 abbrev pub batch_start : ℕ → ℕ → List ℕ
 batch_start number place = codes "batch " ++ (decimal number ++ (codes " at " ++ (decimal place ++ 32 ∷ [])))
 

@@ -5,6 +5,7 @@ use Rattle.std.specs.Int.{w16, w64, to_be_bytes, cast_signed, cast_unsigned}
 use Rattle.std.proofs.lemmas.Int.{of_z-to_z, to_z_pos, ints}
 use Rattle.std.proofs.lemmas.Bool.{ltb-true, lt-ltb}
 use Rattle.std.proofs.Math.Facts.{to_z-neg}
+use Rattle.mt_base.specs.declared.limits.TheConstants.{MAX_VALUE_BYTES}
 use Rattle.mt_base.specs.Limits.{IsStep}
 use Rattle.mt_frame.specs.declared.records.LoggedOp.{LoggedOp}
 use Rattle.mt_frame.specs.declared.records.LoggedOp.TheVariants.{Insert, Update, Delete, Add}
@@ -85,7 +86,7 @@ reads_step = reads_map (cast_signed w64) (cast_unsigned w64) (λ z. to_be_bytes 
 -- ---- the parts of operations
 
 abbrev BelowValue : List ℕ → Type 0
-BelowValue bytes = (0 ≤ length bytes) × (length bytes ≤ 1024)
+BelowValue bytes = (0 ≤ length bytes) × (length bytes ≤ MAX_VALUE_BYTES)
 
 abbrev BelowKey : List ℕ → Type 0
 BelowKey bytes = (1 ≤ length bytes) × (length bytes ≤ 64)
@@ -95,7 +96,7 @@ BelowRelation n = (0 ≤ n) × (n ≤ 63)
 
 reads_value : Reads (λ (bytes : List ℕ). counted w16 bytes) BelowValue value_at
 unfolding value_at
-reads_value = reads_counted w16 (2 ^ 16) 0 1024 wide16 (omega arith)
+reads_value = reads_counted w16 (2 ^ 16) 0 MAX_VALUE_BYTES wide16 (omega arith)
 
 abbrev keyed_text : InsertParts → List ℕ
 keyed_text p = (p.0 ∷ []) ++ ((length p.1.0 ∷ p.1.0) ++ counted w16 p.1.1)
@@ -129,7 +130,7 @@ reads_add = reads_then (reads_byte 0 127 (omega arith)) (λ _ _. reads_step)
 
 -- ---- operations
 
-keyed_fits : (relation : ℕ) (key value : List ℕ) → relation < 64 → (1 ≤ length key) × (length key ≤ 64) → length value ≤ 1024 → KeyedFits (relation, (key, value))
+keyed_fits : (relation : ℕ) (key value : List ℕ) → relation < 64 → (1 ≤ length key) × (length key ≤ 64) → length value ≤ MAX_VALUE_BYTES → KeyedFits (relation, (key, value))
 keyed_fits relation key value r k v = ((omega arith, omega arith), (k, (omega arith, v)))
 
 pub reads_operation : Reads operation_text IsOperation operation_at

@@ -14,7 +14,7 @@ ghost use Rattle.mt_frame.specs.Readers.{Head, txn_at, op_at, name_at, is_step_n
 use crate::OPEN_GATE;
 use crate::fields::{ReadError, byte_within, part_of, u16_within, u32_at, u64_at, u64_within};
 use crate::records::{LoggedOp, PageHead, Record};
-use mt_base::limits::{MAX_BEGUN, MAX_STEP, PAGE_BYTES};
+use mt_base::limits::{MAX_BEGUN, MAX_STEP, MAX_VALUE_BYTES, PAGE_BYTES};
 use mt_base::{Bytes, CtrNo, OpNo, PageNo, Refusal, RelNo, TxnNo};
 use std::alloc::Global;
 
@@ -33,7 +33,7 @@ fn key_of(alloc: Global, bytes: &[u8]) -> Result<(Bytes, &[u8]), ReadError>
 fn value_of(alloc: Global, bytes: &[u8]) -> Result<(Bytes, &[u8]), ReadError>
     ensures { Gives (λ x. (x.0, x.1.now)) result (value_at bytes.now) }
 {
-    let (n, rest) = u16_within(bytes, 0, 1024)?;
+    let (n, rest) = u16_within(bytes, 0, MAX_VALUE_BYTES as u16)?;
     let (value, rest) = part_of(rest, n as usize)?;
     Ok((Bytes::copy_of(alloc, value)?, rest))
 }

@@ -10,3 +10,4 @@ pub mod Halves
 pub mod Copies
 pub mod Laws
 pub mod Broken
+pub mod Names

@@ -1,5 +1,5 @@
 // What the plans of the index answer: a page that they need and in which mode, what they found, or what changes.
-// `Held` and `Spot` are answers within this crate. And how far the search for a key has come.
+// `Held`, `Spot` and `Gathered` are answers within this crate. And how far the search for a key has come.
 use mt_base::{Mode, PageNo, RecordName};
 use mt_space::Changes;
 
@@ -59,6 +59,25 @@ pub enum Add {
     /// It takes a page, or two, and there are not so many free.
     Full,
     /// The pages are no index: a chain comes back to itself.
+    Endless,
+}
+
+/// What the gathering of a relation's names answers.
+#[derive(Debug, Drop)]
+pub enum Names {
+    /// This page is needed first, in this mode.
+    Need(PageNo, Mode),
+    /// The names of the relation's records.
+    Named(Vec<RecordName>),
+    /// The pages are no index: a chain comes back to itself.
+    Endless,
+}
+
+// What comes of the gathering of a bucket's names.
+#[derive(Clone, Copy)]
+pub(crate) enum Gathered {
+    Need(PageNo),
+    Whole,
     Endless,
 }
 

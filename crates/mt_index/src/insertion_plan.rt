@@ -25,8 +25,8 @@ use std::alloc::{AllocError, Global};
 ///
 /// The directory is needed for read, and for write if it is to change. Pages of the bucket are needed for write.
 /// The map of the space and pages to be taken are needed only if the bucket has no room. `Full` is answered just
-/// if no page is free, or just one if a split takes it and its half has no room. A relation's number is below
-/// 256. The only error is want of memory.
+/// if the bucket has none, and no page is free; or just one is, a split takes it, and its half has no room either. A
+/// relation's number is below 256. The only error is want of memory.
 pub fn plan_add<V: Pages>(
     alloc: Global,
     views: &V,

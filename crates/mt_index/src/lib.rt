@@ -19,8 +19,9 @@ mod laws;
 mod lookup;
 mod page_change;
 mod pointer_rules;
+mod record_names;
 
-pub use answers::{Add, Amend, Find, Search};
+pub use answers::{Add, Amend, Find, Names, Search};
 pub use directory::{DIRECTORY_HEAD_BYTES, MAX_DEPTH, depth};
 pub use directory_rules::check_directory;
 pub use entry_changes::{plan_drop, plan_set};
@@ -31,3 +32,4 @@ pub use laws::{
     other_changes_keep_the_map,
 };
 pub use lookup::plan_find;
+pub use record_names::plan_names;

@@ -5,7 +5,7 @@ ghost use Rattle.std.specs.Prelude.{◌≡◌, ◌≤◌, length};
 use mt_base::ranges::{put, u16_at};
 use mt_base::{Edit, PageNo, RecordName, RelNo};
 use mt_bucket::{count, depth, empty, next};
-use mt_index::{Add, depth as bits, plan_add};
+use mt_index::{Add, Names, depth as bits, plan_add, plan_names};
 use mt_space::{Changes, PageChange, Pages};
 use std::alloc::{AllocError, Global};
 use std::test::Fail;
@@ -147,5 +147,30 @@ fn without_splits_it_chains_at_once(rt: HostRuntime) -> Result<(), Fail> {
     let (summaries, entries) = chained(rt.alloc())?;
     assert!(rt; summaries[0] == [60, 0, 3, 0, 58, 0] && summaries[1] == [59, 0, 3, 0, 58, 4]);
     assert!(rt; summaries[2] == [59, 0, 3, 0, 58, 4] && entries == 2);
+    Ok(())
+}
+
+/// How many records a relation has, and the slot of the first, or 0 if it has none.
+fn records_of(alloc: Global, copies: &Copies, relation: u16) -> Result<(usize, u16), AllocError> {
+    let Names::Named(names) = plan_names(alloc, copies, RelNo::new(relation))? else {
+        return Ok((100, 0));
+    };
+    let slot = names.first().map_or(0, |name| name.slot);
+    Ok((names.len(), slot))
+}
+
+/// The records of the first of 59 relations, of the last, whose entry is in page 4, and of one without entries.
+fn recorded(alloc: Global) -> Result<[(usize, u16); 3], AllocError> {
+    let mut copies = formatted();
+    add_from(alloc, &mut copies, 0, 59)?;
+    let first = records_of(alloc, &copies, 0)?;
+    let last = records_of(alloc, &copies, 58)?;
+    Ok([first, last, records_of(alloc, &copies, 59)?])
+}
+
+#[test]
+fn names_are_found_in_overflow_pages(rt: HostRuntime) -> Result<(), Fail> {
+    let records = recorded(rt.alloc())?;
+    assert!(rt; records == [(1, 0), (1, 58), (0, 0)]);
     Ok(())
 }

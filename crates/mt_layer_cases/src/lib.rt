@@ -16,6 +16,8 @@ mod mark;
 #[cfg(test)]
 mod plock;
 #[cfg(test)]
+mod slock;
+#[cfg(test)]
 mod slots;
 #[cfg(test)]
 mod space;

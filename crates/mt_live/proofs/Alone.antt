@@ -1,15 +1,14 @@
 -- A transaction that lives alone.
-use Rattle.std.proofs.Common.{◌≡◌, ℕ, Bool, true, false, cond, ◌==◌, ⊎_elim, List, [], ◌∷◌, ◌++◌, Option, Some, None, is_some, map, refl, ap, ap₂, sym, ◌∙◌, subst}
+use Rattle.std.proofs.Common.{◌≡◌, ℕ, Bool, true, false, cond, ⊎_elim, List, [], ◌∷◌, ◌++◌, Option, Some, None, is_some, refl, ap, ap₂, sym, ◌∙◌}
 use Rattle.std.specs.Prelude.{◌≢◌}
 use Rattle.std.proofs.lemmas.Bool.{cases_eq, ne_eqb}
 use Rattle.std.proofs.lemmas.Bool.Decides.{Decides-eqb}
 use Rattle.std.proofs.lemmas.List.{map-append}
 use Rattle.std.proofs.lemmas.List.Elements.{filter-append}
-use Rattle.mt_base.specs.declared.modes.LockMode.{LockMode}
-use Rattle.mt_model.specs.declared.objects.Object.{Object}
+use Rattle.mt_model.specs.declared.objects.Lock.{Lock}
 use Rattle.mt_model.specs.declared.operations.Op.{Op}
 use Rattle.mt_model.specs.History.{Call, run}
-use Rattle.mt_model.specs.Locks.{Bars, IsFree}
+use Rattle.mt_model.specs.Locks.{AreAllFree}
 use Rattle.mt_model.specs.Model.{Base, reply_of}
 use Rattle.mt_live.specs.Alone.{NobodyLives, IsAlone}
 use Rattle.mt_live.specs.Entries.{Entry, calls, kept}
@@ -17,6 +16,7 @@ use Rattle.mt_live.specs.Machine.{State, committed_base, is_live, put, IsKept, b
 use Rattle.mt_live.specs.Sound.{Each}
 use Rattle.mt_live.specs.Undoing.{only}
 use Rattle.mt_live.proofs.AddLemmas.{eq_self}
+use Rattle.mt_live.proofs.Locking.{free_each}
 use Rattle.mt_live.proofs.Schedule.{nobody_leaves_nothing}
 
 -- ---- put
@@ -46,8 +46,9 @@ pub alone_holds : (b : Base) (s : State) (t session : ℕ) (cs : List Call) → 
 alone_holds b s t session cs k alone =
     sym k.base ∙ ap (run (committed_base b s)) (ap calls (sym (stands_alone b s t session cs k alone)) ∙ alone.calls_are)
 
-pub alone_is_free : (b : Base) (s : State) (t session : ℕ) (cs : List Call) → IsKept b s → IsAlone s t session cs → (x : Object) (m : LockMode) → IsFree s.held t x m
-alone_is_free b s t session cs k alone x m u bars = dead s u (alone.others u bars.another) (k.owned.held u x bars.mode bars.holds)
+pub alone_is_free : (b : Base) (s : State) (t session : ℕ) (cs : List Call) → IsKept b s → IsAlone s t session cs → (ls : List Lock) → AreAllFree s.held t ls
+alone_is_free b s t session cs k alone ls =
+    free_each s.held t ls (λ x m u bars. dead s u (alone.others u bars.another) (k.owned.held u x bars.mode bars.holds))
 
 -- ---- its events
 

@@ -8,8 +8,9 @@ use Rattle.mt_model.specs.declared.operations.Op.{Op}
 use Rattle.mt_model.specs.declared.operations.Op.TheVariants.{Get, Insert, Update, Delete, Add, Read}
 use Rattle.mt_model.specs.declared.operations.Reply.{Reply}
 use Rattle.mt_model.specs.declared.operations.Reply.TheVariants.{Done, OutOfBounds}
+use Rattle.mt_model.specs.declared.objects.Asks.{Asks}
 use Rattle.mt_model.specs.declared.objects.Object.{Object}
-use Rattle.mt_model.specs.declared.objects.Object.TheVariants.{Key, Counter}
+use Rattle.mt_model.specs.declared.objects.Object.TheVariants.{Key, Counter, Relation}
 use Rattle.mt_model.specs.declared.pending_add.Pending.{Pending}
 use Rattle.mt_model.specs.Model.{Base, object_of, same_object, moved, inverse_of, mode_of, reply_of, base_after}
 use Rattle.mt_model.specs.Escrow.{total, lowest, highest, HasRoom}
@@ -19,13 +20,14 @@ use Rattle.mt_model.proofs.Cells.{Cell, cell, next, idle, cell-next, same-true, 
 use Rattle.mt_model.proofs.Split.{filter-swap}
 use Rattle.mt_model.proofs.Steps.{stays_with_room}
 use Rattle.mt_model.proofs.Sums.{total_between}
-use Rattle.mt_model.proofs.Undo.{base_effectless, inverse_place}
+use Rattle.mt_model.proofs.Undo.{base_effectless, inverse_asks}
 use Rattle.mt_live.specs.Entries.{Entry, runs, AreActed, kept, struck, IsExplained}
 use Rattle.mt_live.specs.Adds.{add_before, adds}
 use Rattle.mt_live.specs.Sound.{Each, IsLocked, IsDone, IsSound}
 use Rattle.mt_live.specs.Laws.{IsMoved}
 use Rattle.mt_live.proofs.Entries.{on, cell_runs, AreCellActed, runs-on, acted-on, acted_from_each, runs-append, acted_append, acted_front, acted_back}
 use Rattle.mt_live.proofs.Shapes.{each_filter, Agree, AllAgree}
+use Rattle.mt_live.proofs.Locking.{main_lock}
 use Rattle.mt_live.proofs.AtCell.{with_step, steps, count_run, strikes, part_less, with_less}
 use Rattle.mt_live.proofs.Moving.{Moves, moves, undoes}
 
@@ -44,8 +46,8 @@ agree_with held locks e le x is [] l = tt
 agree_with held locks e le x is (f ∷ es) l =
     cond_each (Agree e) (same_object (object_of f.op) x) f (on x es)
     (λ t apart. locks e.txn f.txn x (mode_of e.op) (mode_of f.op) apart
-    (subst (λ y. held e.txn y (mode_of e.op) ≡ true) is le)
-    (subst (λ y. held f.txn y (mode_of f.op) ≡ true) (same-true (object_of f.op) x t) l.0))
+    (subst (λ y. held e.txn y (mode_of e.op) ≡ true) is (main_lock held e.txn e.op le))
+    (subst (λ y. held f.txn y (mode_of f.op) ≡ true) (same-true (object_of f.op) x t) (main_lock held f.txn f.op l.0)))
     (agree_with held locks e le x is es l.1)
 
 cond_agree : (t : Bool) (e : Entry) (es : List Entry) → (t ≡ true → Each (Agree e) es) → AllAgree es → AllAgree (cond t (e ∷ es) es)
@@ -93,12 +95,26 @@ steps_none : (r : ℕ) (k : List ℕ) (es : List Entry) → steps (on (Key r k) 
 steps_none r k [] = refl
 steps_none r k (e ∷ es) = cond_steps (same_object (object_of e.op) (Key r k)) e (on (Key r k) es) [] (steps_none r k es) ∙ with_none r k e.op
 
+-- no operation is on a relation as a whole
+off_relation : (r : ℕ) (op : Op) → same_object (object_of op) (Relation r) ≡ false
+off_relation r (Add n d) = refl
+off_relation r (Get s l) = refl
+off_relation r (Insert s l v) = refl
+off_relation r (Update s l v) = refl
+off_relation r (Delete s l) = refl
+off_relation r (Read n) = refl
+
+none_on_relation : (r : ℕ) (es : List Entry) → on (Relation r) es ≡ []
+none_on_relation r [] = refl
+none_on_relation r (e ∷ es) = ap (λ b. cond b (e ∷ on (Relation r) es) (on (Relation r) es)) (off_relation r e.op) ∙ none_on_relation r es
+
 no_room : HasRoom idle []
 no_room = record { low = omega (arith, ints); high = omega (arith, ints) }
 
 pub room_on : (b : Base) (es : List Entry) → ((c : ℕ) → HasRoom (b.counts c) (steps_on c es)) → (x : Object) → HasRoom (cell b x).count (steps (on x es))
 room_on b es h (Key r k) = subst (HasRoom idle) (sym (steps_none r k es)) no_room
 room_on b es h (Counter c) = subst (HasRoom (b.counts c)) (sym (steps-at c es)) (h c)
+room_on b es h (Relation r) = subst (λ fs. HasRoom idle (steps fs)) (sym (none_on_relation r es)) no_room
 
 room_off : (b : Base) (es : List Entry) → ((x : Object) → HasRoom (cell b x).count (steps (on x es))) → (c : ℕ) → HasRoom (b.counts c) (steps_on c es)
 room_off b es h c = subst (HasRoom (b.counts c)) (steps-at c es) (h (Counter c))
@@ -300,7 +316,7 @@ undone held locks b es e fs i s others h =
     runs-on m fs x
     ∙ ((at x).1
     ∙ (ap (λ w. cond (same_object (object_of e.op) x) (next i w) w) (sym (runs-on m (e ∷ fs) x))
-    ∙ (ap (λ y. cond (same_object y x) (next i (cell (runs m (e ∷ fs)) x)) (cell (runs m (e ∷ fs)) x)) (sym (inverse_place e.op i e.reply h).object)
+    ∙ (ap (λ y. cond (same_object y x) (next i (cell (runs m (e ∷ fs)) x)) (cell (runs m (e ∷ fs)) x)) (sym (ap (λ (a : Asks). a.object) (inverse_asks e.op i e.reply h)))
     ∙ sym (cell-next (runs m (e ∷ fs)) i x))))) in
     record {
       sound = record {

@@ -8,10 +8,10 @@ use Rattle.mt_model.specs.declared.objects.Object.TheVariants.{Counter}
 use Rattle.mt_model.specs.declared.operations.Op.{Op}
 use Rattle.mt_model.specs.declared.pending_add.Pending.{Pending}
 use Rattle.mt_model.specs.declared.history.Committed.{Committed}
-use Rattle.mt_model.specs.Model.{Base, moved, object_of, mode_of, reply_of, base_after, inverse_of}
+use Rattle.mt_model.specs.Model.{Base, moved, locks_of, reply_of, base_after, inverse_of}
 use Rattle.mt_model.specs.History.{after}
 use Rattle.mt_model.specs.Escrow.{total, HasRoom}
-use Rattle.mt_model.specs.Locks.{Held, without_holder}
+use Rattle.mt_model.specs.Locks.{Held, without_holder, HoldsEach}
 use Rattle.mt_model.specs.Pending.{steps_at, pending_of, pending_without, moved_by}
 use Rattle.mt_model.proofs.Appends.{after-append, legal_append}
 use Rattle.mt_live.specs.Entries.{Entry, calls, runs, kept, IsExplained}
@@ -24,7 +24,7 @@ use Rattle.mt_live.specs.Laws.{IsMoved}
 use Rattle.mt_live.proofs.Shapes.{each_map, each_filter}
 use Rattle.mt_live.proofs.Events.{explained, counts_run, steps-at, steps_on, each_append, each_front, each_back, ended as entry_ended, commits, undone as entry_undone, leaves}
 use Rattle.mt_live.proofs.Pending.{not_eq, Covers, covers_wider, room_wider}
-use Rattle.mt_live.proofs.Locking.{has_lock, still_held, more_locks, holder_of, held_before, another_holds, held_after, fewer_locks, still_locked}
+use Rattle.mt_live.proofs.Locking.{all_still_held, has_each, whose_locks, all_more_locks, holds_each_more, held_before, another_holds, each_held_after, fewer_locks, still_locked}
 use Rattle.mt_live.proofs.AddLemmas.{eq_self, eq_flip, adds-append, pending_of-append, of_before, of_mine, of_other, adds_last, of_without, adds-kept, not_others, room_shared, adds_only, idle_adds, Taken, taken_of, undone_tied, out_room, room_called}
 
 -- ---- what is kept is what is claimed
@@ -109,14 +109,14 @@ called_tied s t op idle tied u false e f =
     let x : pending_of u (add_before t op []) ≡ [] = of_before u t op [] ∙ ap (λ w. cond w (add_before t op []) []) e in
     pending_of-append u s.pending (add_before t op []) ∙ (ap (λ w. pending_of u s.pending ++ w) x ∙ (append-nil (pending_of u s.pending) ∙ tied u))
 
-called_locked : (s : State) (t : ℕ) (op : Op) → ((u : ℕ) (p : Op) → s.running u ≡ Some p → s.held u (object_of p) (mode_of p) ≡ true)
-    → (u : ℕ) (p : Op) (b : Bool) → (u == t) ≡ b → cond b (Some op) (s.running u) ≡ Some p → (called s t op).held u (object_of p) (mode_of p) ≡ true
+called_locked : (s : State) (t : ℕ) (op : Op) → ((u : ℕ) (p : Op) → s.running u ≡ Some p → HoldsEach s.held u (locks_of p))
+    → (u : ℕ) (p : Op) (b : Bool) → (u == t) ≡ b → cond b (Some op) (s.running u) ≡ Some p → HoldsEach (called s t op).held u (locks_of p)
 called_locked s t op h u p true e is =
     let same : u ≡ t = (Decides-eqb u t).0 e in
     let q : op ≡ p = cc in
-    subst (λ v. (called s t op).held v (object_of p) (mode_of p) ≡ true) (sym same)
-    (subst (λ w. (called s t op).held t (object_of w) (mode_of w) ≡ true) q (has_lock s.held t (object_of op) (mode_of op)))
-called_locked s t op h u p false e is = still_held s.held t (object_of op) (mode_of op) u (object_of p) (mode_of p) (h u p is)
+    subst (λ v. HoldsEach (called s t op).held v (locks_of p)) (sym same)
+    (subst (λ w. HoldsEach (called s t op).held t (locks_of w)) q (has_each s.held t (locks_of op)))
+called_locked s t op h u p false e is = holds_each_more s.held (called s t op).held u (all_still_held s.held t (locks_of op) u) (locks_of p) (h u p is)
 
 called_running : (s : State) (t : ℕ) (op : Op) → is_live s t ≡ true → ((u : ℕ) (p : Op) → s.running u ≡ Some p → is_live s u ≡ true)
     → (u : ℕ) (p : Op) (b : Bool) → (u == t) ≡ b → cond b (Some op) (s.running u) ≡ Some p → is_live s u ≡ true
@@ -124,7 +124,7 @@ called_running s t op live h u p true e is = subst (λ v. is_live s v ≡ true) 
 called_running s t op live h u p false e is = h u p is
 
 called_held : (s : State) (t : ℕ) (op : Op) → is_live s t ≡ true → AreOwned s → (u : ℕ) (x : Object) (m : LockMode) → (called s t op).held u x m ≡ true → is_live s u ≡ true
-called_held s t op live o u x m h = go (holder_of s.held t (object_of op) (mode_of op) u x m h)
+called_held s t op live o u x m h = go (whose_locks s.held t (locks_of op) u x m h)
   where
     go : (s.held u x m ≡ true) ⊎ (u ≡ t) → is_live s u ≡ true
     go (inl a) = o.held u x m a
@@ -133,7 +133,7 @@ called_held s t op live o u x m h = go (holder_of s.held t (object_of op) (mode_
 relocked : (held more : Held) → ((t : ℕ) (x : Object) (m : LockMode) → held t x m ≡ true → more t x m ≡ true) → (b : Base) (es : List Entry) → IsSound held b es → IsSound more b es
 relocked held more f b es s = record {
   acted = s.acted;
-  locked = each_map _ _ (λ (e : Entry) h. f e.txn (object_of e.op) (mode_of e.op) h) es s.locked;
+  locked = each_map _ _ (λ (e : Entry) h. holds_each_more held more e.txn (f e.txn) (locks_of e.op) h) es s.locked;
   done = s.done;
   room = s.room;
 }
@@ -141,9 +141,9 @@ relocked held more f b es s = record {
 pub kept_called : (b : Base) (s : State) (t : ℕ) (op : Op) → IsKept b s → MayCall b s t op → IsKept b (called s t op)
 kept_called b s t op k may = record {
   legal = k.legal;
-  sound = relocked s.held (called s t op).held (still_held s.held t (object_of op) (mode_of op)) (committed_base b s) s.standing k.sound;
+  sound = relocked s.held (called s t op).held (all_still_held s.held t (locks_of op)) (committed_base b s) s.standing k.sound;
   base = k.base;
-  locks = more_locks s.held t (object_of op) (mode_of op) k.locks may.free;
+  locks = all_more_locks s.held t (locks_of op) k.locks may.free;
   room = room_called (committed_base b s) s.pending t op k.room may.admitted;
   tied = λ u. called_tied s t op may.idle k.tied u (u == t) (flip u) refl;
   locked = λ u p is. called_locked s t op k.locked u p (u == t) refl is;
@@ -245,9 +245,9 @@ left_tied s t idle tied u false e =
     let y : pending_of u (adds (kept (others t) s.standing)) ≡ pending_of u (adds s.standing) = adds-kept (others t) u s.standing ∙ ap (λ w. cond (not w) (pending_of u (adds s.standing)) []) e in
     x ∙ (tied u ∙ ap (λ w. w ++ add_of u (s.running u)) (sym y))
 
-left_locked : (s : State) (t : ℕ) → s.running t ≡ None → ((u : ℕ) (p : Op) → s.running u ≡ Some p → s.held u (object_of p) (mode_of p) ≡ true)
-    → (u : ℕ) (p : Op) → s.running u ≡ Some p → without_holder s.held t u (object_of p) (mode_of p) ≡ true
-left_locked s t idle h u p is = held_after s.held t u (object_of p) (mode_of p) (not_eq u t (apart_from s.running t u p idle is) (u == t) refl) (h u p is)
+left_locked : (s : State) (t : ℕ) → s.running t ≡ None → ((u : ℕ) (p : Op) → s.running u ≡ Some p → HoldsEach s.held u (locks_of p))
+    → (u : ℕ) (p : Op) → s.running u ≡ Some p → HoldsEach (without_holder s.held t) u (locks_of p)
+left_locked s t idle h u p is = each_held_after s.held t u (locks_of p) (not_eq u t (apart_from s.running t u p idle is) (u == t) refl) (h u p is)
 
 left_sound : (s : State) (t : ℕ) (b : Base) → IsSound s.held b (kept (others t) s.standing) → Each (IsLocked s.held) s.standing → IsSound (without_holder s.held t) b (kept (others t) s.standing)
 left_sound s t b h l = record { acted = h.acted; locked = still_locked s.held t s.standing l; done = h.done; room = h.room }

@@ -14,7 +14,7 @@ use Rattle.mt_model.specs.Escrow.{total, lowest, highest, HasRoom}
 use Rattle.mt_model.proofs.Cells.{Cell, next}
 use Rattle.mt_model.proofs.Steps.{moved-moved, added_back}
 use Rattle.mt_model.proofs.Sums.{below_is, above_is, lowest_below, highest_above, total_between}
-use Rattle.mt_model.proofs.Commuting.{with_add, with_write}
+use Rattle.mt_model.proofs.Commuting.{no_intent, with_add, with_write}
 use Rattle.mt_model.proofs.Undo.{takes_back}
 use Rattle.mt_live.specs.Entries.{Entry, kept, struck}
 use Rattle.mt_live.specs.Sound.{Each, IsDone}
@@ -175,6 +175,7 @@ undoes c e es i ag d room a others h = go (mode_of e.op) refl
   where
     go : (m : LockMode) → mode_of e.op ≡ m → AreCellActed c es × (cell_runs c es ≡ next i (cell_runs c (e ∷ es)))
     go mode.Read is = absurd (no_inverse_of_read e.op e.reply i is h)
+    go mode.Intend is = absurd (no_intent e.op is)
     go mode.Write is =
         let none : es ≡ [] = all_gone es (each_map _ _ (λ f g. with_write (mode_of f.op) g) es (beside e mode.Write es is ag others)) in
         let k = takes_back e.op i c (room_bounds c.count (steps (e ∷ es)) room) (rw (← a.0) at h) in

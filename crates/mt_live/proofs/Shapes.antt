@@ -5,8 +5,9 @@ use Rattle.std.proofs.lemmas.Bool.Decides.{Decides-eqb}
 use Rattle.mt_base.specs.Modes.{granted_together}
 use Rattle.mt_base.specs.declared.modes.LockMode.{LockMode}
 use Rattle.mt_base.specs.declared.modes.LockMode.TheVariants as mode
+use Rattle.mt_model.specs.declared.operations.Op.{Op}
 use Rattle.mt_model.specs.Model.{mode_of}
-use Rattle.mt_model.proofs.Commuting.{with_read, with_add, with_write}
+use Rattle.mt_model.proofs.Commuting.{no_intent, with_read, with_add, with_write}
 use Rattle.mt_live.specs.Entries.{Entry}
 use Rattle.mt_live.specs.Sound.{Each}
 
@@ -51,16 +52,19 @@ after_reads : (e : Entry) (es : List Entry) → Each (Agree e) es → Each (λ f
 after_reads e es a h mode.Read is = Reads (is, h)
 after_reads e es a h mode.Write is = Owned e.txn (refl, all_mine e es a (each_map _ _ (λ f r. rw (is, r)) es h))
 after_reads e es a h mode.Add is = Owned e.txn (refl, all_mine e es a (each_map _ _ (λ f r. rw (is, r)) es h))
+after_reads e es a h mode.Intend is = absurd (no_intent e.op is)
 
 after_adds : (e : Entry) (es : List Entry) → Each (Agree e) es → Each (λ f. mode_of f.op ≡ mode.Add) es → (m : LockMode) → mode_of e.op ≡ m → Shape (e ∷ es)
 after_adds e es a h mode.Add is = Adds (is, h)
 after_adds e es a h mode.Write is = Owned e.txn (refl, all_mine e es a (each_map _ _ (λ f r. rw (is, r)) es h))
 after_adds e es a h mode.Read is = Owned e.txn (refl, all_mine e es a (each_map _ _ (λ f r. rw (is, r)) es h))
+after_adds e es a h mode.Intend is = absurd (no_intent e.op is)
 
 beside_others : (e : Entry) (es : List Entry) → Each (λ f. granted_together (mode_of e.op) (mode_of f.op) ≡ true) es → (m : LockMode) → mode_of e.op ≡ m → Shape (e ∷ es)
 beside_others e es h mode.Read is = Reads (is, each_map _ _ (λ f g. with_read (mode_of f.op) (rw is at g)) es h)
 beside_others e es h mode.Add is = Adds (is, each_map _ _ (λ f g. with_add (mode_of f.op) (rw is at g)) es h)
 beside_others e es h mode.Write is = Owned e.txn (refl, each_map _ _ (λ f g. absurd (with_write (mode_of f.op) (rw is at g))) es h)
+beside_others e es h mode.Intend is = absurd (no_intent e.op is)
 
 after_owned : (e : Entry) (es : List Entry) (u : ℕ) → Each (Agree e) es → Each (λ f. f.txn ≡ u) es → (b : Bool) → (e.txn == u) ≡ b → Shape (e ∷ es)
 after_owned e es u a h true t = Owned u ((Decides-eqb e.txn u).0 t, h)

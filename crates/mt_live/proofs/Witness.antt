@@ -5,16 +5,17 @@ use Rattle.std.proofs.lemmas.Bool.Decides.{Decides-eqb}
 use Rattle.mt_base.specs.declared.modes.LockMode.{LockMode}
 use Rattle.mt_base.specs.declared.modes.LockMode.TheVariants as mode
 use Rattle.mt_model.specs.declared.objects.Object.{Object}
-use Rattle.mt_model.specs.declared.objects.Object.TheVariants.{Key, Counter}
+use Rattle.mt_model.specs.declared.objects.Object.TheVariants.{Key, Counter, Relation}
 use Rattle.mt_model.specs.declared.operations.Op.TheVariants.{Add}
 use Rattle.mt_model.specs.declared.operations.Reply.TheVariants.{Done}
 use Rattle.mt_model.specs.declared.pending_add.Pending.{Pending}
 use Rattle.mt_model.specs.Escrow.{HasRoom}
-use Rattle.mt_model.specs.Locks.{Held, no_locks, with_lock, IsFree}
+use Rattle.mt_model.specs.Locks.{Held, no_locks, with_lock, with_locks, AreAllFree}
+use Rattle.mt_model.specs.Model.{locks_of}
 use Rattle.mt_model.proofs.Sums.{admissible_from_room}
 use Rattle.mt_live.specs.Machine.{AllGo, Begins, Calls, Ends, Drops, Commits, Undoes, Aborts, start}
 use Rattle.mt_live.specs.Witness.{five, opening, insert, first_add, states, RunTakesPlace}
-use Rattle.mt_live.proofs.Locking.{is_this, holder_of}
+use Rattle.mt_live.proofs.Locking.{IsThis, old_or_this, whose_locks, free_each}
 
 -- ---- room
 
@@ -29,22 +30,34 @@ two_steps = record { low = omega (arith, ints); high = omega (arith, ints) }
 abbrev row : Object
 row = Key 0 (1 ∷ [])
 
+abbrev intended : Held
+intended = with_lock no_locks 1 (Relation 0) mode.Intend
+
+-- the insert's locks
 abbrev row_locked : Held
-row_locked = with_lock no_locks 1 row mode.Write
+row_locked = with_locks no_locks 1 (locks_of insert)
 
 row_bars_nobody : (u : ℕ) (n : LockMode) → row_locked u (Counter 0) n ≡ true → ⊥
-row_bars_nobody u n h =
-    let same : row ≡ Counter 0 = (is_this 1 row mode.Write u (Counter 0) n h).object in
-    cc
+row_bars_nobody u n h = go (old_or_this intended 1 row mode.Write u (Counter 0) n h)
+  where
+    intent : (no_locks u (Counter 0) n ≡ true) ⊎ IsThis 1 (Relation 0) mode.Intend u (Counter 0) n → ⊥
+    intent (inl wrong) = let never : false ≡ true = wrong in cc
+    intent (inr this) = let same : Relation 0 ≡ Counter 0 = this.object in cc
 
-free_at_first : IsFree no_locks 1 row mode.Write
-free_at_first u bars = let wrong : false ≡ true = bars.holds in cc
+    go : (intended u (Counter 0) n ≡ true) ⊎ IsThis 1 row mode.Write u (Counter 0) n → ⊥
+    go (inl i) = intent (old_or_this no_locks 1 (Relation 0) mode.Intend u (Counter 0) n i)
+    go (inr this) = let same : row ≡ Counter 0 = this.object in cc
 
-free_beside_the_row : IsFree row_locked 2 (Counter 0) mode.Add
-free_beside_the_row u bars = row_bars_nobody u bars.mode bars.holds
+free_at_first : AreAllFree no_locks 1 (locks_of insert)
+free_at_first = free_each no_locks 1 (locks_of insert) (λ x m u bars. let wrong : false ≡ true = bars.holds in cc)
 
-free_beside_its_own : IsFree (with_lock row_locked 2 (Counter 0) mode.Add) 2 (Counter 0) mode.Add
-free_beside_its_own u bars = go (holder_of row_locked 2 (Counter 0) mode.Add u (Counter 0) bars.mode bars.holds)
+free_beside_the_row : AreAllFree row_locked 2 (locks_of (Add 0 (pos 2)))
+free_beside_the_row u (inl bars) = row_bars_nobody u bars.mode bars.holds
+free_beside_the_row u (inr none) = none
+
+free_beside_its_own : AreAllFree (with_locks row_locked 2 (locks_of (Add 0 (pos 2)))) 2 (locks_of (Add 0 (pos 1)))
+free_beside_its_own u (inr none) = none
+free_beside_its_own u (inl bars) = go (whose_locks row_locked 2 (locks_of (Add 0 (pos 2))) u (Counter 0) bars.mode bars.holds)
   where
     go : (row_locked u (Counter 0) bars.mode ≡ true) ⊎ (u ≡ 2) → ⊥
     go (inl h) = row_bars_nobody u bars.mode h

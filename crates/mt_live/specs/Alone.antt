@@ -1,10 +1,9 @@
 -- A transaction that lives alone.
-use Rattle.std.specs.Prelude.{ℕ, ◌≡◌, ◌≢◌, List, [], ◌∷◌, ◌++◌, Option, Some, None}
-use Rattle.mt_base.specs.declared.modes.LockMode.{LockMode}
-use Rattle.mt_model.specs.declared.objects.Object.{Object}
+use Rattle.std.specs.Prelude.{ℕ, ◌≡◌, ◌≢◌, List, [], ◌∷◌, ◌++◌, Some, None}
+use Rattle.mt_model.specs.declared.objects.Lock.{Lock}
 use Rattle.mt_model.specs.declared.operations.Op.{Op}
 use Rattle.mt_model.specs.History.{Call, run}
-use Rattle.mt_model.specs.Locks.{IsFree}
+use Rattle.mt_model.specs.Locks.{AreAllFree}
 use Rattle.mt_model.specs.Model.{Base, reply_of}
 use Rattle.mt_live.specs.Entries.{calls, kept}
 use Rattle.mt_live.specs.Machine.{State, committed_base, IsKept, begun, called, ended, booked, gone}
@@ -31,11 +30,11 @@ AloneHolds =
     (b : Base) (s : State) (t session : ℕ) (cs : List Call) → IsKept b s → IsAlone s t session cs
     → s.base ≡ run (committed_base b s) cs
 
--- nobody is in its way
+-- nobody is in its way, whichever locks it asks for
 abbrev pub AloneIsFree : Type 0
 AloneIsFree =
     (b : Base) (s : State) (t session : ℕ) (cs : List Call) → IsKept b s → IsAlone s t session cs
-    → (x : Object) (m : LockMode) → IsFree s.held t x m
+    → (ls : List Lock) → AreAllFree s.held t ls
 
 -- an operation that it calls, and that ends, replies as the model does after its other calls, and is the last of them
 abbrev pub AloneActs : Type 0

@@ -6,10 +6,10 @@ use Rattle.mt_model.specs.declared.operations.Op.{Op}
 use Rattle.mt_model.specs.declared.operations.Op.TheVariants.{Add}
 use Rattle.mt_model.specs.declared.pending_add.Pending.{Pending}
 use Rattle.mt_model.specs.declared.history.Committed.{Committed}
-use Rattle.mt_model.specs.Model.{Base, object_of, mode_of, reply_of, base_after, inverse_of}
+use Rattle.mt_model.specs.Model.{Base, locks_of, reply_of, base_after, inverse_of}
 use Rattle.mt_model.specs.History.{after, IsLegal}
 use Rattle.mt_model.specs.Escrow.{IsAdmissible, HasRoom}
-use Rattle.mt_model.specs.Locks.{Held, no_locks, with_lock, without_holder, IsFree, AreTogether}
+use Rattle.mt_model.specs.Locks.{Held, no_locks, with_locks, without_holder, HoldsEach, AreAllFree, AreTogether}
 use Rattle.mt_model.specs.Pending.{steps_at, pending_of, pending_without}
 use Rattle.mt_live.specs.Entries.{Entry, calls, runs, kept}
 use Rattle.mt_live.specs.Adds.{add_before, adds, add_of, GivesBack}
@@ -50,7 +50,7 @@ pub record AreOwned (s : State) : Type 0 where
 
 -- the book is legal; what stands is sound on what it leaves, and leads to the base of the pages; locks
 -- go together; each counter has room for whichever pending adds; a transaction's pending adds are those
--- that stand and the one that runs; and what runs has its lock
+-- that stand and the one that runs; and what runs has its locks
 pub record IsKept (b : Base) (s : State) : Type 0 where
   pub legal : IsLegal b s.book
   pub sound : IsSound s.held (committed_base b s) s.standing
@@ -58,7 +58,7 @@ pub record IsKept (b : Base) (s : State) : Type 0 where
   pub locks : AreTogether s.held
   pub room : (c : ℕ) → HasRoom ((committed_base b s).counts c) (steps_at c s.pending)
   pub tied : (t : ℕ) → pending_of t s.pending ≡ pending_of t (adds s.standing) ++ add_of t (s.running t)
-  pub locked : (t : ℕ) (op : Op) → s.running t ≡ Some op → s.held t (object_of op) (mode_of op) ≡ true
+  pub locked : (t : ℕ) (op : Op) → s.running t ≡ Some op → HoldsEach s.held t (locks_of op)
   pub owned : AreOwned s
 
 -- ---- events
@@ -67,11 +67,11 @@ pub record IsKept (b : Base) (s : State) : Type 0 where
 abbrev pub begun : State → ℕ → State
 begun s session = record s { sessions = put s.sessions s.next (Some session); next = s.next + 1 }
 
--- a call is granted: its lock is held, and if it is an add, it is pending
+-- a call is granted: its locks are held, and if it is an add, it is pending
 abbrev pub called : State → ℕ → Op → State
 called s t op = record s {
   running = put s.running t (Some op);
-  held = with_lock s.held t (object_of op) (mode_of op);
+  held = with_locks s.held t (locks_of op);
   pending = s.pending ++ add_before t op [];
 }
 
@@ -81,11 +81,11 @@ IsAdmitted m ps t (Add c d) =
     IsAdmissible (m.counts c) (steps_at c (ps ++ record { txn = t; counter = c; step = d } ∷ []))
 IsAdmitted m ps t _ = ⊤
 
--- its transaction lives and runs nothing, no other holds a lock that bars it, and escrow admits it
+-- its transaction lives and runs nothing, no other holds a lock that bars one that it asks for, and escrow admits it
 pub record MayCall (b : Base) (s : State) (t : ℕ) (op : Op) : Type 0 where
   pub live : is_live s t ≡ true
   pub idle : s.running t ≡ None
-  pub free : IsFree s.held t (object_of op) (mode_of op)
+  pub free : AreAllFree s.held t (locks_of op)
   pub admitted : IsAdmitted (committed_base b s) s.pending t op
 
 -- what a transaction runs ends: it stands after all others, with the model's reply on the base

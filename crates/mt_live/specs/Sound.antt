@@ -1,10 +1,10 @@
 -- What locks and escrow keep of the entries that stand.
-use Rattle.std.specs.Prelude.{ℕ, ◌≡◌, true, List, [], ◌∷◌, ⊤}
+use Rattle.std.specs.Prelude.{ℕ, ◌≡◌, List, [], ◌∷◌, ⊤}
 use Rattle.mt_base.specs.declared.modes.LockMode.TheVariants as mode
 use Rattle.mt_model.specs.declared.operations.Reply.TheVariants.{Done}
-use Rattle.mt_model.specs.Model.{Base, object_of, mode_of}
+use Rattle.mt_model.specs.Model.{Base, mode_of, locks_of}
 use Rattle.mt_model.specs.Escrow.{HasRoom}
-use Rattle.mt_model.specs.Locks.{Held}
+use Rattle.mt_model.specs.Locks.{Held, HoldsEach}
 use Rattle.mt_model.specs.Pending.{steps_at}
 use Rattle.mt_live.specs.Entries.{Entry, AreActed}
 use Rattle.mt_live.specs.Adds.{adds}
@@ -14,9 +14,9 @@ abbrev pub Each : {A : Type 0} → (A → Type 0) → List A → Type 0
 Each P [] = ⊤
 Each P (x ∷ xs) = P x × Each P xs
 
--- the entry's transaction holds the entry's object in its mode
+-- the entry's transaction holds each lock that its operation asked for
 abbrev pub IsLocked : Held → Entry → Type 0
-IsLocked held e = held e.txn (object_of e.op) (mode_of e.op) ≡ true
+IsLocked held e = HoldsEach held e.txn (locks_of e.op)
 
 -- if the entry is an add, it was done
 abbrev pub IsDone : Entry → Type 0

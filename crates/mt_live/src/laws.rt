@@ -9,14 +9,13 @@ pub fn begin_keeps()
     ensures { BeginKeeps }
 {}
 
-/// A call that is granted keeps what is kept. It is granted if no other transaction's lock bars its own. Each
-/// counter has room then for whichever of the pending adds and this one (Weikum 1991, O'Neil 1986).
+/// A call that is granted keeps what is kept. It is granted if no other transaction's lock bars one that it
+/// asks for. Each counter has room then for whichever of the pending adds and this one (Weikum 1991, O'Neil 1986).
 pub fn call_keeps()
     ensures { CallKeeps }
 {}
 
-/// An operation that ends as one act on the held base, under its lock and admitted by escrow, keeps
-/// what is kept.
+/// An operation that ends as one act on the held base, under its locks and admitted by escrow, keeps what is kept.
 pub fn end_keeps()
     ensures { EndKeeps }
 {}

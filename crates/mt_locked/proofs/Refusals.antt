@@ -144,7 +144,7 @@ module _ {D : Type 0} (w : Refusal) (o n : Option (KernelSeen D)) where
           where
             go : (c : Option Refusal) → call_cause k.relations k.counters (has_failed_in k) k.core t op ≡ c → IsCallRefusal op w
             go None none = answer_refuses g k.relations k.counters k.core t op w (a.answer none)
-            go (Some x) some = subst (IsCallRefusal op) (let is = a.early x some in let same : x ≡ w = cc in same) (cause_refuses k.relations k.counters (has_failed_in k) k.core t op x some)
+            go (Some x) some = subst (IsCallRefusal op) (let is = (a.early x some).0 in let same : x ≡ w = cc in same) (cause_refuses k.relations k.counters (has_failed_in k) k.core t op x some)
 
     pub step_refused : (t : ℕ) → IsAskedOf {T = Stepped} o (Err w) n (λ k m. AnswersStep g k t (Err w) m) → IsStepRefusal w
     step_refused t = let P : Refusal → Type 0 = IsStepRefusal in
@@ -192,4 +192,4 @@ call_sized g (Some k) n t op x asked = go (call_cause k.relations k.counters (ha
   where
     go : (c : Option Refusal) → call_cause k.relations k.counters (has_failed_in k) k.core t op ≡ c → size_cause op ≡ None
     go None none = none_sized k.relations k.counters (has_failed_in k) k.core t op none
-    go (Some w) some = absurd (ok_is x w (asked.2.early w some))
+    go (Some w) some = absurd (ok_is x w (asked.2.early w some).0)

@@ -23,6 +23,7 @@ use Rattle.mt_replay.specs.Stands.{CanRestart}
 use Rattle.mt_restart.specs.Standings.{IsFoundAfter, device_at}
 use Rattle.mt_restart.specs.declared.standing.Standing.{Standing}
 use Rattle.mt_restart.specs.declared.standing.Standing.TheVariants.{Stands, Ended}
+use Rattle.mt_txn.specs.Causes.{IsRefusedAtOnce}
 use Rattle.mt_txn.specs.Events.{HasForced}
 use Rattle.mt_txn.specs.Restarted.{all_commits, FindsCommits}
 use Rattle.mt_txn.specs.Seen.{KernelSeen, seen_of}
@@ -98,6 +99,10 @@ module _ {D : Type 0} {g : Ghosts D} where
   asked s k n list old r Did is there did =
       let was : Some (seen_of k) ≡ old.kernel = ap (λ (x : Standing D g). kernel_in x) (sym is) ∙ ap (λ (l : LockedSeen D). l.kernel) there in
       subst (λ (o : Option (KernelSeen D)). IsAskedOf o r (Some (seen_of n)) Did) was (seen_of n, refl, did)
+
+  -- a kernel that refuses a call at once is seen to do so
+  pub at_once : {T : Type 0} → (cause : Option Refusal) (k n : Kernel D g) (r : Result T Refusal) → IsRefusedAtOnce cause k r n → IsRefusedAtOnce cause (seen_of k) r (seen_of n)
+  at_once cause k n r early why is = ((early why is).0, ap (λ (x : Kernel D g). seen_of x) (early why is).1)
 
   -- none stood
   pub unasked : {T : Type 0} → (s : Standing D g) (device : D) (list : List Entry) (old : LockedSeen D) (r : Result T Refusal) (Did : KernelSeen D → KernelSeen D → Type 0)

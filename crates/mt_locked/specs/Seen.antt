@@ -44,7 +44,7 @@ abbrev pub under_way_in : {D : Type 0} → Option (KernelSeen D) → List Commit
 under_way_in None = []
 under_way_in (Some k) = commits_in k
 
--- The commit at this place is not in the book yet. It is the next to be entered, or the device has failed.
+-- The commit at this position is not in the book yet. It is the next to be entered, or the device has failed.
 abbrev pub IsToForce : {D : Type 0} → LockedSeen D → ℕ → Type 0
 IsToForce locked place =
     (length locked.book < place) × ((length locked.list + 1 ≡ place) ⊎ (is_failed_in locked.kernel ≡ true))
@@ -65,7 +65,7 @@ pub record Entered {D : Type 0} (b : Base) (locked : LockedSeen D) (place : ℕ)
   pub extends : Extends b old entry place new
   pub durable : dones new.seen ≡ take place locked.book
 
--- the mark is not one below the place, or the book has no such entry there
+-- the mark is not one below the position, or the book has no such entry there
 abbrev pub CannotEnter : {D : Type 0} → LockedSeen D → ℕ → Entry → Type 0
 CannotEnter locked place entry =
     (length locked.list + 1 ≢ place) ⊎ (slice_get locked.book (length locked.list) ≢ Some entry.done)

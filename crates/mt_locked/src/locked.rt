@@ -32,7 +32,7 @@ use mt_txn::{AbortStepped, Called, Flushed, Kernel, KernelForced, LogUse, Steppe
 use std::alloc::Global;
 use std::marker::{Model, PhantomData};
 
-/// What who tends is to do.
+/// What who rotates is to do.
 #[derive(Clone, Copy, PartialEq, Eq, Debug)]
 pub enum Due {
     /// To turn the log over.
@@ -50,7 +50,7 @@ pub struct Locked<D: Device, J: Naming> {
     pub(crate) end: End,
     // how many hold new transactions back
     pub(crate) holding: u32,
-    // what who tends is to do
+    // what who rotates is to do
     pub(crate) due: Due,
     pub(crate) of: PhantomData<J>,
 }
@@ -97,11 +97,11 @@ impl<D: Device, J: Naming> Locked<D, J> {
         }
     }
 
-    /// Enters a durable transaction of this pass into the history, at this place, from 1. Then the pass has seen the
+    /// Enters a durable transaction of this pass into the history, at this position, from 1. Then the pass has seen the
     /// book's first entries up to it.
     ///
-    /// The token comes back, and nothing has changed, only in two cases. The mark does not stand one below the place,
-    /// or the book has no such entry there. That is one with the token's session, calls and replies.
+    /// The token comes back, and nothing has changed, only in two cases. The mark does not stand one below the
+    /// position, or the book has no such entry there. That is one with the token's session, calls and replies.
     pub fn enter(&mut self, place: u64, pass: &mut Pass<J>, txn: Txn<J>) -> Result<(), Txn<J>>
         requires own { txn.pass ≡ pass.old.number }
         ensures entered { OnOk result (Entered J.base self.old place pass.old txn pass.new) }
@@ -123,7 +123,7 @@ impl<D: Device, J: Naming> Locked<D, J> {
         Ok(())
     }
 
-    // Whether the book has this transaction at the mark's place, from 0.
+    // Whether the book has this transaction at the mark's position, from 0.
     fn has(&self, at: u64, entry: &Entry) -> bool
         requires at { at ≡ length self.now.list }
         ensures is { IsTrue result ↔ (slice_get self.now.book at ≡ Some entry.now.done) }
@@ -156,7 +156,7 @@ impl<D: Device, J: Naming> Locked<D, J> {
         }
     }
 
-    /// Whether the book has nothing after this place.
+    /// Whether the book has nothing after this position.
     pub fn is_last(&mut self, place: u64) -> bool
         ensures same { self.new ≡ self.old }
         ensures is { IsTrue result ↔ (length self.old.book ≤ place) }
@@ -174,8 +174,8 @@ impl<D: Device, J: Naming> Locked<D, J> {
         }
     }
 
-    /// Whether who commits at this place makes force steps: it is the next to be entered, and not in the book yet. If
-    /// the device has failed, that is how it is reported.
+    /// Whether who commits at this position makes force steps: it is the next to be entered, and not in the book yet.
+    /// If the device has failed, that is how it is reported.
     pub fn is_to_force(&mut self, place: u64) -> bool
         ensures same { self.new ≡ self.old }
         ensures is { IsTrue result ↔ IsToForce self.old place }
@@ -183,7 +183,7 @@ impl<D: Device, J: Naming> Locked<D, J> {
         place > self.len() && (self.is_next(place) || self.has_failed())
     }
 
-    // Whether the commit at this place is the next to be entered.
+    // Whether the commit at this position is the next to be entered.
     fn is_next(&mut self, place: u64) -> bool
         ensures same { self.new ≡ self.old }
         ensures is { IsTrue result ↔ (length self.old.list + 1 ≡ place) }
@@ -229,7 +229,7 @@ impl<D: Device, J: Naming> Locked<D, J> {
         kernel.step(txn)
     }
 
-    /// Appends a commit, and answers its place, as [`Kernel::commit_begin`]; the book and the history stay.
+    /// Appends a commit, and answers its position, as [`Kernel::commit_begin`]; the book and the history stay.
     pub fn commit_begin(&mut self, txn: TxnNo) -> Result<u64, Refusal>
         ensures kernel { IsAsked self.old result self.new (λ k n. AnswersCommit k txn result n) }
         ensures book { self.new.book ≡ self.old.book }
@@ -326,7 +326,7 @@ impl<D: Device, J: Naming> Locked<D, J> {
         }
     }
 
-    // The kernel of what is whole, which each pass meets. Or all as it was, if a transaction lives in a kernel
+    // The kernel of what is whole, which each pass meets. Or all as it was, if a transaction is active in a kernel
     // that has not failed.
     fn into_met(self, passes: Vec<Pass<J>>) -> Result<Kernel<D>, Unclosed<D, J>>
         requires whole { IsWhole self }
@@ -426,7 +426,7 @@ impl<D: Device, J: Naming> Locked<D, J> {
         self.holding = self.holding.saturating_sub(1);
     }
 
-    /// What who tends is to do. If the device has failed, that is to ask for a turn of the log, and to be refused.
+    /// What who rotates is to do. If the device has failed, that is to ask for a turn of the log, and to be refused.
     pub fn due(&self) -> Due {
         match self.due {
             Due::Nothing if self.has_failed() => Due::Turn,
@@ -455,8 +455,8 @@ impl<D: Device, J: Naming> Locked<D, J> {
         }
     }
 
-    /// Who tends is to come to an end, from now on.
-    pub fn end_tending(&mut self)
+    /// Who rotates is to come to an end, from now on.
+    pub fn end_rotating(&mut self)
         ensures { self.new ≡ self.old }
     {
         self.due = Due::End;
@@ -465,7 +465,7 @@ impl<D: Device, J: Naming> Locked<D, J> {
 
 impl<D: Device + Drop, J: Naming> Locked<D, J> {
     /// Turns the log over if each transaction of the book is entered and no transaction is active; whether it did.
-    /// Unless it was too early for that, who tends is not to turn it over before a further transaction has ended.
+    /// Unless it was too early for that, who rotates is not to turn it over before a further transaction has ended.
     pub fn rotate(&mut self, alloc: Global, frames: usize) -> Result<bool, Refusal>
         ensures why { IfErr result IsTurnFault }
         ensures did { result ≡ Ok true → HasTurned ⟦<D as Device>⟧ frames J.base }
@@ -504,7 +504,7 @@ fn has_ended<D: Device>(kernel: &Kernel<D>) -> bool
     kernel.has_failed() || kernel.has_nobody()
 }
 
-// Whether a book has this transaction at this place, from 0.
+// Whether a book has this transaction at this position, from 0.
 fn has_at(book: &[Committed], at: u64, entry: &Entry) -> bool
     ensures { IsTrue result ↔ (slice_get book.now at ≡ Some entry.now.done) }
 {

@@ -11,7 +11,7 @@ use mt_restart::{Standing, rotate};
 use mt_txn::Kernel;
 use std::alloc::Global;
 
-// What a refusal with the kernel comes to. But for these, a transaction lives.
+// What a refusal with the kernel comes to. But for these, a transaction is active.
 fn answer_to(why: Refusal) -> Result<bool, Refusal>
     ensures why { IfErr result IsTurnFault }
     ensures not { IfOk result (λ did. did ≡ false) }

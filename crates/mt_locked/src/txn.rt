@@ -29,7 +29,7 @@ impl<J: Naming> Model for Txn<J> {
     ghost view = { λ t. record { pass = t.pass; done = record { session = t.session; calls = t.calls.items } } };
 }
 
-/// Why a token was not spent, with the token if its transaction lives on.
+/// Why a token was not spent, with the token if its transaction is still active.
 pub struct Refused<J: Naming> {
     pub why: Refusal,
     pub txn: Option<Txn<J>>,

@@ -7,9 +7,9 @@ use Rattle.mt_model.specs.declared.operations.Op.{Op}
 use Rattle.mt_model.specs.declared.operations.Op.TheVariants.{Get, Insert, Update, Delete, Add, Read}
 use Rattle.mt_model.specs.declared.operations.Reply.{Reply}
 use Rattle.mt_model.specs.declared.operations.Reply.TheVariants.{Done, Value, OutOfBounds}
-use Rattle.mt_model.specs.Model.{Base, Object, Key, Counter, object_of, same_object, inserted, updated, deleted, stays, added, found, done_unless, was, reply_of, base_after}
+use Rattle.mt_model.specs.Model.{Base, Object, Key, Counter, Relation, object_of, same_object, inserted, updated, deleted, stays, added, found, done_unless, was, reply_of, base_after}
 
--- what a base has at one object: a row or none, or a counter
+-- what a base has at one object: a row or none, or a counter; at a relation as a whole, neither
 pub record Cell : Type 0 where
   pub row : Option (List ℕ)
   pub count : Count
@@ -27,6 +27,7 @@ count_cell n = record { row = None; count = n }
 abbrev pub cell : Base → Object → Cell
 cell b (Key r k) = row_cell (b.rows r k)
 cell b (Counter c) = count_cell (b.counts c)
+cell b (Relation r) = row_cell None
 
 -- the cell after an operation on its object
 abbrev pub next : Op → Cell → Cell
@@ -69,11 +70,15 @@ pub cell-next : (b : Base) (op : Op) (x : Object)
 cell-next b (Get r k) x = cond_both (same_object (Key r k) x) (cell b x)
 cell-next b (Insert r k v) (Key s l) = cond_out row_cell ((r == s) && bytes_eq k l) (inserted v (b.rows s l)) (b.rows s l)
 cell-next b (Insert r k v) (Counter d) = refl
+cell-next b (Insert r k v) (Relation s) = refl
 cell-next b (Update r k v) (Key s l) = cond_out row_cell ((r == s) && bytes_eq k l) (updated v (b.rows s l)) (b.rows s l)
 cell-next b (Update r k v) (Counter d) = refl
+cell-next b (Update r k v) (Relation s) = refl
 cell-next b (Delete r k) (Key s l) = cond_out row_cell ((r == s) && bytes_eq k l) (deleted (b.rows s l)) (b.rows s l)
 cell-next b (Delete r k) (Counter d) = refl
+cell-next b (Delete r k) (Relation s) = refl
 cell-next b (Add c d) (Key s l) = refl
+cell-next b (Add c d) (Relation s) = refl
 cell-next b (Add c d) (Counter e) = cond_out count_cell (c == e) (added d (b.counts e)) (b.counts e)
 cell-next b (Read c) x = cond_both (same_object (Counter c) x) (cell b x)
 
@@ -101,9 +106,15 @@ same-true (Key r k) (Key s l) h =
     let keys : k ≡ l = (bytes_decides k l).0 p.1 in
     cc
 same-true (Key r k) (Counter d) h = absurd cc
+same-true (Key r k) (Relation s) h = absurd cc
 same-true (Counter c) (Key s l) h = absurd cc
 same-true (Counter c) (Counter d) h = let counters : c ≡ d = (Decides-eqb c d).0 h in cc
+same-true (Counter c) (Relation s) h = absurd cc
+same-true (Relation r) (Key s l) h = absurd cc
+same-true (Relation r) (Counter d) h = absurd cc
+same-true (Relation r) (Relation s) h = let relations : r ≡ s = (Decides-eqb r s).0 h in cc
 
 pub same-self : (x : Object) → same_object x x ≡ true
 same-self (Key r k) = both_true (r == r) (bytes_eq k k) ((Decides-eqb r r).1 refl) ((bytes_decides k k).1 refl)
 same-self (Counter c) = (Decides-eqb c c).1 refl
+same-self (Relation r) = (Decides-eqb r r).1 refl

@@ -28,16 +28,28 @@ pub with_read : (m : LockMode) → granted_together mode.Read m ≡ true → m �
 with_read mode.Read h = refl
 with_read mode.Write h = absurd cc
 with_read mode.Add h = absurd cc
+with_read mode.Intend h = absurd cc
 
 pub with_add : (m : LockMode) → granted_together mode.Add m ≡ true → m ≡ mode.Add
 with_add mode.Add h = refl
 with_add mode.Write h = absurd cc
 with_add mode.Read h = absurd cc
+with_add mode.Intend h = absurd cc
 
 pub with_write : (m : LockMode) → granted_together mode.Write m ≡ true → ⊥
 with_write mode.Add h = absurd cc
 with_write mode.Write h = absurd cc
 with_write mode.Read h = absurd cc
+with_write mode.Intend h = absurd cc
+
+-- no operation is on its object with intent
+pub no_intent : (op : Op) → mode_of op ≡ mode.Intend → ⊥
+no_intent (Get r k) is = absurd cc
+no_intent (Read n) is = absurd cc
+no_intent (Add n d) is = absurd cc
+no_intent (Insert r k v) is = absurd cc
+no_intent (Update r k v) is = absurd cc
+no_intent (Delete r k) is = absurd cc
 
 -- a read leaves the cell
 pub read_leaves : (op : Op) (c : Cell) → mode_of op ≡ mode.Read → next op c ≡ c
@@ -95,6 +107,7 @@ cell_commute c f g granted there back = by_mode (mode_of f) refl
     by_mode mode.Read is = two_reads c f g is (with_read (mode_of g) (rw is at granted))
     by_mode mode.Add is = both_adds c f g is (with_add (mode_of g) (rw is at granted)) there back
     by_mode mode.Write is = absurd (with_write (mode_of g) (rw is at granted))
+    by_mode mode.Intend is = absurd (no_intent f is)
 
 -- ---- over bases
 

@@ -2,11 +2,12 @@
 use Rattle.std.proofs.Common.{◌≡◌, ℕ, ℤ, pos, ◌≤ℤ◌, neg_ℤ, Bool, true, false, cond, List, Option, Some, None, refl, ap, ◌∙◌, subst, arith}
 use Rattle.std.proofs.lemmas.Int.{ints}
 use Rattle.mt_model.specs.declared.counters.Count.{Count}
+use Rattle.mt_model.specs.declared.objects.Asks.{Asks}
 use Rattle.mt_model.specs.declared.operations.Op.{Op}
 use Rattle.mt_model.specs.declared.operations.Op.TheVariants.{Get, Insert, Update, Delete, Add, Read}
 use Rattle.mt_model.specs.declared.operations.Reply.{Reply}
 use Rattle.mt_model.specs.declared.operations.Reply.TheVariants.{Done, Was, OutOfBounds}
-use Rattle.mt_model.specs.Model.{Base, IsBase, IsInBounds, Object, Key, Counter, object_of, same_object, mode_of, moved, stays, inserted, updated, deleted, done_unless, was, reply_of, base_after, inverse_of}
+use Rattle.mt_model.specs.Model.{Base, IsBase, IsInBounds, Object, Key, Counter, Relation, asks_of, object_of, same_object, moved, stays, inserted, updated, deleted, done_unless, was, reply_of, base_after, inverse_of}
 use Rattle.mt_model.proofs.Cells.{Cell, cell, next, says, reply-cell, cell-next, same-true, same_base}
 use Rattle.mt_model.proofs.Steps.{added_back}
 
@@ -77,26 +78,22 @@ takes_back (Update r k v) i c within h = take_update r k v c.row i c.count h
 takes_back (Delete r k) i c within h = take_delete r k c.row i c.count h
 takes_back (Add n d) i c within h = take_add n d c.row i c.count (stays c.count d) within h
 
--- ---- an inverse's object and mode
+-- ---- what an inverse asks for
 
-pub record SamePlace (op i : Op) : Type 0 where
-  pub object : object_of i ≡ object_of op
-  pub mode : mode_of i ≡ mode_of op
+asked : (op i j : Op) → Some i ≡ Some j → asks_of i ≡ asks_of op → asks_of j ≡ asks_of op
+asked op i j e h = let same : i ≡ j = cc in subst (λ x. asks_of x ≡ asks_of op) same h
 
-placed : (op i j : Op) → Some i ≡ Some j → SamePlace op i → SamePlace op j
-placed op i j e h = let same : i ≡ j = cc in subst (λ x. SamePlace op x) same h
-
-pub inverse_place : (op i : Op) (reply : Reply) → inverse_of op reply ≡ Some i → SamePlace op i
-inverse_place (Insert r k v) i Done h = placed (Insert r k v) (Delete r k) i h (record { object = refl; mode = refl })
-inverse_place (Update r k v) i (Was old) h = placed (Update r k v) (Update r k old) i h (record { object = refl; mode = refl })
-inverse_place (Delete r k) i (Was old) h = placed (Delete r k) (Insert r k old) i h (record { object = refl; mode = refl })
-inverse_place (Add c d) i Done h = placed (Add c d) (Add c (neg_ℤ d)) i h (record { object = refl; mode = refl })
-inverse_place (Insert r k v) i _ h = absurd cc
-inverse_place (Update r k v) i _ h = absurd cc
-inverse_place (Delete r k) i _ h = absurd cc
-inverse_place (Add c d) i _ h = absurd cc
-inverse_place (Get r k) i _ h = absurd cc
-inverse_place (Read c) i _ h = absurd cc
+pub inverse_asks : (op i : Op) (reply : Reply) → inverse_of op reply ≡ Some i → asks_of i ≡ asks_of op
+inverse_asks (Insert r k v) i Done h = asked (Insert r k v) (Delete r k) i h refl
+inverse_asks (Update r k v) i (Was old) h = asked (Update r k v) (Update r k old) i h refl
+inverse_asks (Delete r k) i (Was old) h = asked (Delete r k) (Insert r k old) i h refl
+inverse_asks (Add c d) i Done h = asked (Add c d) (Add c (neg_ℤ d)) i h refl
+inverse_asks (Insert r k v) i _ h = absurd cc
+inverse_asks (Update r k v) i _ h = absurd cc
+inverse_asks (Delete r k) i _ h = absurd cc
+inverse_asks (Add c d) i _ h = absurd cc
+inverse_asks (Get r k) i _ h = absurd cc
+inverse_asks (Read c) i _ h = absurd cc
 
 -- ---- over bases
 
@@ -121,6 +118,7 @@ zero_within = omega (arith, ints)
 pub cell_within : (b : Base) (x : Object) → IsBase b → IsInBounds (cell b x).count
 cell_within b (Key r k) within = record { not_under = zero_within; not_over = zero_within }
 cell_within b (Counter c) within = within c
+cell_within b (Relation r) within = record { not_under = zero_within; not_over = zero_within }
 
 pub base_takes : (b : Base) (op i : Op) → IsBase b → inverse_of op (reply_of b op) ≡ Some i
     → TakesBack i (cell b (object_of op)) (next op (cell b (object_of op)))
@@ -128,11 +126,11 @@ base_takes b op i within h = takes_back op i (cell b (object_of op)) (cell_withi
 
 pub base_back : (b : Base) (op i : Op) → IsBase b → inverse_of op (reply_of b op) ≡ Some i → base_after (base_after b op) i ≡ b
 base_back b op i within h =
-    let place = inverse_place op i (reply_of b op) h in
+    let asks = inverse_asks op i (reply_of b op) h in
     let taken = base_takes b op i within h in
     same_base (base_after (base_after b op) i) b (λ x.
     cell-next (base_after b op) i x
-    ∙ (ap (λ y. cond (same_object y x) (next i (cell (base_after b op) x)) (cell (base_after b op) x)) place.object
+    ∙ (ap (λ y. cond (same_object y x) (next i (cell (base_after b op) x)) (cell (base_after b op) x)) (ap (λ (a : Asks). a.object) asks)
     ∙ (ap (λ c. cond (same_object (object_of op) x) (next i c) c) (cell-next b op x)
     ∙ twice (same_object (object_of op) x) op i (cell b x)
     (λ same. subst (λ y. next i (next op (cell b y)) ≡ cell b y) (same-true (object_of op) x same) taken.back))))

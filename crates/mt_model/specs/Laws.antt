@@ -6,7 +6,7 @@ use Rattle.mt_model.specs.declared.operations.Op.{Op}
 use Rattle.mt_model.specs.declared.operations.Reply.{Reply}
 use Rattle.mt_model.specs.declared.operations.Reply.TheVariants.{OutOfBounds}
 use Rattle.mt_model.specs.declared.history.Committed.{Committed}
-use Rattle.mt_model.specs.Model.{Base, IsBase, object_of, mode_of, reply_of, base_after, inverse_of}
+use Rattle.mt_model.specs.Model.{Base, IsBase, asks_of, object_of, mode_of, reply_of, base_after, inverse_of}
 use Rattle.mt_model.specs.Escrow.{IsAdmissible, HasRoom}
 use Rattle.mt_model.specs.History.{Call, alone, run, IsActed, ops_of, replies_of, after, IsLegal}
 
@@ -39,10 +39,9 @@ InversesTakeBack =
 abbrev pub NoInverseNoEffect : Type 0
 NoInverseNoEffect = (b : Base) (op : Op) → inverse_of op (reply_of b op) ≡ None → base_after b op ≡ b
 
--- an inverse is on the same object, and needs no other lock
-abbrev pub InversesStayOnObject : Type 0
-InversesStayOnObject =
-    (op i : Op) (reply : Reply) → inverse_of op reply ≡ Some i → (object_of i ≡ object_of op) × (mode_of i ≡ mode_of op)
+-- an inverse is on the same object, and asks for no other lock
+abbrev pub InversesAskTheSame : Type 0
+InversesAskTheSame = (op i : Op) (reply : Reply) → inverse_of op reply ≡ Some i → asks_of i ≡ asks_of op
 
 -- counters stay in their bounds
 abbrev pub BoundsAreKept : Type 0

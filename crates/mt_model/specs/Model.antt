@@ -1,11 +1,13 @@
 -- The model: what an operation replies, and what base it leaves.
-use Rattle.std.specs.Prelude.{ℕ, ℤ, ◌<◌, ◌+ℤ◌, ◌≤ℤ◌, ◌==◌, ◌&&◌, neg_ℤ, Bool, false, cond, List, Option, Some, None, bytes_eq, int_le}
+use Rattle.std.specs.Prelude.{ℕ, ℤ, ◌<◌, ◌+ℤ◌, ◌≤ℤ◌, ◌==◌, ◌&&◌, neg_ℤ, Bool, false, cond, List, [], ◌∷◌, ◌++◌, Option, Some, None, bytes_eq, int_le}
 use Rattle.mt_base.specs.Limits.{IsKey, IsValue, IsStep}
 use Rattle.mt_base.specs.declared.modes.LockMode.{LockMode}
 use Rattle.mt_base.specs.declared.modes.LockMode.TheVariants as mode
 use Rattle.mt_model.specs.declared.counters.Count.{Count}
+use Rattle.mt_model.specs.declared.objects.Asks.{Asks}
+use Rattle.mt_model.specs.declared.objects.Lock.{Lock}
 pub use Rattle.mt_model.specs.declared.objects.Object.{Object}
-pub use Rattle.mt_model.specs.declared.objects.Object.TheVariants.{Key, Counter}
+pub use Rattle.mt_model.specs.declared.objects.Object.TheVariants.{Key, Counter, Relation}
 use Rattle.mt_model.specs.declared.operations.Op.{Op}
 use Rattle.mt_model.specs.declared.operations.Op.TheVariants.{Get, Insert, Update, Delete, Add, Read}
 use Rattle.mt_model.specs.declared.operations.Reply.{Reply}
@@ -47,8 +49,13 @@ object_of (Read c) = Counter c
 abbrev pub same_object : Object → Object → Bool
 same_object (Key r k) (Key s l) = (r == s) && bytes_eq k l
 same_object (Key r k) (Counter d) = false
+same_object (Key r k) (Relation s) = false
 same_object (Counter c) (Key s l) = false
 same_object (Counter c) (Counter d) = c == d
+same_object (Counter c) (Relation s) = false
+same_object (Relation r) (Key s l) = false
+same_object (Relation r) (Counter d) = false
+same_object (Relation r) (Relation s) = r == s
 
 -- the mode in which an operation locks its object
 abbrev pub mode_of : Op → LockMode
@@ -58,6 +65,31 @@ mode_of (Update r k v) = mode.Write
 mode_of (Delete r k) = mode.Write
 mode_of (Add c d) = mode.Add
 mode_of (Read c) = mode.Read
+
+-- the relation in which it intends to write a row, if it does
+abbrev pub intent_of : Op → Option ℕ
+intent_of (Get r k) = None
+intent_of (Insert r k v) = Some r
+intent_of (Update r k v) = Some r
+intent_of (Delete r k) = Some r
+intent_of (Add c d) = None
+intent_of (Read c) = None
+
+-- what its transaction asks for, all at once
+abbrev pub asks_of : Op → Asks
+asks_of op = record { intent = intent_of op; object = object_of op; mode = mode_of op }
+
+abbrev pub intents : Option ℕ → List Lock
+intents None = []
+intents (Some r) = record { object = Relation r; mode = mode.Intend } ∷ []
+
+-- the locks of what is asked for: of the relation, if there is an intent, and then of the object
+abbrev pub locks_in : Asks → List Lock
+locks_in a = intents a.intent ++ record { object = a.object; mode = a.mode } ∷ []
+
+-- the locks of an operation
+abbrev pub locks_of : Op → List Lock
+locks_of op = locks_in (asks_of op)
 
 -- ---- what is under a key, after an operation on it
 

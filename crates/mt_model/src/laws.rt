@@ -1,5 +1,5 @@
 //! Laws of the model. Each is a function with an empty body, whose contract is the law.
-ghost use Rattle.mt_model.specs.Laws.{OperationsCommute, InversesTakeBack, NoInverseNoEffect, InversesStayOnObject, BoundsAreKept, TwoNumbersDecide, RepliesAppend, ActedIsAlone, RunIsAlone, LegalAppends, AfterAppends};
+ghost use Rattle.mt_model.specs.Laws.{OperationsCommute, InversesTakeBack, NoInverseNoEffect, InversesAskTheSame, BoundsAreKept, TwoNumbersDecide, RepliesAppend, ActedIsAlone, RunIsAlone, LegalAppends, AfterAppends};
 
 /// Operations on different objects, and operations whose modes are granted together, commute: both
 /// orders give the same replies and the same base. It holds wherever neither order leaves a
@@ -9,11 +9,11 @@ pub fn operations_commute()
 {}
 
 /// An operation that has an inverse is taken back by it, and one that has none did nothing. An
-/// inverse is on the same object, in the same mode.
+/// inverse is on the same object, and asks for the same locks.
 pub fn inverses_take_back()
     ensures back { InversesTakeBack }
     ensures nothing { NoInverseNoEffect }
-    ensures object { InversesStayOnObject }
+    ensures asks { InversesAskTheSame }
 {}
 
 /// Operations keep each counter in its bounds.

@@ -18,7 +18,7 @@ mod tables;
 
 pub use counters::Count;
 pub use history::{Calls, Committed};
-pub use objects::Object;
+pub use objects::{Asks, Lock, Object};
 pub use operations::{Op, Reply};
 pub use pending_add::Pending;
 pub use rows::Row;

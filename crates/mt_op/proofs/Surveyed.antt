@@ -3,6 +3,7 @@ use Rattle.std.proofs.Common.{◌≡◌, ◌<◌, ◌≤◌, ℕ, List, [], get_
 use Rattle.std.proofs.Props.{props}
 use Rattle.std.proofs.lemmas.Int.{ints}
 use mathlib.Core.Logic.{∥∥₁_elim, ∥∥₁_map}
+use Rattle.mt_base.specs.declared.limits.TheConstants.{MAX_VALUE_BYTES}
 use Rattle.mt_disk.specs.declared.device.Device.{Ghosts}
 use Rattle.mt_disk.proofs.Frame.{leaves_more, runs_both, started}
 use Rattle.mt_file.proofs.Filed.{record_kind, record_records}
@@ -117,7 +118,7 @@ module _ {D : Type 0} (g : Ghosts D) where
 -- ---- pages of records
 
 -- a page of records, of a schema
-pub records_page : (relations counters total : ℕ) (pages : PageBytes) (p : ℕ) → IsGood relations counters total pages → kind pages p ≡ 3 → IsPage relations 1024 (pages p)
+pub records_page : (relations counters total : ℕ) (pages : PageBytes) (p : ℕ) → IsGood relations counters total pages → kind pages p ≡ 3 → IsPage relations MAX_VALUE_BYTES (pages p)
 records_page relations counters total pages p good records = record {
   shaped = good.rows.file.each p records;
   within = λ i row there. good.rows.within p i row (record_records pages p i records ∙ there);
@@ -125,14 +126,14 @@ records_page relations counters total pages p good records = record {
 
 -- and it is one, whoever is under way
 pub records_page_of : {D : Type 0} (g : Ghosts D) (relations : ℕ) (o : Operations D) (p : ℕ) (bytes : List ℕ) → ((opening : PageBytes) (counters : ℕ) → IsRight g opening relations counters o → bytes ≡ held_in (world g opening o) p)
-    → get_or o.map.kinds.value p 0 ≡ 3 → IsIdle g relations o → IsPage relations 1024 bytes
+    → get_or o.map.kinds.value p 0 ≡ 3 → IsIdle g relations o → IsPage relations MAX_VALUE_BYTES bytes
 records_page_of g relations o p bytes is records idle = record {
   shaped = shaped_of bytes (∥∥₁_map idle (λ (opening, counters, right, free). (page_of opening counters right).shaped));
   within = λ i row there. ∥∥₁_elim idle (hlevel props) (λ (opening, counters, right, free). (page_of opening counters right).within i row there);
 }
   where
-    page_of : (opening : PageBytes) (counters : ℕ) → IsRight g opening relations counters o → IsPage relations 1024 bytes
-    page_of opening counters right = subst (IsPage relations 1024) (sym (is opening counters right))
+    page_of : (opening : PageBytes) (counters : ℕ) → IsRight g opening relations counters o → IsPage relations MAX_VALUE_BYTES bytes
+    page_of opening counters right = subst (IsPage relations MAX_VALUE_BYTES) (sym (is opening counters right))
         (records_page relations counters (pages o.store.pool) (held_in (world g opening o)) p right.sound.good (kind_of g opening relations counters o p p right refl ∙ records))
 
 -- ---- what was listed

@@ -29,7 +29,7 @@ all_finished list = map finished_of list
 abbrev pub AreOfGrammar : List Batch → Type 0
 AreOfGrammar batches = AllByRecursion (λ (batch : Batch). AllByRecursion IsRecord batch.records.items) batches
 
--- the record of the loser's end stands in the batch at its place
+-- the record of the loser's end stands in the batch at its offset
 pub record HasEnded (batches : List Batch) (l : Loser) : Type 0 where
   pub batch : Batch
   pub among : Contains batches batch
@@ -60,7 +60,7 @@ pub record HasUndone (old : List (List ℕ)) (losers : List Loser) (new : List (
       → (k : PageBytes) × AreFirst new k × IsGood relations counters (length old) k
       × UndoesAll relations counters (length old) f (all_finished losers) k
 
--- The pass stops at the loser of this place: on the pages that the inverses of those after it leave, whatever base
+-- The pass stops at the loser of this offset: on the pages that the inverses of those after it leave, whatever base
 -- they hold, its inverse does not find what its record says, or no free pages.
 pub record StopsAt (pages : List (List ℕ)) (losers : List Loser) (at : ℕ) : Type 0 where
   pub front : List Loser

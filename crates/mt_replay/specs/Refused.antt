@@ -59,7 +59,7 @@ pub record IsLog (c : List ℕ) (slot : MasterSlot) (figures : Figures) : Type 0
 
 -- ---- refusals
 
--- the place of the slot of a page that breaks a rule
+-- the offset of the slot of a page that breaks a rule
 abbrev pub IsFaultAt : List (List ℕ) → ℕ → Type 0
 IsFaultAt held at = (p : ℕ) × (at ≡ MASTER_BYTES + PAGE_BYTES * p) × IsFaulty held p
 
@@ -67,7 +67,7 @@ IsFaultAt held at = (p : ℕ) × (at ≡ MASTER_BYTES + PAGE_BYTES * p) × IsFau
 abbrev pub StopsUndoing : List (List ℕ) → List Loser → ℕ → Type 0
 StopsUndoing held list at = IsFaultAt held at ⊎ (AreChecked held × StopsAt held list at)
 
--- the bytes break a rule at this place: of the master slots, or of the batches of the area that the ruling slot names
+-- the bytes break a rule at this offset: of the master slots, or of the batches of the area that the ruling slot names
 pub data BreaksLog (c : List ℕ) (at : ℕ) : Type 0 where
   in_master : BreaksMaster c at → BreaksLog c at
   in_area : (slot : MasterSlot) → IsRuling c slot → BreaksAt c (area_start slot) (area_end slot) slot.pages at

@@ -25,7 +25,7 @@ use crate::losers::{Loser, losers_of};
 use crate::page_slots::lost_pages;
 use crate::pages_held::{HeldPages, held_pages};
 use crate::undo_pass::Restored;
-use mt_base::{PageNo, Refusal};
+use mt_base::Refusal;
 use mt_disk::Device;
 use mt_frame::MasterSlot;
 use mt_log::{AreaPlace, Batch, ruling_slot, scan};
@@ -46,38 +46,11 @@ pub struct Replayed {
     pub lost: Vec<bool>,
 }
 
-impl Replayed {
-    ghost use Rattle.std.specs.Prelude.{[], false, get_or};
-
-    /// The bytes of a page, as the passes leave them.
-    pub fn page(&self, page: PageNo) -> &[u8; 4096]
-        requires { page < length self.now.restored.pages.items }
-        ensures { result.now ≡ get_or self.now.restored.pages.items page [] }
-    {
-        &self.restored.pages[usize::from(page.get())]
-    }
-
-    /// By its number, whether the passes changed a page that has no image in the area: whether it is lost.
-    pub fn changed(&self) -> &[bool]
-        ensures { result.now ≡ self.now.lost.items }
-    {
-        &self.lost
-    }
-
-    /// Whether a page has an image in the area. Its slot was not read then.
-    pub fn with_image(&self, page: PageNo) -> bool
-        requires { page < length self.now.imaged.items }
-        ensures { result ≡ get_or self.now.imaged.items page false }
-    {
-        self.imaged[usize::from(page.get())]
-    }
-}
-
-/// The batches of the log area that the ruling slot names, in their order, each at its place. The device is only
+/// The batches of the log area that the ruling slot names, in their order, each at its offset. The device is only
 /// read, and its content is as before in any case.
 ///
 /// Refusals are [`Refusal::NoMemory`]; [`Refusal::DeviceFailed`], if and only if the device failed in this call; and
-/// [`Refusal::BadFormat`] with the place where a batch breaks a rule, as [`scan`] says.
+/// [`Refusal::BadFormat`] with the offset where a batch breaks a rule, as [`scan`] says.
 pub fn read_area<D: Device>(
     alloc: Global,
     device: &mut D,
@@ -140,7 +113,7 @@ fn undone(alloc: Global, pages: Vec<[u8; 4096]>, losers: &[Loser]) -> Result<Res
 ///
 /// Refusals are [`Refusal::NoMemory`], and [`Refusal::DeviceFailed`], if and only if the device failed in this call.
 /// [`Refusal::NotFormatted`] is answered if and only if it is shorter than 8192 bytes or no master slot is open, and
-/// no read failed. [`Refusal::BadFormat`] has a place where a rule is broken. It is that of a slot or a batch as
+/// no read failed. [`Refusal::BadFormat`] has an offset where a rule is broken. It is that of a slot or a batch as
 /// [`ruling_slot`] and [`scan`] say, or of the slot of a page. Or it is that of the batch of a loser whose inverse
 /// does not find what its record says, or too few free pages. The device is only read, and its content is as before
 /// in any case.

@@ -32,7 +32,7 @@ pub struct Loser {
     pub done: LoggedOp,
 }
 
-/// What the records from a place on say: the losers among them, the latest end first, and the transactions that end
+/// What the records from an index on say: the losers among them, the latest end first, and the transactions that end
 /// there. It has the operations, each after its transaction, that a finished inverse names. Each record costs a
 /// look-up or two in ordered sets.
 #[derive(Drop)]

@@ -38,7 +38,7 @@ pub(crate) struct Repeating<'a> {
     pub(crate) unfinished: BTreeMap<u64, Vec<Unfinished<'a>>>,
 }
 
-/// All pages with what records from a place on leave unfinished put back. With them are the numbers of the operations
+/// All pages with what records from an index on leave unfinished put back. With them are the numbers of the operations
 /// that are unfinished and do not end there.
 #[derive(Drop)]
 pub(crate) struct TakingBack {
@@ -46,7 +46,7 @@ pub(crate) struct TakingBack {
     pub(crate) open: BTreeSet<u64>,
 }
 
-// Puts bytes into a page at a place.
+// Puts bytes into a page at an offset.
 fn put(pages: &mut Vec<[u8; 4096]>, page: PageNo, start: u16, bytes: &[u8])
     requires whole { AreWhole pages.old.items }
     requires inside { page < length pages.old.items }

@@ -157,7 +157,7 @@ impl Restored {
     /// record of its relation and key, and each record has one entry. Each bucket page stands in the chain of its
     /// keys.
     ///
-    /// Else they are refused with [`Refusal::BadFormat`] and the place of the slot of a page that breaks one, and let
+    /// Else they are refused with [`Refusal::BadFormat`] and the offset of the slot of a page that breaks one, and let
     /// go. The page is named whose own rule is broken first, in the order of the tests. They are page 2 as the
     /// schema's, the pages of the index, and pages of records by their bytes. Then come bucket pages by an entry that
     /// names no such record, and pages of records by one that the index does not name. The only other refusal is
@@ -183,7 +183,8 @@ impl Restored {
         }
     }
 
-    // A page of records that takes a record of so many bytes; `None` if none does, and if there is no record.
+    // A page of records that takes a record of so many bytes; `None` if none does, and if there is no record. mt_op
+    // keeps a tree of what each page takes. Losers are few, and a tree would have to be noted anew after each of them.
     fn room_for(&self, bytes: usize) -> Option<PageNo>
         ensures { (f : PageBytes) → AreFirst self.now.pages.items f
             → IsRoom (length self.now.pages.items) bytes f result }

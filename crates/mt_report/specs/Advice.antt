@@ -31,7 +31,7 @@ fault_line (Stopped at) = answer_text (RefusedLine at.why) ++ 10 ∷ []
 fault_line (Unread why at) = answer_text (RefusedLine (refusal_in why)) ++ 10 ∷ []
 fault_line (Unscheduled why) = answer_text (RefusedLine (refusal_in why)) ++ 10 ∷ []
 
--- what to do about bytes that break the format at a place: below 8192 it is a master slot, which holds the length
+-- what to do about bytes that break the format at an offset: below 8192 it is a master slot, which holds the length
 abbrev pub advice_at : ℕ → List ℕ
 advice_at place = cond (nat_lt place MASTER_BYTES) (codes
     "the file is shorter than its first bytes tell, or these are damaged; take a copy that is whole")
@@ -134,7 +134,7 @@ named_in (Explain file wait) = shown_file (string_bytes file)
 named_in (Run s wait) = shown_file (string_bytes s.file)
 named_in (Show text) = codes "mtk"
 
--- the script at this place of those that it names, of which all but `run` name one
+-- the script at this index of those that it names, of which all but `run` name one
 abbrev pub script_named : Command → ℕ → List ℕ
 script_named (Run s wait) at = shown_name (get_or (map string_bytes s.scripts.items) at [])
 script_named command at = named_in command

@@ -28,7 +28,7 @@ pub enum Fault {
     Refused(Refusal),
     /// A line of a script was refused, and the run was to stop there.
     Stopped(Stop),
-    /// The script at this place of those that are named, from 0, was not read.
+    /// The script at this index of those that are named, from 0, was not read.
     Unread(ReadFault<ScriptWord>, usize),
     /// The schedule was not read.
     Unscheduled(ReadFault<EventWord>),
@@ -60,7 +60,7 @@ fn shown_script(name: &str) -> &str
     if name == "-" { INPUT } else { shown(name) }
 }
 
-/// What people see of the name of the script at a place of those that are named.
+/// What people see of the name of the script at an index of those that are named.
 fn script_name(scripts: &[String], at: usize) -> &str
     ensures { result.now ≡ shown_name (get_or (map string_bytes scripts.now) at []) }
 {
@@ -91,7 +91,7 @@ fn named_in(command: &Command) -> &str
     }
 }
 
-/// The name of the script at a place of those that a command names.
+/// The name of the script at an index of those that a command names.
 fn script_named(command: &Command, at: usize) -> &str
     ensures { result.now ≡ script_named command.now at }
 {
@@ -129,7 +129,7 @@ fn write_fault<W: Write>(writer: &mut W, fault: &Fault) -> Result<(), Unheard>
     }
 }
 
-/// What to do about bytes that break the format at a place.
+/// What to do about bytes that break the format at an offset.
 fn advice_at(place: u64) -> &'static str
     ensures { result.now ≡ advice_at place }
 {

@@ -308,4 +308,24 @@ module _ {D : Type 0} {g : Ghosts D} (only_now : (d : D) (c : List ℕ) → g.le
     quiet = λ not. x.quiet not ∙ same;
   }
   rotates_behind (Ended device) (Ok u) x = x
-  rotates_behind (Ended device) (Err why) x = (x.0, record { may = early; failed = let more = x.1.failed in omega (arith, more, same) })
+  rotates_behind (Ended device) (Err why) x = (
+    x.0,
+    record {
+      may = early;
+      forced = let (n, last, still) = x.1.forced in (
+        n,
+        record {
+          well = last.well;
+          nobody = last.nobody;
+          forced = last.forced;
+          grows = let (more, grown) = out.grows in let (then, longer) = last.grows in (
+            more ++ then,
+            longer ∙ ap (λ (rs : List Record). rs ++ then) grown ∙ append_assoc (durable k.core.operations.store.log) more then,
+          );
+          ruling = last.ruling ∙ out.ruling;
+        },
+        still ∙ same,
+      );
+      failed = let more = x.1.failed in omega (arith, more, same);
+    },
+  )

@@ -1,5 +1,6 @@
 pub mod Beside
 pub mod Found
+pub mod Frames
 pub mod Inspected
 pub mod Recovered
 pub mod Reported

@@ -2,11 +2,11 @@
 use Rattle.std.specs.Prelude.{◌≡◌, ◌≢◌, ◌⊎◌, ◌<◌, ℕ, Bool, List, Result, Err, IfErr, IfOk, length}
 use Rattle.mt_disk.specs.declared.device.Device.{Ghosts}
 use Rattle.mt_base.specs.declared.refusal.Refusal.{Refusal}
-use Rattle.mt_base.specs.declared.refusal.Refusal.TheVariants.{LogFull}
+use Rattle.mt_base.specs.declared.refusal.Refusal.TheVariants.{DeviceFailed, LogFull, NotFormatted}
 use Rattle.mt_frame.specs.declared.records.Record.{Record}
 use Rattle.mt_frame.specs.declared.slots.MasterSlot.{MasterSlot}
 use Rattle.mt_disk.specs.Disk.{LeavesOnly}
-use Rattle.mt_log.specs.Masters.{IsRuling}
+use Rattle.mt_log.specs.Masters.{IsRuling, IsUnformatted}
 use Rattle.mt_log.specs.NextSlot.{next_slot}
 use Rattle.mt_log.specs.Quiet.{OnlyReads, OnlyReadsOrSyncs}
 use Rattle.mt_model.specs.Model.{Base}
@@ -68,6 +68,10 @@ StandsStill g relations counters b device c = g.may_leave device c ⊎ CanRestar
 abbrev pub IsCauseToStop : List ℕ → Type 0 → Refusal → Type 0
 IsCauseToStop c failed why = IsCause BreaksFormat c failed why ⊎ ((why ≡ LogFull) × CannotTurn c)
 
+-- bytes that are not formatted are reported as such, unless the device failed
+abbrev pub SaysUnformatted : List ℕ → Refusal → Type 0
+SaysUnformatted c why = IsUnformatted c → (why ≡ NotFormatted) ⊎ (why ≡ DeviceFailed)
+
 -- What a recovery needs is found, with pages that show the base for which the bytes stand; or the cause is reported.
 -- The device is only read.
 pub record FindsAll {D : Type 0} (g : Ghosts D) (frames : ℕ) (d e : D) (r : Result Findings Refusal) : Type 0 where
@@ -78,6 +82,7 @@ pub record FindsAll {D : Type 0} (g : Ghosts D) (frames : ℕ) (d e : D) (r : Re
       → IfErr r (λ why. (why ≡ Refusal.NoMemory) ⊎ ((why ≡ Refusal.DeviceFailed) ⊎ (why ≡ Refusal.LogFull)))
   pub reads : OnlyReads g d e
   pub cause : IfErr r (IsCauseToStop (g.seen d) (g.faults d < g.faults e))
+  pub unformatted : IfErr r (SaysUnformatted (g.seen d))
   pub quiet : (r ≡ Err Refusal.DeviceFailed → ⊥) → g.faults e ≡ g.faults d
 
 -- The log has turned over once, with pages that show the base for which the bytes stood; or the cause is reported.
@@ -98,4 +103,5 @@ pub record Recovers {D : Type 0} (g : Ghosts D) (frames : ℕ) (d e : D) (r : Re
       → r ≢ Err Refusal.DeviceFailed → (c : List ℕ) → g.may_leave e c → CanRestart relations counters c b
   pub reads : IfErr r (λ why. (why ≡ Refusal.DeviceFailed → ⊥) → OnlyReadsOrSyncs g d e)
   pub cause : IfErr r (IsCauseToStop (g.seen d) (g.faults d < g.faults e))
+  pub unformatted : IfErr r (SaysUnformatted (g.seen d))
   pub quiet : (r ≡ Err Refusal.DeviceFailed → ⊥) → g.faults e ≡ g.faults d

@@ -1,11 +1,15 @@
 -- A kernel that is opened over a device.
-use Rattle.std.specs.Prelude.{◌≡◌, ℕ, List, Result, Ok, Err, get_or}
+use Rattle.std.specs.Prelude.{◌≡◌, ◌≢◌, ◌⊎◌, ◌<◌, ℕ, List, Result, Ok, Err, get_or}
 use Rattle.mt_base.specs.declared.refusal.Refusal.{Refusal}
+use Rattle.mt_base.specs.declared.refusal.Refusal.TheVariants.{DeviceFailed, LogFull, NoMemory}
 use Rattle.mt_disk.specs.declared.device.Device.{Ghosts}
+use Rattle.mt_format.specs.Formats.{IsFormattedAs}
+use Rattle.mt_format.specs.declared.schema.Schema.{Schema}
 use Rattle.mt_index.specs.Checks.{bytes_of}
 use Rattle.mt_live.specs.Machine.{start}
 use Rattle.mt_model.specs.Model.{Base, IsBase}
-use Rattle.mt_restart.specs.Recovered.{AreRestored}
+use Rattle.mt_replay.specs.Stands.{CanRestart}
+use Rattle.mt_restart.specs.Recovered.{AreRestored, IsCauseToStop, SaysUnformatted}
 use Rattle.mt_steps.specs.Held.{Holds}
 use Rattle.mt_steps.specs.Listed.{IsSame}
 use Rattle.mt_txn.specs.Shown.{Restarts, Shows, kernel_device}
@@ -36,3 +40,16 @@ pub record BeginsOnRestored {D : Type 0} {g : Ghosts D} (c : List ℕ) (k : Kern
 abbrev pub device_of : {D : Type 0} → {g : Ghosts D} → Result (Kernel D g) (Refusal × D) → D
 device_of (Ok kernel) = (kernel_device kernel)
 device_of (Err gone) = gone.1
+
+-- Why no kernel begins on a device, and the device that is handed back. What a kernel left is refused for want of
+-- memory, a failure or a full log alone; and as it was formatted, for no full log. Unless the device failed, its bytes
+-- are as they were, and whatever a crash leaves of it represents what they did.
+pub record IsNotOpened {D : Type 0} (g : Ghosts D) (device : D) (gone : Refusal × D) : Type 0 where
+  pub cause : IsCauseToStop (g.seen device) (g.faults device < g.faults gone.1) gone.0
+  pub unformatted : SaysUnformatted (g.seen device) gone.0
+  pub left : (relations counters : ℕ) (b : Base) → CanRestart relations counters (g.seen device) b
+      → (gone.0 ≡ NoMemory) ⊎ ((gone.0 ≡ DeviceFailed) ⊎ (gone.0 ≡ LogFull))
+  pub formatted : (s : Schema) → IsFormattedAs s (g.seen device) → gone.0 ≢ LogFull
+  pub unwritten : gone.0 ≢ DeviceFailed → g.seen gone.1 ≡ g.seen device
+  pub settled : (relations counters : ℕ) (b : Base) → CanRestart relations counters (g.seen device) b
+      → gone.0 ≢ DeviceFailed → (c : List ℕ) → g.may_leave gone.1 c → CanRestart relations counters c b

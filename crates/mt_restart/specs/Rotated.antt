@@ -38,7 +38,7 @@ pub record IsForcedOut {D : Type 0} {g : Ghosts D} (k n : Kernel D g) : Type 0 w
 
 -- ---- why it is not turned over
 
--- why nothing is done with a kernel: its device has failed, or a transaction lives
+-- why nothing is done with a kernel: its device has failed, or a transaction is active
 abbrev pub early_cause : {D : Type 0} {g : Ghosts D} → Kernel D g → Option Refusal
 early_cause k = kernel_survey_cause k
 
@@ -79,9 +79,10 @@ pub record IsLeft {D : Type 0} {g : Ghosts D} (k : Kernel D g) (why : Refusal) (
   pub cause : (early_cause k ≡ Some why) × (n ≡ k) ⊎ ((early_cause k ≡ None) × IsKeptCause n why)
   pub quiet : (why ≡ DeviceFailed → ⊥) → g.faults (kernel_device n) ≡ g.faults (kernel_device k)
 
--- The device failed while it was recovered, and is left alone.
+-- The device failed while it was recovered, and is left alone. The force before that went well.
 pub record IsEnded {D : Type 0} {g : Ghosts D} (k : Kernel D g) (device : D) : Type 0 where
   pub may : early_cause k ≡ None
+  pub forced : (n : Kernel D g) × IsForcedOut k n × (g.faults (kernel_device n) ≡ g.faults (kernel_device k))
   pub failed : g.faults (kernel_device k) < g.faults device
 
 -- what stands after a rotation, by its answer

@@ -70,8 +70,10 @@ fn list_pages(alloc: Global, base: &mut Base, pages: &[[u8; 4096]]) -> Result<()
     Ok(())
 }
 
-// The survey of pages in memory that break no rule.
-fn survey_of(alloc: Global, restored: &Restored) -> Result<Survey, Refusal>
+// The survey of pages in memory that break no rule. `opened_with_base` asks for one of those of a recovery. mt_op has
+// a survey of its own. It reads each page from its frame or the device, and so has a fault to report; here all pages
+// are at hand.
+pub(crate) fn survey_of(alloc: Global, restored: &Restored) -> Result<Survey, Refusal>
     requires { AreChecked restored.now.pages.items }
     ensures surveyed { IfOk result (IsOfPages restored.now.pages.items) }
     ensures only_memory { IfErr result (λ why. why ≡ Refusal.NoMemory) }
@@ -99,7 +101,7 @@ fn survey_of(alloc: Global, restored: &Restored) -> Result<Survey, Refusal>
 /// - [`Refusal::DeviceFailed`], if and only if the device failed in this call;
 /// - [`Refusal::NotFormatted`], if and only if the device is shorter than 8192 bytes or no master slot is open, and
 ///   no read failed;
-/// - [`Refusal::BadFormat`] with the place where a rule is broken, as [`replay`] says.
+/// - [`Refusal::BadFormat`] with the offset where a rule is broken, as [`replay`] says.
 ///
 /// The content of the device is as before in any case.
 pub fn inspect<D: Device>(alloc: Global, device: &mut D) -> Result<Survey, Refusal>

@@ -1,5 +1,6 @@
 //! Kernels over devices that were used before, and what such a device represents. [`open`] recovers a device,
-//! whatever a crash left of it, and [`rotate`] turns the log of a kernel over. Both make the same recovery.
+//! whatever a crash left of it, [`open_with_base`] also lists its base, and [`rotate`] turns the log of a kernel over.
+//! All make the same recovery.
 //! [`inspect`], [`report`] and [`check`] only read.
 //!
 //! What formats a device is in `mt_format`, whose calls are passed on here. One clause of [`open`] alone speaks of a
@@ -12,6 +13,7 @@ mod first_images;
 mod inspection;
 mod log_report;
 mod opened_kernel;
+mod opened_with_base;
 mod recovery;
 mod report_figures;
 mod restart_writes;
@@ -23,6 +25,7 @@ pub use inspection::inspect;
 pub use log_report::{check, report};
 pub use mt_format::{Schema, format, fresh};
 pub use opened_kernel::open;
+pub use opened_with_base::open_with_base;
 pub use report_figures::Report;
 pub use rotation::rotate;
 pub use standing::Standing;

@@ -33,7 +33,7 @@ fn report_of(ruling: &MasterSlot, figures: Figures) -> Report
 ///
 /// Refusals are [`Refusal::NoMemory`], and [`Refusal::DeviceFailed`] if and only if the device failed in this call.
 /// [`Refusal::NotFormatted`] is answered if it is shorter than 8192 bytes or no master slot is open.
-/// [`Refusal::BadFormat`] has the place of a slot or a batch that breaks a rule. The device is only read: no write,
+/// [`Refusal::BadFormat`] has the offset of a slot or a batch that breaks a rule. The device is only read: no write,
 /// no sync, and its content is as before in any case.
 pub fn report<D: Device>(alloc: Global, device: &mut D) -> Result<Report, Refusal>
     ensures outcome { IfOk result (IsReport (D.seen device.old)) }
@@ -61,7 +61,7 @@ pub fn report<D: Device>(alloc: Global, device: &mut D) -> Result<Report, Refusa
 ///
 /// Refusals are [`Refusal::NoMemory`], and [`Refusal::DeviceFailed`] if and only if the device failed in this call.
 /// [`Refusal::NotFormatted`] is answered if it is shorter than 8192 bytes or no master slot is open.
-/// [`Refusal::BadFormat`] has the place where a rule is broken, as [`replay`] says. The device is only read, and its
+/// [`Refusal::BadFormat`] has the offset where a rule is broken, as [`replay`] says. The device is only read, and its
 /// content is as before in any case.
 pub fn check<D: Device>(alloc: Global, device: &mut D) -> Result<Report, Refusal>
     ensures outcome { IfOk result (IsChecked (D.seen device.old)) }

@@ -13,10 +13,9 @@ ghost use Rattle.mt_replay.specs.Stands.{CanRestart};
 ghost use Rattle.mt_steps.specs.Held.{Holds};
 ghost use Rattle.mt_txn.specs.Shown.{is_failed, kernel_device, kernel_frames, kernel_ruling};
 ghost use Rattle.mt_txn.specs.Well.{Opens};
-ghost use Rattle.mt_format.specs.Formats.{IsFormattedAs};
-ghost use Rattle.mt_restart.specs.Recovered.{IsCauseToStop, IsRecovered, StandsStill};
-ghost use Rattle.mt_restart.specs.Resumed.{BeginsOn, BeginsOnRestored, IsOpened, device_of};
-ghost use Rattle.mt_format.specs.declared.schema.Schema.{Schema};
+ghost use Rattle.mt_restart.specs.Frames.{IsFrameCount};
+ghost use Rattle.mt_restart.specs.Recovered.{IsRecovered, StandsStill};
+ghost use Rattle.mt_restart.specs.Resumed.{BeginsOn, BeginsOnRestored, IsOpened, IsNotOpened, device_of};
 ghost use Rattle.mt_op.specs.Operations.{operation_frames, operation_log, operation_device, operation_ruling};
 
 use crate::beside::Beside;
@@ -31,7 +30,8 @@ use mt_replay::only_own_pages_matter;
 use mt_txn::Kernel;
 use std::alloc::Global;
 
-// Operations over a device that was recovered, and an escrow of its counters. It takes no memory.
+// Operations over a device that was recovered, and an escrow of its counters. It takes no memory. mt_format makes the
+// same parts over an area that was just formatted, which has no image to note.
 pub(crate) fn parts_over<D: Device + Drop>(
     device: D,
     recovered: Recovered,
@@ -64,7 +64,11 @@ pub(crate) fn parts_over<D: Device + Drop>(
 }
 
 // A kernel over a device that was recovered. It takes no memory.
-fn kernel_over<D: Device + Drop>(alloc: Global, device: D, recovered: Recovered) -> Kernel<D>
+pub(crate) fn kernel_over<D: Device + Drop>(
+    alloc: Global,
+    device: D,
+    recovered: Recovered,
+) -> Kernel<D>
     requires recovered { (frames : ℕ) × IsRecovered D.Device frames device recovered }
     ensures opened { (b : Base) → Holds (bytes_of recovered.restored.pages.items) b → IsBase b
         → IsOpened recovered.beside.relations recovered.beside.counters b result }
@@ -79,8 +83,8 @@ fn kernel_over<D: Device + Drop>(alloc: Global, device: D, recovered: Recovered)
     Kernel::assemble(alloc, operations, escrow, relations, counters)
 }
 
-/// Gives a kernel over a device that was used before, whatever a crash left of it, with so many pages in frames. No
-/// transaction lives, the book is empty, and the pages hold the base that the bytes represented. That is what the
+/// Gives a kernel over a device that was used before, whatever a crash left of it, with 32 to 4096 pages in frames. No
+/// transaction is active, the book is empty, and the pages hold the base that the bytes represented. That is what the
 /// log's committed transactions lead to, in the order of their commits.
 ///
 /// The device is synced. Then a restart's passes are made in memory. The ruling area's records are repeated,
@@ -95,7 +99,9 @@ fn kernel_over<D: Device + Drop>(alloc: Global, device: D, recovered: Recovered)
 /// of them, which break no rule of their formats. Each refusal hands the device back:
 /// - [`Refusal::NoMemory`];
 /// - [`Refusal::DeviceFailed`], if and only if the device failed in this call;
-/// - [`Refusal::NotFormatted`] and [`Refusal::BadFormat`], as `replay` of mt_replay says;
+/// - [`Refusal::NotFormatted`], if and only if the device is shorter than 8192 bytes or no master slot is open, and it
+///   did not fail;
+/// - [`Refusal::BadFormat`], as `replay` of mt_replay says;
 /// - [`Refusal::LogFull`], if the ruling slot has the last epoch, or the images have no room in the next area: never
 ///   as the device was formatted.
 ///
@@ -105,23 +111,15 @@ pub fn open<D: Device + Drop>(
     device: D,
     frames: usize,
 ) -> Result<Kernel<D>, (Refusal, D)>
+    requires frames { IsFrameCount frames }
     ensures opened { (relations counters : ℕ) (b : Base) → CanRestart relations counters (D.seen device) b
         → IfOk result (IsOpened relations counters b) }
-    // On any bytes it is a kernel on some base.
-    ensures begins { IfOk result (λ kernel. (b : Base)
-        × IsOpened kernel.relations kernel.counters b kernel) }
-    // It is the base that the passes of a restart leave in memory.
+    // On any bytes it begins on the base that the passes of a restart leave in memory.
     ensures restored { IfOk result (BeginsOnRestored (D.seen device)) }
     ensures well { IfOk result (λ kernel. is_failed kernel ≡ false) }
     ensures frames { IfOk result (λ kernel. kernel_frames kernel ≡ frames) }
-    // What lies after its last counter is open.
+    // That base is one. What lies after its last counter is open.
     ensures counted { IfOk result (λ kernel. (b : Base) × BeginsOn b kernel) }
-    ensures no_other_refusal { (relations counters : ℕ) (b : Base) → CanRestart relations counters (D.seen device) b
-        → IfErr result (λ gone. (gone.0 ≡ Refusal.NoMemory)
-        ⊎ ((gone.0 ≡ Refusal.DeviceFailed) ⊎ (gone.0 ≡ Refusal.LogFull))) }
-    // As it is formatted its log can turn over.
-    ensures never_full { (s : Schema) → IsFormattedAs s (D.seen device)
-        → IfErr result (λ gone. gone.0 ≡ Refusal.LogFull → ⊥) }
     // The log turns over once.
     ensures once { (slot : MasterSlot) → IsRuling (D.seen device) slot
         → IfOk result (λ kernel. kernel_ruling kernel ≡ next_slot slot) }
@@ -133,12 +131,8 @@ pub fn open<D: Device + Drop>(
     ensures stands { (relations counters : ℕ) (b : Base) → CanRestart relations counters (D.seen device) b
         → IfOk result (λ kernel. (c : List ℕ) → D.may_leave (kernel_device kernel) c
         → CanRestart relations counters c b) }
-    ensures settled { (relations counters : ℕ) (b : Base) → CanRestart relations counters (D.seen device) b
-        → IfErr result (λ gone. (gone.0 ≡ Refusal.DeviceFailed → ⊥) → (c : List ℕ) → D.may_leave gone.1 c
-        → CanRestart relations counters c b) }
-    ensures unwritten { IfErr result (λ gone. (gone.0 ≡ Refusal.DeviceFailed → ⊥)
-        → D.seen gone.1 ≡ D.seen device) }
-    ensures cause { IfErr result (λ gone. IsCauseToStop (D.seen device) (D.faults device < D.faults gone.1) gone.0) }
+    // Why it is refused, and what is left of the device then.
+    ensures refused { IfErr result (IsNotOpened D.Device device) }
     // The device failed in no call of this one, unless it is refused with 2.
     ensures quiet { MatchResult result (λ kernel. D.faults (kernel_device kernel) ≡ D.faults device)
         (λ gone. (gone.0 ≡ Refusal.DeviceFailed → ⊥) → D.faults gone.1 ≡ D.faults device) }

@@ -42,7 +42,7 @@ fn find<D: Device>(alloc: Global, device: &mut D, frames: usize) -> Result<Findi
     ensures { FindsAll D.Device frames device.old device.new result }
 {
     let replayed = replay(alloc, device)?;
-    let images = images_of(alloc, &replayed.restored.pages, replayed.changed())?;
+    let images = images_of(alloc, &replayed.restored.pages, &replayed.lost)?;
     if !can_turn(&replayed.ruling, &images) {
         return Err(Refusal::LogFull);
     }

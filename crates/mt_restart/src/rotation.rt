@@ -35,7 +35,8 @@ fn force_out<D: Device>(kernel: &mut Kernel<D>) -> Result<(), Refusal>
 }
 
 // The kernel goes on over its device, which a recovery makes one for the next area. If that is refused before its
-// first write, the very kernel is attached to the device again.
+// first write, the very kernel is attached to the device again. mt_op, mt_core and mt_txn each have calls that detach,
+// attach, part and join, since each takes apart fields that no other crate sees.
 fn turn_over<D: Device + Drop>(
     alloc: Global,
     kernel: Kernel<D>,
@@ -79,7 +80,7 @@ fn turn_over<D: Device + Drop>(
 ///
 /// Refused with the kernel as it was, before anything is done:
 /// - [`Refusal::DeviceFailed`], if its device has failed;
-/// - [`Refusal::Busy`], if a transaction lives.
+/// - [`Refusal::Busy`], if a transaction is active.
 ///
 /// Then refused with the kernel, whose state is as before. All memory is taken before the device is written, so it
 /// goes on, but for the first of these:

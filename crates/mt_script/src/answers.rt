@@ -18,7 +18,7 @@ pub enum Answer {
     Begun,
     /// The operation replied this.
     Replied(Reply),
-    /// The transaction is durable, as the commit of this place in the opening's order of commits,
+    /// The transaction is durable, as the commit of this position in the opening's order of commits,
     /// from 1.
     Committed(u64),
     /// The transaction is undone.

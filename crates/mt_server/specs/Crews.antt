@@ -1,4 +1,4 @@
--- What workers give back, and the places of transcripts.
+-- What workers give back, and the indexes of transcripts.
 use Rattle.std.specs.Prelude.{ℕ, ◌≡◌, ◌<◌, ◌+◌, Bool, true, false, List, [], ◌∷◌, ◌++◌, length, get_or, Result, IfOk, Vec}
 use Rattle.std.specs.declared.alloc.AllocError.{AllocError}
 use Rattle.std.specs.declared.alloc.Global.{Global}
@@ -11,7 +11,7 @@ use Rattle.mt_server.specs.declared.board.Board.{Board}
 use Rattle.mt_server.specs.declared.board.Reported.{Reported}
 use Rattle.mt_locked.specs.Seen.{PassSeen}
 
--- the transcript of the script at its place, from 0, which reports these commits
+-- the transcript of the script at its index, from 0, which reports these commits
 pub record IsReportedOf (scripts : List (List Line)) (book : List Committed) (t : Reported)
     (booked : List (ℕ × List Call)) : Type 0 where
   pub lines : List Line
@@ -34,7 +34,7 @@ AreHeard scripts pass outcome = AreReportedOf scripts (dones pass.seen) outcome 
 abbrev pub HasDone : List (List Line) → PassSeen → Result (Vec Reported Global) AllocError → Type 0
 HasDone scripts pass done = IfOk done (λ outcome. AreHeard scripts pass outcome.items)
 
--- What is in its place is the transcript of that script, and so many commits they tell together.
+-- What is at its index is the transcript of that script, and so many commits they tell together.
 pub record IsBoard (scripts : List (List Line)) (board : Board) (book : List Committed) (count : ℕ) : Type 0 where
   pub texts : length board.texts.items ≡ length scripts
   pub filled : length board.filled.items ≡ length scripts

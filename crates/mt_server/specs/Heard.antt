@@ -18,7 +18,7 @@ use Rattle.mt_alone.specs.Runs.{last_line}
 
 -- ---- answers
 
--- the calls of the transaction that is open, if one is, and the commits so far: the place of each, with its calls
+-- the calls of the transaction that is open, if one is, and the commits so far: the position of each, with its calls
 pub record Heard : Type 0 where
   pub under_way : Option (List Call)
   pub booked : List (ℕ × List Call)
@@ -71,21 +71,21 @@ pub data IsEnd (failed : Bool) (u : Option (List Call)) : List Line → List Ans
 
 -- ---- the history
 
--- a session's transaction with these calls has this place in the book, from 1
+-- a session's transaction with these calls has this position in the book, from 1
 pub record StandsAt (session : ℕ) (book : List Committed) (place : ℕ) (calls : List Call) : Type 0 where
   pub before : List Committed
   pub behind : List Committed
   pub book_is : book ≡ before ++ record { session = session; calls = calls } ∷ behind
   pub place_is : length before + 1 ≡ place
 
--- the places rise, up to this one
+-- the positions rise, up to this one
 pub data Rise : List (ℕ × List Call) → ℕ → Type 0 where
   nowhere : Rise [] 0
   higher : (booked : List (ℕ × List Call)) (last place : ℕ) (calls : List Call) → Rise booked last → last < place
       → Rise (booked ++ (place, calls) ∷ []) place
 
 -- The transcript of a session: the text of what its lines were answered. These are the commits that it reports, each
--- with its place and the calls that were replied to; each has that place in this book, and the places rise. It ends
+-- with its position and the calls that were replied to; each has that position in this book, and they rise. It ends
 -- with 2 only if the device has failed.
 pub record IsReported (failed : Bool) (session : ℕ) (lines : List Line) (text : List ℕ) (booked : List (ℕ × List Call))
     (book : List Committed) : Type 0 where

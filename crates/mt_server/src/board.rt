@@ -1,4 +1,4 @@
-// Transcripts, each in its script's place.
+// Transcripts, each at its script's index.
 ghost use Rattle.std.specs.Prelude.{◌≡◌, ◌+◌, true, ℕ, List, IfOk, IsTrue, length};
 ghost use Rattle.mt_model.specs.History.{Call};
 ghost use Rattle.mt_model.specs.declared.history.Committed.{Committed};
@@ -8,7 +8,7 @@ ghost use Rattle.mt_server.specs.Crews.{AreReportedOf, IsBoard, IsBlank, IsFull,
 use crate::transcript::Transcript;
 use std::alloc::{AllocError, Global};
 
-/// The transcript of the script at this place, from 0, and whether it ends with the refusal 2.
+/// The transcript of the script at this index, from 0, and whether it ends with the refusal 2.
 #[derive(Drop)]
 pub struct Reported {
     pub at: usize,
@@ -16,7 +16,8 @@ pub struct Reported {
     pub has_failed: bool,
 }
 
-/// A place for the transcript of each script, and whether it is there; and whether one of them ends with the refusal 2.
+/// An index for the transcript of each script, and whether it is there; and whether one of them ends with the refusal
+/// 2.
 #[derive(Drop)]
 pub struct Board {
     pub texts: Vec<Transcript>,
@@ -35,7 +36,7 @@ fn empty_texts(alloc: Global, count: usize) -> Result<Vec<Transcript>, AllocErro
     Ok(texts)
 }
 
-/// So many places, with nothing in them.
+/// So many indexes, with no transcript.
 pub(crate) fn blank(alloc: Global, count: usize) -> Result<Board, AllocError>
     ensures { IfOk result (IsBlank count) }
 {
@@ -49,7 +50,7 @@ pub(crate) fn blank(alloc: Global, count: usize) -> Result<Board, AllocError>
 }
 
 impl Board {
-    /// Puts a transcript in its place, if that is empty; whether it was.
+    /// Puts a transcript at its index, if none is there; whether none was.
     fn place(&mut self, outcome: Reported) -> bool
         ensures { IsTrue result → (scripts : List (List Line)) (book : List Committed) (booked : List (ℕ × List Call))
             (count : ℕ) → IsReportedOf scripts book outcome booked → IsBoard scripts self.old book count
@@ -69,7 +70,7 @@ impl Board {
         true
     }
 
-    /// Puts each of them in its place; whether all of these were empty.
+    /// Puts each of them at its index; whether none was there.
     pub(crate) fn place_all(&mut self, outcome: Vec<Reported>) -> bool
         ensures { IsTrue result → (scripts : List (List Line)) (book : List Committed) (more count : ℕ)
             → AreReportedOf scripts book outcome.items more → IsBoard scripts self.old book count
@@ -93,7 +94,7 @@ impl Board {
         has_failed || !self.has_failed
     }
 
-    /// Whether each place has its transcript.
+    /// Whether each index has its transcript.
     pub(crate) fn is_full(&self) -> bool
         ensures { IsTrue result → IsFull self.now }
     {

@@ -1,4 +1,4 @@
-// Workers that serve scripts over a shared kernel, beside one that tends it.
+// Workers that serve scripts over a shared kernel, beside one that turns its log over.
 ghost use Rattle.std.specs.Prelude.{◌+◌, ◌≤◌, ℕ, List, All, IfOk, length, map};
 ghost use Rattle.mt_base.specs.declared.limits.TheConstants.{MAX_SESSIONS};
 ghost use mathlib.Core.List.{IsPrefix};
@@ -81,9 +81,9 @@ fn work<D: Device, G: Gate + Drop, J: Naming, R: Wait>(
     unreachable!()
 }
 
-/// Tends a shared kernel until that is ended, or the device has failed. It sleeps until more than half of the log's
-/// area is in use, and then turns the log over. It forces no log otherwise and flushes no page.
-fn tend<D: Device + Drop, G: Gate + Drop, J: Naming, R: Wait>(
+/// Turns the log of a shared kernel over each time that more than half of its area is in use, and sleeps meanwhile. It
+/// ends as it is asked to, or if the device has failed. It forces no log otherwise and flushes no page.
+fn rotate_as_due<D: Device + Drop, G: Gate + Drop, J: Naming, R: Wait>(
     rt: &R,
     alloc: Global,
     shared: &Shared<D, G, J>,
@@ -131,7 +131,7 @@ fn work_all<
     Ok(done)
 }
 
-/// A queue with the places of so many scripts, in their order.
+/// A queue with the indexes of so many scripts, in their order.
 fn queue_of<R: Wait>(
     rt: &R,
     alloc: Global,
@@ -169,21 +169,21 @@ pub(crate) fn crew<
     let from = &queue;
     let ((), done) = join(
         rt,
-        || tend(rt, alloc, shared, frames),
+        || rotate_as_due(rt, alloc, shared, frames),
         move || -> Result<Vec<Done<J>>, AllocError>
             requires few { length scripts.now ≤ MAX_SESSIONS }
             requires fresh { All (IsNew J.book) passes.items }
             ensures { IfOk result (λ done. All (λ d. HasDone (map lines_in scripts.entry.now) d.0 d.1) done.items) }
         {
             let done = work_all(rt, alloc, shared, from, scripts, passes);
-            shared.end_tending(rt);
+            shared.end_rotating(rt);
             done
         },
     );
     done
 }
 
-/// The passes of the workers. Their transcripts are put in their places, each of which has to be empty. There is an
+/// The passes of the workers. Their transcripts are put at their indexes, where none may be yet. There is an
 /// error too if a worker found no memory for a transcript.
 pub(crate) fn gather<J: Naming>(
     alloc: Global,

@@ -64,7 +64,7 @@ pub(crate) fn tell_aborted(out: &mut Vec<u8>) -> Result<(), Stop>
     tell(out, &Answer::Aborted)
 }
 
-/// Writes the place of a commit, as [`tell`].
+/// Writes the position of a commit, as [`tell`].
 fn tell_committed(out: &mut Vec<u8>, place: u64) -> Result<(), Stop>
     ensures ok { OnOk result (out.new.items ≡ out.old.items ++ transcript_text (answer.Committed place ∷ [])) }
     ensures err { IfErr result (λ outcome. outcome ≡ stop.Unheard) }
@@ -194,6 +194,8 @@ fn stopped<D: Device, G: Gate + Drop, J: Naming, R: Wait>(
     ensures turns { (op : Op) → IsCallRefusal op why
         → Turning J.base txn pass.old (line.Call op) out.old.items out.new.items pass.new result }
     ensures lives { may_die ≡ false → IfErr result (λ outcome. outcome ≢ stop.Died) }
+    // Only an older holder in its way makes it die.
+    ensures dies { IfErr result (λ outcome. outcome ≡ stop.Died → (holder : ℕ) × (why ≡ Refusal.Die holder)) }
 {
     match why {
         Refusal::Die(_) => died(rt, hold, pass, txn, why, may_die, out),
@@ -229,7 +231,7 @@ fn call<D: Device, G: Gate + Drop, J: Naming, R: Wait>(
     }
 }
 
-/// Commits a transaction, and answers its place.
+/// Commits a transaction, and answers its position.
 fn commit<D: Device, G: Gate + Drop, J: Naming, R: Wait>(
     rt: &R,
     hold: &mut Hold<'_, D, G, J>,

@@ -9,6 +9,7 @@ ghost use Rattle.mt_server.specs.Heard.{AreReported};
 ghost use Rattle.mt_server.specs.Serves.{IsLate, IsOpenedWith, IsServedOn, IsUnserved};
 ghost use Rattle.mt_shared.specs.Opens.{HasBegunWith};
 ghost use Rattle.mt_script.specs.Scripts.{lines_in};
+ghost use Rattle.mt_restart.specs.Frames.{IsFrameCount};
 ghost use Rattle.mt_locked.specs.Began.{BeganOn, IsIdle};
 ghost use Rattle.mt_locked.specs.Seen.{PassSeen};
 ghost use Rattle.mt_locked.specs.Whole.{all_own};
@@ -40,7 +41,7 @@ fn give_up<D: Device + Drop, G: Gate + Drop, J: Naming>(shared: Shared<D, G, J>)
     drop(shared.abandon());
 }
 
-/// Closes what was shared, once each transcript is in its place.
+/// Closes what was shared, once each script has its transcript.
 fn close<D: Device + Drop, G: Gate + Drop, J: Naming>(
     shared: Shared<D, G, J>,
     passes: Vec<Pass<J>>,
@@ -141,16 +142,16 @@ fn serve_named<
 
 /// Opens a device with so many pages in frames, and serves scripts to it by workers that share its kernel. Each
 /// script is a session of its own, numbered from 1 in the order of the scripts. A worker takes the next script that
-/// no other has taken, and runs it from its first line to its last. One more thread tends the kernel meanwhile. The
+/// no other has taken, and runs it from its first line to its last. One more thread rotates meanwhile. The
 /// thread that calls is one of the workers. A thread that cannot be started is left out.
 ///
 /// A transaction that has to die is taken back, its answers are dropped, and it is run again from its begin. In its
 /// hundredth run the line that makes it die is answered so, and the transaction is aborted. One that is open at its
 /// script's end is aborted, with the line `aborted`. If the device fails, that is the last line of each session.
 ///
-/// If more than half of the log's area is in use, who tends turns the log over. New transactions wait until none
-/// lives, and then go on. So the log of many short transactions does not fill. Nothing else is forced or flushed in the
-/// background: a commit makes its force, and an operation that finds no frame flushes a page.
+/// If more than half of the log's area is in use, who rotates turns the log over. New transactions wait until none is
+/// active, and then go on. So the log of many short transactions does not fill. Nothing else is forced or flushed in
+/// the background: a commit makes its force, and an operation that finds no frame flushes a page.
 ///
 /// There are as many workers as are asked for, of 1 to 64. The gate is called at each point that it wants to see.
 ///
@@ -166,6 +167,7 @@ pub fn serve<D: Device + Drop + Send, G: Gate + Drop + Send + Sync, R: Threads +
     workers: usize,
     gate: G,
 ) -> Result<Served<D>, Refusal>
+    requires frames { IsFrameCount frames }
     ensures outcome { IfOk result (λ s.
         AreReported (is_failed s.kernel) (map lines_in scripts.items) s.transcripts.items (kernel_book s.kernel)) }
     ensures began { IfOk result (λ s. IsServedOn (D.seen device) s.kernel) }

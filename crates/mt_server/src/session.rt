@@ -23,7 +23,7 @@ fn is_begin(line: &Line) -> bool
     matches!(line, Line::Begin)
 }
 
-/// Answers the lines from a place on, between two transactions: a whole transaction, or one line outside of any.
+/// Answers the lines from an index on, between two transactions: a whole transaction, or one line outside of any.
 fn go_from<D: Device, G: Gate + Drop, J: Naming, R: Wait>(
     rt: &R,
     alloc: Global,

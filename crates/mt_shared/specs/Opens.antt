@@ -15,6 +15,7 @@ use Rattle.mt_model.specs.declared.tables.Base.{Base}
 use Rattle.mt_replay.specs.Stands.{CanRestart}
 use Rattle.mt_restart.specs.Recovered.{IsCauseToStop}
 use Rattle.mt_steps.specs.Listed.{IsSame}
+use Rattle.mt_txn.specs.Seen.{KernelSeen}
 use Rattle.mt_txn.specs.Shown.{kernel_frames}
 use Rattle.mt_txn.specs.declared.kernel.Kernel.{Kernel}
 
@@ -39,9 +40,10 @@ abbrev pub HasBegunWith : {D : Type 0} → Ghosts D → ℕ → Base → Type 0
 HasBegunWith {D} g frames base =
     ∥ ((k : Kernel D g) × (kernel_frames k ≡ frames) × BeganOn base k) ∥₁
 
--- which mark it is, the kernel's first base, book and frames, and how many passes there are to be
-pub record OpenedSeen : Type 0 where
+-- which mark it is, its kernel, with its first base, book and frames, and how many passes there are to be
+pub record OpenedSeen (D : Type 0) : Type 0 where
   pub mark : TableId
+  pub kernel : KernelSeen D
   pub base : Base
   pub book : List Committed
   pub frames : ℕ

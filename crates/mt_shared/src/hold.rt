@@ -1,5 +1,5 @@
 // The lock of what is shared, kept from one call of a thread to its next. So it is taken once for a few calls.
-// All others wait meanwhile: a hold ends after 17 calls, and before a thread sleeps.
+// All others wait meanwhile: a hold ends after 18 calls, and before a thread sleeps.
 ghost use Rattle.std.specs.Prelude.{◌≡◌, ◌≢◌, ◌↔◌, None, IfOk, IfErr, OnOk, OnErr, IfSome};
 ghost use Rattle.mt_base.specs.declared.refusal.Refusal.TheVariants.{DeviceFailed, NoMemory, Stranger};
 ghost use Rattle.mt_model.specs.declared.operations.Reply.{Reply};
@@ -356,7 +356,7 @@ impl<'a, D: Device, G: Gate + Drop, J: Naming> Hold<'a, D, G, J> {
         unreachable!()
     }
 
-    /// Commits, and answers the place in the history, from 1. The transaction is durable then, and in the history.
+    /// Commits, and answers the position in the history, from 1. The transaction is durable then, and in the history.
     ///
     /// It waits until the commits before it are entered. If its own is not durable then, it makes force steps until
     /// it is; what others have appended meanwhile is forced with it. Refused: 15 if the token is of another pass,

@@ -7,7 +7,7 @@
 //!
 //! What a pass has seen is legal from the base that the kernel began on, and begins the one history that all see. It
 //! grows by exactly its own commits, each after all that it had seen. What a token was answered is what the book has
-//! at its place. A look is one load of the mark, and takes no lock.
+//! at its position. A look is one load of the mark, and takes no lock.
 //!
 //! Who waits sleeps, and is woken by what may end its wait; a device that fails wakes all. No lock is poisoned:
 //! nothing here can panic.

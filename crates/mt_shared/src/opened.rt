@@ -1,14 +1,17 @@
 // A device or a kernel that becomes one which threads share, with an observer and as many passes as are asked for.
-ghost use Rattle.std.specs.Prelude.{◌≡◌, ◌<◌, ◌^◌, [], ℕ, List, All, IfOk, IfErr, vec_len};
+ghost use Rattle.std.specs.Prelude.{◌≡◌, ◌<◌, ◌^◌, [], ℕ, List, All, IfOk, IfErr, MatchResult, vec_len};
 ghost use Rattle.mt_base.specs.declared.refusal.Refusal.{Refusal};
 ghost use Rattle.mt_mark.specs.Legal.{IsLegal};
 ghost use Rattle.mt_mark.specs.Rule.{dones};
 ghost use Rattle.mt_model.specs.Model.{Base as ModelBase};
 ghost use Rattle.mt_replay.specs.Stands.{CanRestart};
+ghost use Rattle.mt_restart.specs.Frames.{IsFrameCount};
 ghost use Rattle.mt_locked.specs.Began.{BeganOn};
 ghost use Rattle.mt_shared.specs.Opens.{HasBegunWith, IsBaseOf, IsMarked, IsUnshared};
 ghost use Rattle.mt_locked.specs.Seen.{PassSeen};
 ghost use Rattle.mt_locked.specs.Whole.{IsNew};
+ghost use Rattle.mt_core.specs.Seen.{core_device};
+ghost use Rattle.mt_txn.specs.Seen.{seen_of};
 ghost use Rattle.mt_txn.specs.Shown.{kernel_frames};
 ghost use Rattle.mt_txn.specs.Words.{kernel_book};
 
@@ -19,14 +22,14 @@ use mt_disk::Device;
 use mt_locked::{Locked, Naming, Pass, passes_of};
 use mt_mark::{About, End, Seat};
 use mt_model::{Base, Committed};
-use mt_restart::open;
+use mt_restart::open_with_base;
 use mt_txn::Kernel;
 use std::alloc::{AllocError, Global};
 use std::marker::Model;
 use std::snapshot::Snapshot;
 
-/// A kernel with its mark, which has no name yet. Contracts see which mark it is, the base that the kernel began on,
-/// and its book.
+/// A kernel with its mark, which has no name yet. Contracts see which mark it is, the kernel, the base that it began
+/// on, and its book.
 pub struct Opened<D: Device> {
     kernel: Kernel<D>,
     end: End,
@@ -40,13 +43,15 @@ impl<D: Device> Model for Opened<D> {
     ghost use Rattle.mt_locked.specs.Began.{BeganOn};
     ghost use Rattle.mt_locked.specs.Seen.{Beside};
     ghost use Rattle.mt_shared.specs.Opens.{OpenedSeen};
+    ghost use Rattle.mt_txn.specs.Seen.{seen_of};
     ghost use Rattle.mt_txn.specs.Shown.{kernel_frames};
     ghost use Rattle.mt_txn.specs.Words.{kernel_book};
 
-    ghost Value = { OpenedSeen };
+    ghost Value = { OpenedSeen D };
 
     ghost view = { λ o. record {
       mark = o.end.mark;
+      kernel = seen_of o.kernel;
       base = o.end.view.base;
       book = kernel_book o.kernel;
       frames = kernel_frames o.kernel;
@@ -74,6 +79,7 @@ impl<D: Device> Opened<D> {
         ensures ok { IfOk result (λ o. (o.base ≡ base.now) × (o.book ≡ kernel_book kernel)) }
         ensures many { IfOk result (λ o. o.count ≡ count) }
         ensures frames { IfOk result (λ o. o.frames ≡ kernel_frames kernel) }
+        ensures kernel { IfOk result (λ o. o.kernel ≡ seen_of kernel) }
         ensures book { IfErr result (λ k. kernel_book k ≡ kernel_book kernel) }
         ensures began { IfErr result (λ k. BeganOn base.now k) }
         ensures same { IfErr result (λ k. k ≡ kernel) }
@@ -85,7 +91,7 @@ impl<D: Device> Opened<D> {
     }
 
     /// The same under a name, shared, with as many passes as were asked for. Each has seen the book, in which nothing
-    /// is its own. If memory is short, the kernel comes back.
+    /// is its own. If memory is short, the kernel comes back as it was.
     pub fn named<G: Gate + Drop, J: Naming>(
         self,
         alloc: Global,
@@ -96,7 +102,7 @@ impl<D: Device> Opened<D> {
         ensures fresh { IfOk result (λ r. All (IsNew J.book) r.1.items) }
         ensures many { IfOk result (λ r. vec_len r.1 ≡ self.count) }
         ensures opened { IfOk result (λ _. HasBegunWith ⟦<D as Device>⟧ self.frames self.base) }
-        ensures err { IfErr result (λ k. kernel_book k ≡ self.book) }
+        ensures same { IfErr result (λ k. seen_of k ≡ self.kernel) }
         ensures began { IfErr result (λ k. BeganOn self.base k) }
     {
         let Opened { kernel, end, seats } = self;
@@ -110,18 +116,17 @@ impl<D: Device> Opened<D> {
 
 impl<D: Device + Drop> Opened<D> {
     /// Opens a device with so many pages in frames, 32 to 4096. It makes the mark of its kernel, with a seat for each
-    /// of so many passes. The history is empty, and begins on the base that the bytes represented, which a survey
-    /// finds.
+    /// of so many passes. The history is empty, and begins on the base that the bytes represented.
     ///
-    /// Refused as [`open`](mt_restart::open), and with 1 if the survey or the mark finds no memory. A refusal is 2 if
-    /// and only if the device failed in this call. The device is handed back, and represents what it did before,
-    /// unless it failed.
+    /// Refused as [`open_with_base`], and with 1 if the mark finds no memory. A refusal is 2 if and only if the device
+    /// failed in this call. The device is handed back, and represents what it did before, unless it failed.
     pub fn open(
         alloc: Global,
         device: D,
         frames: usize,
         count: usize,
     ) -> Result<Opened<D>, (Refusal, D)>
+        requires frames { IsFrameCount frames }
         requires count { count < 2 ^ 32 }
         ensures base { IfOk result (λ opened. IsBaseOf (D.seen device) opened.base) }
         ensures first { IfOk result (λ opened. opened.book ≡ []) }
@@ -133,18 +138,14 @@ impl<D: Device + Drop> Opened<D> {
         ensures settled { (relations counters : ℕ) (b : ModelBase) → CanRestart relations counters (D.seen device) b
             → IfErr result (λ gone. (gone.0 ≡ Refusal.DeviceFailed → ⊥) → (c : List ℕ) → D.may_leave gone.1 c
             → ∥ CanRestart relations counters c b ∥₁) }
-        ensures quiet { IfErr result (λ gone. (gone.0 ≡ Refusal.DeviceFailed → ⊥)
-            → D.faults gone.1 ≡ D.faults device) }
+        // The device failed in no call of this one, unless it is refused with 2.
+        ensures quiet { MatchResult result (λ opened. D.faults (core_device opened.kernel.core) ≡ D.faults device)
+            (λ gone. (gone.0 ≡ Refusal.DeviceFailed → ⊥) → D.faults gone.1 ≡ D.faults device) }
     {
-        let mut kernel = match open(alloc, device, frames) {
-            Ok(kernel) => kernel,
+        let (kernel, base) = match open_with_base(alloc, device, frames) {
+            Ok(opened) => opened,
             Err((why, device)) => return Err((why, device)),
         };
-        let base = match kernel.survey() {
-            Ok(survey) => survey.base,
-            Err(why) => return Err((why, kernel.into_device())),
-        };
-        base.keeps_bounds();
         match Opened::new(alloc, kernel, &base, count) {
             Ok(opened) => Ok(opened),
             Err(kernel) => Err((Refusal::NoMemory, kernel.into_device())),

@@ -29,7 +29,7 @@ use std::alloc::Global;
 use std::array;
 use std::sync::{Condvar, Mutex, MutexGuard, Wait};
 
-/// At how many places of the book threads that commit are woken one by one. If more of them wait at once, some are
+/// At how many positions of the book threads that commit are woken one by one. If more of them wait at once, some are
 /// woken that go back to sleep.
 const TURNS: usize = 64;
 
@@ -38,9 +38,9 @@ pub struct Shared<D: Device, G: Gate + Drop, J: Naming> {
     pub(crate) locked: Mutex<Locked<D, J>>,
     // on which who waits for an operation, or for a transaction to end, sleeps
     pub(crate) moved: Condvar,
-    // on which who commits sleeps until its turn, by its place in the book
+    // on which who commits sleeps until it is next, by its position in the book
     turns: [Condvar; TURNS],
-    // on which who tends sleeps until the log is to be turned over
+    // on which who rotates sleeps until the log is to be turned over
     due: Condvar,
     pub(crate) gate: G,
     pub(crate) wanted: Wanted,
@@ -75,7 +75,7 @@ impl<D: Device, G: Gate + Drop, J: Naming> Shared<D, G, J> {
         }
     }
 
-    // Where who commits at this place sleeps.
+    // Where who commits at this position sleeps.
     fn turn(&self, place: u64) -> &Condvar {
         &self.turns[(place % TURNS as u64) as usize]
     }
@@ -97,7 +97,7 @@ impl<D: Device, G: Gate + Drop, J: Naming> Shared<D, G, J> {
         why
     }
 
-    // Wakes all that sleep, who tends and who commits too.
+    // Wakes all that sleep, who rotates and who commits too.
     pub(crate) fn wake_all(&self) {
         self.moved.notify_all();
         self.due.notify_all();
@@ -106,7 +106,7 @@ impl<D: Device, G: Gate + Drop, J: Naming> Shared<D, G, J> {
         }
     }
 
-    // A transaction was taken back. Wakes who waits for it, and who tends if the log is to be turned over from now
+    // A transaction was taken back. Wakes who waits for it, and who rotates if the log is to be turned over from now
     // on.
     pub(crate) fn taken_back(&self, mut locked: MutexGuard<'_, Locked<D, J>>) {
         let is_due = locked.stir();
@@ -117,9 +117,9 @@ impl<D: Device, G: Gate + Drop, J: Naming> Shared<D, G, J> {
         }
     }
 
-    // A commit is in the history. Once the lock is free this wakes who commits at the next place, and who waits until
-    // all are in the history. After the last that is durable it also wakes who tends, if the log is to be turned over
-    // from now on.
+    // A commit is in the history. Once the lock is free this wakes who commits at the next position, and who waits
+    // until all are in the history. After the last that is durable it also wakes who rotates, if the log is to be
+    // turned over from now on.
     fn has_entered(&self, mut locked: MutexGuard<'_, Locked<D, J>>, place: u64) {
         let is_due = locked.is_last(place) && locked.stir();
         let is_awaited = locked.holds_back();
@@ -227,7 +227,7 @@ impl<D: Device, G: Gate + Drop, J: Naming> Shared<D, G, J> {
         }
     }
 
-    /// Sleeps until the log is to be turned over, and answers true; false once [`Shared::end_tending`] was called. It
+    /// Sleeps until the log is to be turned over, and answers true; false once [`Shared::end_rotating`] was called. It
     /// is for the thread that then calls [`Shared::turn_over`].
     ///
     /// That is due if more than half of the log's area is in use as a transaction is taken back, or as the last
@@ -246,8 +246,8 @@ impl<D: Device, G: Gate + Drop, J: Naming> Shared<D, G, J> {
     }
 
     /// Ends the sleep of each [`Shared::await_due`], now and from now on. It waits for the lock alone.
-    pub fn end_tending<R: Wait>(&self, rt: &R) {
-        self.locked.lock(rt).end_tending();
+    pub fn end_rotating<R: Wait>(&self, rt: &R) {
+        self.locked.lock(rt).end_rotating();
         self.due.notify_all();
     }
 
@@ -264,7 +264,7 @@ impl<D: Device, G: Gate + Drop, J: Naming> Shared<D, G, J> {
         self.locked.lock(rt).is_half_used()
     }
 
-    /// Commits, and answers the place in the history, from 1, as [`Hold::commit`]. The transaction is durable then,
+    /// Commits, and answers the position in the history, from 1, as [`Hold::commit`]. The transaction is durable then,
     /// and in the history.
     ///
     /// Refused: 15 if the token is of another pass, then as [`Kernel::commit_begin`], and the token comes back. It is
@@ -319,7 +319,7 @@ impl<D: Device, G: Gate + Drop, J: Naming> Shared<D, G, J> {
         unreachable!()
     }
 
-    // Makes a step of a force if the commit at this place is the next to be entered. It waits for its turn before.
+    // Makes a step of a force if the commit at this position is the next to be entered. It waits for its turn before.
     fn come_nearer<'a, R: Wait>(
         &'a self,
         rt: &R,
@@ -375,7 +375,7 @@ impl<D: Device, G: Gate + Drop, J: Naming> Shared<D, G, J> {
     ///
     /// Refused, in this order, with all that was handed in. It is 15 if a pass is missing, 16 if one of them
     /// has a transaction, 2 if a rotation left no kernel. Then 16 if a durable transaction is not in the
-    /// history, or one lives in a kernel that has not failed.
+    /// history, or one is active in a kernel that has not failed.
     pub fn close(self, passes: Vec<Pass<J>>) -> Result<Kernel<D>, Closed<D, G, J>>
         ensures seen { IfOk result (λ k.
             All (λ (p : PassSeen). IsPrefix (dones p.seen) (kernel_book k)) passes.items) }
@@ -440,7 +440,7 @@ impl<D: Device + Drop, G: Gate + Drop, J: Naming> Shared<D, G, J> {
     /// Turns the kernel's log over, while no transaction is active. It waits for the lock alone. The history goes on,
     /// and so do the passes. The kernel then has so many pages in frames.
     ///
-    /// Refused, in this order: 2 if the device has failed; 16 if a transaction lives, or one is durable and not
+    /// Refused, in this order: 2 if the device has failed; 16 if a transaction is active, or one is durable and not
     /// yet in the history. Nothing has changed then. Further as [`mt_restart::rotate`]: 1, 11, 2. The kernel goes on
     /// after 1 and 11. After 2 each later call is refused so, and the device is to be opened again.
     pub fn rotate<R: Wait>(&self, rt: &R, alloc: Global, frames: usize) -> Result<(), Refusal>

@@ -1,6 +1,6 @@
 //! The tests of threads that share a kernel, through public calls of `mt_shared` and `mt_server`. Sixteen of them
 //! commit at once, one sees another's commit while its own transaction is open, and a pass finds what its last
-//! transaction left. Of two scripts that are served one is held while the other commits. Who tends is woken once half
+//! transaction left. Of two scripts that are served one is held while the other commits. Who rotates is woken once half
 //! of the log is used.
 #![tactic(auto)]
 
@@ -9,12 +9,12 @@ mod kernels;
 #[cfg(test)]
 mod looks;
 #[cfg(test)]
+mod rotator;
+#[cfg(test)]
 mod rows;
 #[cfg(test)]
 mod served;
 #[cfg(test)]
 mod sessions;
-#[cfg(test)]
-mod tender;
 #[cfg(test)]
 mod transfers;

@@ -106,7 +106,7 @@ fn used<J: Naming, R: Wait>(rt: &R, shared: &Memory<J>) -> u64 {
     }
 }
 
-// The log is turned over, though not while a transaction lives. Fewer bytes of its area are in use then.
+// The log is turned over, though not while a transaction is active. Fewer bytes of its area are in use then.
 fn turns<J: Naming, R: Wait>(
     rt: &R,
     alloc: Global,

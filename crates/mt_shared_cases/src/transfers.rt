@@ -128,7 +128,7 @@ fn work<J: Naming, R: Wait>(
     }
 }
 
-// Each worker in a thread of its own. Then it is over, and nobody is to tend.
+// Each worker in a thread of its own. Then it is over, and nobody is to rotate.
 fn work_all<J: Naming + Send + Sync, R: Threads + Wait + Sync>(
     rt: &R,
     alloc: Global,
@@ -142,11 +142,11 @@ fn work_all<J: Naming + Send + Sync, R: Threads + Wait + Sync>(
         WORKERS,
         &|number, pass| { work(rt, alloc, shared, pass, (number % WORKERS) as u32, made) },
     );
-    shared.end_tending(rt);
+    shared.end_rotating(rt);
     is_over.store(true, Ordering::SeqCst);
 }
 
-// Forces and flushes while the others work; whether nothing was left to be at the end, and nobody is to tend then.
+// Forces and flushes while the others work; whether nothing was left to be at the end, and nobody is to rotate then.
 fn tends<J: Naming, R: Wait>(rt: &R, shared: &Memory<J>, is_over: &AtomicBool) -> bool {
     for _ in rt.forever() {
         let ends = is_over.load(Ordering::SeqCst);

@@ -3,7 +3,7 @@ use Rattle.std.proofs.Common.{◌≡◌, ℕ, ◌≤◌, ◌==◌, ◌&&◌, ◌
 use Rattle.std.proofs.lemmas.Bool.{and_parts, or_cases}
 use Rattle.std.proofs.lemmas.Bool.Decides.{Decides-eqb}
 use Rattle.mt_base.specs.declared.modes.LockMode.{LockMode}
-use Rattle.mt_base.specs.declared.modes.LockMode.TheVariants.{Read, Write, Add}
+use Rattle.mt_base.specs.declared.modes.LockMode.TheVariants.{Read, Write, Add, Intend}
 use Rattle.mt_model.specs.Locks.{same_mode}
 use Rattle.mt_slock.specs.declared.holders.Holder.{Holder}
 use Rattle.mt_slock.specs.Views.{is_holder, is_among, conflicts, in_order, least_of, IsUnbarred, IsOldestBar}
@@ -29,17 +29,25 @@ pub same_mode-true : (m n : LockMode) → same_mode m n ≡ true → m ≡ n
 same_mode-true Read Read h = refl
 same_mode-true Write Write h = refl
 same_mode-true Add Add h = refl
+same_mode-true Intend Intend h = refl
 same_mode-true Read Write h = absurd cc
 same_mode-true Read Add h = absurd cc
 same_mode-true Write Read h = absurd cc
 same_mode-true Write Add h = absurd cc
 same_mode-true Add Read h = absurd cc
 same_mode-true Add Write h = absurd cc
+same_mode-true Read Intend h = absurd cc
+same_mode-true Write Intend h = absurd cc
+same_mode-true Add Intend h = absurd cc
+same_mode-true Intend Read h = absurd cc
+same_mode-true Intend Write h = absurd cc
+same_mode-true Intend Add h = absurd cc
 
 pub same_mode-self : (m : LockMode) → same_mode m m ≡ true
 same_mode-self Read = refl
 same_mode-self Write = refl
 same_mode-self Add = refl
+same_mode-self Intend = refl
 
 pub eqb_self : (t : ℕ) → (t == t) ≡ true
 eqb_self t = (Decides-eqb t t).1 refl

@@ -3,14 +3,19 @@ use Rattle.std.proofs.Common.{◌≡◌, cond, Bool, true, false, List, [], ◌�
 use Rattle.std.specs.Map.{lookup, lookup_key}
 use Rattle.mt_model.specs.contracts.objects.ObjectPartialEq.TheImpl.{ghosts}
 use Rattle.mt_model.specs.declared.objects.Object.{Object}
-use Rattle.mt_model.specs.declared.objects.Object.TheVariants.{Key, Counter}
+use Rattle.mt_model.specs.declared.objects.Object.TheVariants.{Key, Counter, Relation}
 use Rattle.mt_model.specs.Model.{same_object}
 
 pub same_key : (x y : Object) → ghosts.eq x y ≡ same_object x y
 same_key (Key r k) (Key s l) = refl
 same_key (Key r k) (Counter d) = refl
+same_key (Key r k) (Relation s) = refl
 same_key (Counter c) (Key s l) = refl
 same_key (Counter c) (Counter d) = refl
+same_key (Counter c) (Relation s) = refl
+same_key (Relation r) (Key s l) = refl
+same_key (Relation r) (Counter d) = refl
+same_key (Relation r) (Relation s) = refl
 
 pub same_lookup : {V : Type 0} (x : Object) (es : List (Object × V)) → lookup (ghosts.eq x) es ≡ lookup (same_object x) es
 same_lookup x es = λ i. lookup (λ y. same_key x y i) es

@@ -1,4 +1,5 @@
 pub mod Among
+pub mod Asking
 pub mod Entries
 pub mod Keys
 pub mod Noting

@@ -6,16 +6,15 @@ use Rattle.std.proofs.lemmas.Bool.{and_parts}
 use Rattle.std.proofs.lemmas.List.{take_all}
 use Rattle.std.proofs.lemmas.Option.{slice_get_within, get_or_from_slice_get, slice_get-get_or}
 use Rattle.std.proofs.lemmas.Bool.Decides.{Decides-eqb}
-use Rattle.std.proofs.lemmas.List.Folds.{list_any-append}
 use Rattle.mt_base.specs.contracts.numbers.TxnNoPartialEq.TheImpl.{ghosts}
 use Rattle.mt_base.specs.declared.modes.LockMode.{LockMode}
 use Rattle.mt_model.specs.declared.objects.Object.{Object}
 use Rattle.mt_model.specs.Model.{same_object}
-use Rattle.mt_model.specs.Locks.{Held, same_mode, without_lock}
+use Rattle.mt_model.specs.Locks.{Held, same_mode, without_lock, without_locks}
 use Rattle.mt_model.proofs.Cells.{same-true, same-self}
-use Rattle.mt_slock.specs.declared.notes.Lock.{Lock}
-use Rattle.mt_slock.specs.Noted.{front, EndsWith, or_none, notes_of, is_among_locks, without_locks}
-use Rattle.mt_slock.proofs.Among.{or_false, same_mode-true, same_mode-self}
+use Rattle.mt_model.specs.declared.objects.Lock.{Lock}
+use Rattle.mt_slock.specs.Noted.{front, EndsWith, or_none, notes_of, is_among_locks}
+use Rattle.mt_slock.proofs.Among.{same_mode-true, same_mode-self}
 
 -- the map compares transactions by their numbers
 same_number : (t u : ℕ) → ghosts.eq t u ≡ (t == u)
@@ -86,16 +85,27 @@ front_push ls l =
 
 -- ---- locks that go
 
-one_more_step : (h e n s : Bool) → ((h && not (e && n)) && not (e && s)) ≡ (h && not (e && (n || s)))
-one_more_step false e n s = refl
-one_more_step true false n s = refl
-one_more_step true true true s = refl
-one_more_step true true false s = refl
-
 -- one lock more that goes
-pub without_more : (held : Held) (t : ℕ) (ls : List Lock) (l : Lock) (u : ℕ) (x : Object) (m : LockMode)
-    → without_lock (without_locks held t ls) t l.object l.mode u x m ≡ without_locks held t (ls ++ l ∷ []) u x m
-without_more held t ls l u x m =
-    let is = same_object l.object x && same_mode l.mode m in
-    one_more_step (held u x m) (u == t) (is_among_locks ls x m) is
-    ∙ ap (λ b. held u x m && not ((u == t) && b)) (ap (λ b. is_among_locks ls x m || b) (sym (or_false is)) ∙ sym (list_any-append (λ (k : Lock). same_object k.object x && same_mode k.mode m) ls (l ∷ [])))
+pub without_more : (held : Held) (t : ℕ) (ls : List Lock) (l : Lock)
+    → without_lock (without_locks held t ls) t l.object l.mode ≡ without_locks held t (ls ++ l ∷ [])
+without_more held t [] l = refl
+without_more held t (k ∷ ls) l = without_more (without_lock held t k.object k.mode) t ls l
+
+gone_step : (h e s n : Bool) → ((h && not (e && s)) && not (e && n)) ≡ (h && not (e && (s || n)))
+gone_step false e s n = refl
+gone_step true false s n = refl
+gone_step true true true n = refl
+gone_step true true false n = refl
+
+stays_step : (h e : Bool) → h ≡ (h && not (e && false))
+stays_step false e = refl
+stays_step true true = refl
+stays_step true false = refl
+
+-- those are held that are not among the locks that go
+pub gone_are_among : (held : Held) (t : ℕ) (ls : List Lock) (u : ℕ) (x : Object) (m : LockMode)
+    → without_locks held t ls u x m ≡ (held u x m && not ((u == t) && is_among_locks ls x m))
+gone_are_among held t [] u x m = stays_step (held u x m) (u == t)
+gone_are_among held t (l ∷ ls) u x m =
+    gone_are_among (without_lock held t l.object l.mode) t ls u x m
+    ∙ gone_step (held u x m) (u == t) (same_object l.object x && same_mode l.mode m) (is_among_locks ls x m)

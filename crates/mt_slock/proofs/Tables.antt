@@ -4,17 +4,17 @@ use Rattle.std.proofs.lemmas.Bool.{and_parts, or_cases, not-true, cases_Bool, eq
 use Rattle.std.proofs.lemmas.List.Folds.{list_any-append}
 use Rattle.mt_base.specs.Modes.{granted_together}
 use Rattle.mt_base.specs.declared.modes.LockMode.{LockMode}
-use Rattle.mt_base.specs.declared.modes.LockMode.TheVariants.{Read, Write, Add}
+use Rattle.mt_base.specs.declared.modes.LockMode.TheVariants.{Read, Write, Add, Intend}
 use Rattle.mt_model.specs.declared.objects.Object.{Object}
 use Rattle.mt_model.specs.declared.operations.Op.{Op}
 use Rattle.mt_model.specs.Model.{same_object, object_of, mode_of}
-use Rattle.mt_model.specs.Locks.{Held, no_locks, same_mode, is_lock, with_lock, without_lock, without_holder, IsFree, AreTogether}
+use Rattle.mt_model.specs.Locks.{Held, no_locks, same_mode, is_lock, with_lock, without_lock, with_locks, without_locks, without_holder, HoldsEach, IsFree, AreTogether}
 use Rattle.mt_model.specs.Laws.{AreFree}
 use Rattle.mt_model.proofs.Cells.{same-true, same-self}
-use Rattle.mt_slock.specs.declared.notes.Lock.{Lock}
-use Rattle.mt_slock.specs.Noted.{front, is_among_locks, with_note, without_last, without_notes, without_locks, AreNoted, IsKept}
+use Rattle.mt_model.specs.declared.objects.Lock.{Lock}
+use Rattle.mt_slock.specs.Noted.{front, is_among_locks, with_note, without_last, without_notes, AreNoted, IsKept}
 use Rattle.mt_slock.proofs.Among.{or_false, not_both, same_mode-true, eqb_self}
-use Rattle.mt_slock.proofs.Noting.{front_push}
+use Rattle.mt_slock.proofs.Noting.{front_push, gone_are_among}
 
 -- ---- held together
 
@@ -28,9 +28,16 @@ granted_back Write Add = refl
 granted_back Add Read = refl
 granted_back Add Write = refl
 granted_back Add Add = refl
+granted_back Read Intend = refl
+granted_back Write Intend = refl
+granted_back Add Intend = refl
+granted_back Intend Read = refl
+granted_back Intend Write = refl
+granted_back Intend Add = refl
+granted_back Intend Intend = refl
 
 -- what a lock is, where it is this one
-lock_is : (t : ℕ) (x : Object) (m : LockMode) (u : ℕ) (y : Object) (n : LockMode) → is_lock t x m u y n ≡ true → (u ≡ t) × (x ≡ y) × (m ≡ n)
+pub lock_is : (t : ℕ) (x : Object) (m : LockMode) (u : ℕ) (y : Object) (n : LockMode) → is_lock t x m u y n ≡ true → (u ≡ t) × (x ≡ y) × (m ≡ n)
 lock_is t x m u y n e =
     let p = and_parts (u == t) (same_object x y && same_mode m n) e in
     let q = and_parts (same_object x y) (same_mode m n) p.1 in
@@ -167,7 +174,8 @@ released_step false false n noted = refl
 
 pub released : (held : Held) (notes : ℕ → List Lock) (t : ℕ) → AreNoted held notes → without_locks held t (notes t) ≡ without_holder held t
 released held notes t noted = λ i u y k.
-    released_step (held u y k) (u == t) (is_among_locks (notes t) y k) (λ h e. subst (λ n. is_among_locks (notes n) y k ≡ true) (eqb-true u t e) (noted u y k h)) i
+    (gone_are_among held t (notes t) u y k
+    ∙ released_step (held u y k) (u == t) (is_among_locks (notes t) y k) (λ h e. subst (λ n. is_among_locks (notes n) y k ≡ true) (eqb-true u t e) (noted u y k h))) i
 
 pub kept_released : (held after : Held) (notes then : ℕ → List Lock) (t : ℕ) → after ≡ without_holder held t → then ≡ without_notes notes t → IsKept held notes → IsKept after then
 kept_released held after notes then t e f kept = moved after (without_holder held t) then (without_notes notes t) e f (record {
@@ -188,21 +196,10 @@ held_are_free held t u f g together apart hf hg = by (same_object (object_of f) 
     by true e = inr (together t u (object_of f) (mode_of f) (mode_of g) apart hf (subst (λ y. held u y (mode_of g) ≡ true) (sym (same-true (object_of f) (object_of g) e)) hg))
     by false e = inl (λ same. not_both (same_object (object_of f) (object_of g)) (subst (λ y. same_object (object_of f) y ≡ true) same (same-self (object_of f))) e)
 
--- ---- taken out behind a grant
+-- ---- what a grant of several does, and what takes it back
 
-pub granted_once : (held : Held) (t : ℕ) (x : Object) (m : LockMode) → held t x m ≡ true → with_lock held t x m ≡ held
-granted_once held t x m h = sym (with_held held t x m h)
-
-pub taken_out : (held : Held) (t : ℕ) (x : Object) (m : LockMode) → held t x m ≡ false → without_lock (with_lock held t x m) t x m ≡ held
-taken_out held t x m new = λ i u y k. back (held u y k) (is_lock t x m u y k) (was u y k) i
-  where
-    back : (a b : Bool) → (b ≡ true → a ≡ false) → ((a || b) && not b) ≡ a
-    back true true e = absurd (let h : true ≡ false = e refl in cc)
-    back true false e = refl
-    back false true e = refl
-    back false false e = refl
-
-    was : (u : ℕ) (y : Object) (k : LockMode) → is_lock t x m u y k ≡ true → held u y k ≡ false
-    was u y k is =
-        let p = lock_is t x m u y k is in
-        subst (λ j. held u y j ≡ false) p.2 (subst (λ z. held u z m ≡ false) p.1 (ap (λ n. held n x m) p.0 ∙ new))
+pub granted_once : (held : Held) (t : ℕ) (ls : List Lock) → HoldsEach held t ls → with_locks held t ls ≡ held
+granted_once held t [] each = refl
+granted_once held t (l ∷ ls) each =
+    let one : with_lock held t l.object l.mode ≡ held = sym (with_held held t l.object l.mode each.0) in
+    ap (λ (h : Held). with_locks h t ls) one ∙ granted_once held t ls each.1

@@ -1,33 +1,40 @@
--- What is answered if a lock is asked for, by the locks that were held and those that are held then.
-use Rattle.std.specs.Prelude.{ℕ, ◌≡◌, ◌<◌, true, false, List, None}
-use Rattle.std.specs.Map.{lookup}
-use Rattle.mt_base.specs.declared.modes.LockMode.{LockMode}
+-- What is answered if locks are asked for, by the locks that were held and those that are held then.
+use Rattle.std.specs.Prelude.{ℕ, ◌≡◌, ◌<◌, ◌++◌, ◌∷◌, [], Bool, false, not, cond, List, Option, None, Some}
+use Rattle.mt_base.specs.declared.modes.LockMode.TheVariants.{Intend}
 use Rattle.mt_base.specs.declared.refusal.Refusal.{Refusal}
 use Rattle.mt_base.specs.declared.refusal.Refusal.TheVariants.{NoMemory, Die}
-use Rattle.mt_model.specs.declared.objects.Object.{Object}
-use Rattle.mt_model.specs.Model.{same_object}
-use Rattle.mt_model.specs.Locks.{Held, with_lock, IsFree, IsLeastBar}
-use Rattle.mt_slock.specs.Views.{held_of}
-use Rattle.mt_slock.specs.declared.holders.Holder.{Holder}
-use Rattle.mt_slock.specs.declared.locked.Standing.{Standing}
-use Rattle.mt_slock.specs.declared.locked.Standing.TheVariants.{Barred, Own, Shared, Alone}
+use Rattle.mt_model.specs.declared.objects.Asks.{Asks}
+use Rattle.mt_model.specs.declared.objects.Lock.{Lock}
+use Rattle.mt_model.specs.declared.objects.Object.TheVariants.{Relation}
+use Rattle.mt_model.specs.Model.{intents, locks_in}
+use Rattle.mt_model.specs.Locks.{Held, with_locks, HoldsEach, AreAllFree, IsLeastBarOf}
 use Rattle.mt_slock.specs.declared.table.Asked.{Asked}
 use Rattle.mt_slock.specs.declared.table.Asked.TheVariants.{Granted, Wait}
+use Rattle.mt_slock.specs.declared.table.Fresh.{Fresh}
 
--- granted if nobody is in the way, with whether it was held before; else the oldest that is in the way is younger
-abbrev pub IsAsked : Held → ℕ → Object → LockMode → Asked → Held → Type 0
-IsAsked old t x m (Granted was_held) new = IsFree old t x m × (new ≡ with_lock old t x m) × (was_held ≡ old t x m)
-IsAsked old t x m (Wait h) new = IsLeastBar old t x m h × (t < h) × (new ≡ old)
+-- there is an intent, and the relation was not held so
+abbrev pub is_fresh_intent : Held → ℕ → Option ℕ → Bool
+is_fresh_intent held t None = false
+is_fresh_intent held t (Some r) = not (held t (Relation r) Intend)
 
--- the oldest that is in the way is older; or the lock would be granted, and was not held before
-abbrev pub IsRefused : Held → ℕ → Object → LockMode → Refusal → Type 0
-IsRefused held t x m (Die h) = IsLeastBar held t x m h × (h < t)
-IsRefused held t x m NoMemory = IsFree held t x m × (held t x m ≡ false)
-IsRefused held t x m _ = ⊥
+-- which of the locks asked for were not held before
+pub record MarksFresh (held : Held) (t : ℕ) (a : Asks) (fresh : Fresh) : Type 0 where
+  pub intent : fresh.intent ≡ is_fresh_intent held t a.intent
+  pub object : fresh.object ≡ not (held t a.object a.mode)
 
--- how an object is held, for a transaction that asks for it in a mode
-abbrev pub Stands : List (Object × List Holder) → ℕ → Object → LockMode → Standing → Type 0
-Stands es t x m (Barred u) = IsLeastBar (held_of es) t x m u
-Stands es t x m Own = IsFree (held_of es) t x m × (held_of es t x m ≡ true)
-Stands es t x m Shared = IsFree (held_of es) t x m × (held_of es t x m ≡ false)
-Stands es t x m Alone = IsFree (held_of es) t x m × (lookup (same_object x) es ≡ None)
+-- those locks
+abbrev pub fresh_in : Asks → Fresh → List Lock
+fresh_in a fresh =
+    cond fresh.intent (intents a.intent) [] ++ cond fresh.object (record { object = a.object; mode = a.mode } ∷ []) []
+
+-- all are granted if nobody is in the way of any, with which are fresh; else the oldest that is in the way is younger
+abbrev pub IsAsked : Held → ℕ → Asks → Asked → Held → Type 0
+IsAsked old t a (Granted fresh) new =
+    AreAllFree old t (locks_in a) × (new ≡ with_locks old t (locks_in a)) × MarksFresh old t a fresh
+IsAsked old t a (Wait h) new = IsLeastBarOf old t (locks_in a) h × (t < h) × (new ≡ old)
+
+-- the oldest that is in the way is older; or all would be granted, and not all were held before
+abbrev pub IsRefused : Held → ℕ → Asks → Refusal → Type 0
+IsRefused held t a (Die h) = IsLeastBarOf held t (locks_in a) h × (h < t)
+IsRefused held t a NoMemory = AreAllFree held t (locks_in a) × (HoldsEach held t (locks_in a) → ⊥)
+IsRefused held t a _ = ⊥

@@ -1,11 +1,13 @@
--- What holds of locks that are held together, and of a lock that is taken out again: the statements of the laws.
-use Rattle.std.specs.Prelude.{ℕ, ◌≡◌, ◌≢◌, false, true}
-use Rattle.mt_base.specs.declared.modes.LockMode.{LockMode}
-use Rattle.mt_model.specs.declared.objects.Object.{Object}
+-- What holds of locks that are held together, and of locks that are taken out again: the statements of the laws.
+use Rattle.std.specs.Prelude.{ℕ, ◌≡◌, ◌≢◌, true, List}
+use Rattle.mt_model.specs.declared.objects.Asks.{Asks}
+use Rattle.mt_model.specs.declared.objects.Lock.{Lock}
 use Rattle.mt_model.specs.declared.operations.Op.{Op}
-use Rattle.mt_model.specs.Model.{Base, object_of, mode_of}
-use Rattle.mt_model.specs.Locks.{Held, with_lock, without_lock, AreTogether}
+use Rattle.mt_model.specs.Model.{Base, object_of, mode_of, locks_in}
+use Rattle.mt_model.specs.Locks.{Held, with_locks, without_locks, HoldsEach, AreTogether}
 use Rattle.mt_model.specs.Laws.{DoCommute, StaysIn}
+use Rattle.mt_slock.specs.Answers.{MarksFresh, fresh_in}
+use Rattle.mt_slock.specs.declared.table.Fresh.{Fresh}
 
 abbrev pub HeldOperationsCommute : Type 0
 HeldOperationsCommute =
@@ -13,12 +15,12 @@ HeldOperationsCommute =
     → held t (object_of f) (mode_of f) ≡ true → held u (object_of g) (mode_of g) ≡ true
     → StaysIn b f g → StaysIn b g f → DoCommute b f g
 
--- a lock that is granted, and was not held before, is taken out: the locks are as they were
+-- locks are granted, and those of them that were not held before are taken out: the locks are as they were
 abbrev pub TakingOutGivesBack : Type 0
 TakingOutGivesBack =
-    (held : Held) (t : ℕ) (x : Object) (m : LockMode) → held t x m ≡ false
-    → without_lock (with_lock held t x m) t x m ≡ held
+    (held : Held) (t : ℕ) (a : Asks) (fresh : Fresh) → MarksFresh held t a fresh
+    → without_locks (with_locks held t (locks_in a)) t (fresh_in a fresh) ≡ held
 
--- and if it was held before, the grant changed nothing
+-- and if all were held before, the grant changed nothing
 abbrev pub GrantsOnce : Type 0
-GrantsOnce = (held : Held) (t : ℕ) (x : Object) (m : LockMode) → held t x m ≡ true → with_lock held t x m ≡ held
+GrantsOnce = (held : Held) (t : ℕ) (ls : List Lock) → HoldsEach held t ls → with_locks held t ls ≡ held

@@ -1,12 +1,12 @@
 -- What is noted of each transaction: its locks, in order of grant.
-use Rattle.std.specs.Prelude.{ℕ, ◌≡◌, ◌-◌, ◌==◌, ◌&&◌, ◌++◌, ◌∷◌, [], Bool, true, not, cond, List, Option, None, Some, length, take}
+use Rattle.std.specs.Prelude.{ℕ, ◌≡◌, ◌-◌, ◌==◌, ◌&&◌, ◌++◌, ◌∷◌, [], Bool, true, cond, List, Option, None, Some, length, take}
 use Rattle.std.specs.List.{list_any}
 use Rattle.std.specs.Map.{lookup}
 use Rattle.mt_base.specs.declared.modes.LockMode.{LockMode}
 use Rattle.mt_model.specs.declared.objects.Object.{Object}
 use Rattle.mt_model.specs.Model.{same_object}
 use Rattle.mt_model.specs.Locks.{Held, same_mode, AreTogether}
-use Rattle.mt_slock.specs.declared.notes.Lock.{Lock}
+use Rattle.mt_model.specs.declared.objects.Lock.{Lock}
 
 -- all but the last
 abbrev pub front : List Lock → List Lock
@@ -40,10 +40,6 @@ without_notes notes t = λ u. cond (t == u) [] (notes u)
 -- a lock is among these
 abbrev pub is_among_locks : List Lock → Object → LockMode → Bool
 is_among_locks ls x m = list_any (λ l. same_object l.object x && same_mode l.mode m) ls
-
--- the locks that are held, but for these of a transaction
-abbrev pub without_locks : Held → ℕ → List Lock → Held
-without_locks held t ls = λ u x m. held u x m && not ((u == t) && is_among_locks ls x m)
 
 -- each lock that is held is noted of its holder
 abbrev pub AreNoted : Held → (ℕ → List Lock) → Type 0

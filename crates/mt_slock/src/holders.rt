@@ -8,8 +8,8 @@ use mt_base::{LockMode, TxnNo};
 use std::alloc::{AllocError, Global};
 use std::marker::Model;
 
-// The older of the two, if there are two.
-fn older(one: Option<TxnNo>, other: TxnNo) -> TxnNo
+/// The older of the two, if there are two.
+pub(crate) fn older(one: Option<TxnNo>, other: TxnNo) -> TxnNo
     ensures { result ≡ least_of one other }
 {
     match one {

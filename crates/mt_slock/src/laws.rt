@@ -7,8 +7,8 @@ pub fn held_operations_commute()
     ensures { HeldOperationsCommute }
 {}
 
-/// A lock that is taken out after its grant gives the locks back as they were, if it was not held before. If
-/// it was, the grant changed nothing.
+/// Locks of which those are taken out after the grant that were not held before are as they were. If all were held
+/// before, the grant changed nothing.
 pub fn taking_out_gives_back()
     ensures back { TakingOutGivesBack }
     ensures once { GrantsOnce }

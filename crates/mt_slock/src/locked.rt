@@ -2,31 +2,17 @@
 ghost use Rattle.std.specs.Prelude.{◌≡◌, IfSome, OnOk, OnErr, None, true};
 ghost use Rattle.std.specs.Map.{lookup};
 ghost use Rattle.mt_model.specs.Model.{same_object};
-ghost use Rattle.mt_model.specs.Locks.{no_locks, with_lock, without_lock};
-ghost use Rattle.mt_slock.specs.Answers.{Stands};
+ghost use Rattle.mt_model.specs.Locks.{no_locks, with_lock, without_lock, without_locks};
+ghost use Rattle.mt_slock.specs.Standings.{Stands, StandsIntent, Stand};
 ghost use Rattle.mt_slock.specs.Views.{held_of, HasNoIdle, IsAlone};
-ghost use Rattle.mt_slock.specs.Noted.{without_locks};
 
 use crate::holders::{Holder, Holders};
-use crate::notes::Lock;
+use crate::standings::{Standing, Standings};
 use indexmap::IndexMap;
-use mt_base::{LockMode, TxnNo};
-use mt_model::Object;
+use mt_base::{LockMode, RelNo, TxnNo};
+use mt_model::{Asks, Lock, Object};
 use std::alloc::{AllocError, Global};
 use std::marker::Model;
-
-/// How an object is held, for a transaction that asks for it in a mode.
-#[derive(Clone, Copy, Debug)]
-pub(crate) enum Standing {
-    /// This is the oldest of the other transactions that hold it in a mode that conflicts.
-    Barred(TxnNo),
-    /// The transaction holds it so itself, and nobody is in the way.
-    Own,
-    /// Others hold it, or the transaction does in another mode, and nobody is in the way.
-    Shared,
-    /// Nobody holds it.
-    Alone,
-}
 
 /// The objects that are locked, each with its holders in order of grant.
 #[derive(Drop)]
@@ -67,8 +53,28 @@ impl LockedObjects {
         }
     }
 
-    /// How an object is held, for a transaction that asks for it in this mode.
-    pub(crate) fn standing(&self, txn: TxnNo, object: &Object, mode: LockMode) -> Standing
+    /// How what a transaction asks for is held.
+    pub(crate) fn standings(&self, txn: TxnNo, asks: &Asks) -> Standings
+        ensures { Stand self.now txn asks.now result }
+    {
+        Standings {
+            intent: self.standing_of_intent(txn, asks.intent),
+            object: self.standing(txn, &asks.object, asks.mode),
+        }
+    }
+
+    // How a relation is held, for a transaction that intends to write a row of it; its own if there is none.
+    fn standing_of_intent(&self, txn: TxnNo, intent: Option<RelNo>) -> Standing
+        ensures { StandsIntent self.now txn intent result }
+    {
+        match intent {
+            Some(relation) => self.standing(txn, &Object::Relation(relation), LockMode::Intend),
+            None => Standing::Own,
+        }
+    }
+
+    // How an object is held, for a transaction that asks for it in this mode.
+    fn standing(&self, txn: TxnNo, object: &Object, mode: LockMode) -> Standing
         ensures { Stands self.now txn object.now mode result }
     {
         let Some(holders) = self.holders.get(object) else {

@@ -6,24 +6,15 @@ ghost use Rattle.mt_slock.specs.Noted.{front, notes_of, EndsWith, no_notes, with
 
 use indexmap::IndexMap;
 use mt_base::{LockMode, TxnNo};
-use mt_model::Object;
+use mt_model::{Lock, Object};
 use std::alloc::{AllocError, Global};
 use std::marker::Model;
 
-/// A lock: an object, and the mode in which it is held.
-#[derive(Debug, Drop)]
-pub(crate) struct Lock {
-    pub(crate) object: Object,
-    pub(crate) mode: LockMode,
-}
-
-impl Lock {
-    // Whether it is on this object, in this mode.
-    fn is(&self, object: &Object, mode: LockMode) -> bool
-        ensures { result ≡ (same_object self.now.object object.now && same_mode self.now.mode mode) }
-    {
-        self.object == *object && self.mode == mode
-    }
+// Whether a lock is on this object, in this mode.
+fn is_on(lock: &Lock, object: &Object, mode: LockMode) -> bool
+    ensures { result ≡ (same_object lock.now.object object.now && same_mode lock.now.mode mode) }
+{
+    lock.object == *object && lock.mode == mode
 }
 
 // A copy of an object. The only error is want of memory.
@@ -33,6 +24,7 @@ fn copy_of(object: &Object) -> Result<Object, AllocError>
     match object {
         Object::Key(relation, key) => Ok(Object::Key(*relation, key.try_clone()?)),
         Object::Counter(counter) => Ok(Object::Counter(*counter)),
+        Object::Relation(relation) => Ok(Object::Relation(*relation)),
     }
 }
 
@@ -44,7 +36,7 @@ pub(crate) struct LockList {
 
 impl Model for LockList {
     ghost use Rattle.std.specs.Prelude.{List};
-    ghost use Rattle.mt_slock.specs.declared.notes.Lock.{Lock};
+    ghost use Rattle.mt_model.specs.declared.objects.Lock.{Lock};
 
     ghost Value = { List Lock };
 
@@ -82,7 +74,7 @@ impl LockList {
         ensures { IsTrue result ↔ EndsWith self.now object.now mode }
     {
         match self.list.last() {
-            Some(lock) => lock.is(object, mode),
+            Some(lock) => is_on(lock, object, mode),
             None => false,
         }
     }
@@ -104,7 +96,7 @@ pub(crate) struct Notes {
 
 impl Model for Notes {
     ghost use Rattle.std.specs.Prelude.{ℕ, List};
-    ghost use Rattle.mt_slock.specs.declared.notes.Lock.{Lock};
+    ghost use Rattle.mt_model.specs.declared.objects.Lock.{Lock};
 
     ghost Value = { List (ℕ × List Lock) };
 

@@ -124,14 +124,6 @@ impl Space {
         note_groups(self.groups.as_mut_slice(), self.pages.as_slice());
     }
 
-    /// Whether a page of the device is free.
-    pub fn is_free(&self, page: PageNo) -> bool
-        requires { page < length self.now.0 }
-        ensures { result ≡ is_free self.now page }
-    {
-        self.pages[usize::from(page.get())]
-    }
-
     /// How many pages are free, reserved or not.
     pub fn free(&self) -> u16
         ensures { result ≡ free_of self.now }

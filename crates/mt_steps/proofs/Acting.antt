@@ -1,6 +1,7 @@
 -- What the plans of the record file and of the index make of rows, both together.
 use Rattle.std.proofs.Common.{◌≡◌, ◌≢◌, ◌⊎◌, ⊎_elim, ℕ, ◌<◌, List, length, get_or, None, Some, refl, ap, sym, ◌∙◌, subst, arith, Bool, cond}
 use Rattle.std.proofs.lemmas.Bool.{cases_eq}
+use Rattle.mt_base.specs.declared.limits.TheConstants.{MAX_VALUE_BYTES}
 use Rattle.mt_base.specs.declared.numbers.RecordName.{RecordName}
 use Rattle.mt_slots.specs.Page.{Fits, Row}
 use Rattle.mt_space.specs.Changes.{PageBytes}
@@ -87,11 +88,11 @@ base_same pages b c same h = record {
 
 -- the pages that an insert leaves are as good as before
 pub inserts_good : (relations total : ℕ) (pages mid last : PageBytes) (m : Map) (p s r : ℕ) (k v : List ℕ) → AreRows relations total pages m → m r k ≡ None
-    → Fits relations 1024 (record { relation = r; key = k; value = v }) → Adds pages mid p s (record { relation = r; key = k; value = v }) → StaysFile mid last
+    → Fits relations MAX_VALUE_BYTES (record { relation = r; key = k; value = v }) → Adds pages mid p s (record { relation = r; key = k; value = v }) → StaysFile mid last
     → AreMap total last (alter m r k (Some (record { page = p; slot = s }))) → AreFormed relations total last → IsMap total last → AreRows relations total last (alter m r k (Some (record { page = p; slot = s })))
 inserts_good relations total pages mid last m p s r k v rows none fits adds kept map formed is_map = record {
   file = file_stays mid last kept adds.file;
-  within = within_stays relations 1024 mid last kept (adds.within relations 1024 rows.within fits);
+  within = within_stays relations MAX_VALUE_BYTES mid last kept (adds.within relations MAX_VALUE_BYTES rows.within fits);
   index = map;
   formed = formed;
   named = named_same mid last (alter m r k (Some (record { page = p; slot = s }))) (records_stay mid last kept) (names_put pages mid m p s r k None (Some v) rows.named adds.free (none_lone pages m p s r k rows.named none) adds.puts);
@@ -113,7 +114,7 @@ pub deletes_good : (relations total : ℕ) (pages mid last : PageBytes) (m : Map
     → AreMap total last (alter m r k None) → AreFormed relations total last → IsMap total last → AreRows relations total last (alter m r k None)
 deletes_good relations total pages mid last m n r k v rows is stood drops kept map formed is_map = record {
   file = file_stays mid last kept drops.file;
-  within = within_stays relations 1024 mid last kept (drops.within relations 1024 rows.within);
+  within = within_stays relations MAX_VALUE_BYTES mid last kept (drops.within relations MAX_VALUE_BYTES rows.within);
   index = map;
   formed = formed;
   named = named_same mid last (alter m r k None) (records_stay mid last kept) (names_put pages mid m n.page n.slot r k (Some v) None rows.named stood (name_lone pages m r k n rows.named is) drops.puts);
@@ -151,13 +152,13 @@ same_map pages x y e a = subst (AreNamed pages) (λ i q l. e q l i) a
 
 -- the record stays under its name: the pages are as good as before
 pub updates_good : (relations total : ℕ) (pages last : PageBytes) (m : Map) (n : RecordName) (r : ℕ) (k v w : List ℕ) → AreRows relations total pages m → m r k ≡ Some n
-    → record_in pages n.page n.slot ≡ Some (record { relation = r; key = k; value = v }) → Fits relations 1024 (record { relation = r; key = k; value = w })
+    → record_in pages n.page n.slot ≡ Some (record { relation = r; key = k; value = v }) → Fits relations MAX_VALUE_BYTES (record { relation = r; key = k; value = w })
     → StaysThere pages last n.page n.slot (record { relation = r; key = k; value = w }) → IsMap total last → AreRows relations total last m
 updates_good relations total pages last m n r k v w rows is stood fits stays is_map =
     let leaves = stays_index total pages last m n.page n.slot (record { relation = r; key = k; value = w }) rows.index (record_kind pages n.page n.slot (record { relation = r; key = k; value = v }) stood) stays in
     record {
       file = stays.file;
-      within = stays.within relations 1024 rows.within fits;
+      within = stays.within relations MAX_VALUE_BYTES rows.within fits;
       index = index_stays total pages last m rows.index leaves;
       formed = form_stays relations total pages last m rows.index rows.formed leaves;
       named = same_map last (alter m r k (Some n)) m (alter_same m r k n is) (names_put pages last m n.page n.slot r k (Some v) (Some w) rows.named stood (name_lone pages m r k n rows.named is) stays.puts);
@@ -180,12 +181,12 @@ lone_between pages between m n q t r k v named is stood puts =
     none_lone between (alter m r k None) q t r k (names_put pages between m n.page n.slot r k (Some v) None named stood (name_lone pages m r k n named is) puts) (gone m r k)
 
 pub moves_good : (relations total : ℕ) (pages mid last : PageBytes) (m : Map) (n to : RecordName) (r : ℕ) (k v w : List ℕ) → AreRows relations total pages m → m r k ≡ Some n
-    → record_in pages n.page n.slot ≡ Some (record { relation = r; key = k; value = v }) → Fits relations 1024 (record { relation = r; key = k; value = w })
+    → record_in pages n.page n.slot ≡ Some (record { relation = r; key = k; value = v }) → Fits relations MAX_VALUE_BYTES (record { relation = r; key = k; value = w })
     → Moves pages mid n.page n.slot to.page to.slot (record { relation = r; key = k; value = w }) → StaysFile mid last
     → AreMap total last (alter m r k (Some to)) → AreFormed relations total last → IsMap total last → AreRows relations total last (alter m r k (Some to))
 moves_good relations total pages mid last m n to r k v w rows is stood fits moves kept map formed is_map = record {
   file = file_stays mid last kept moves.adds.file;
-  within = within_stays relations 1024 mid last kept (moves.adds.within relations 1024 (moves.drops.within relations 1024 rows.within) fits);
+  within = within_stays relations MAX_VALUE_BYTES mid last kept (moves.adds.within relations MAX_VALUE_BYTES (moves.drops.within relations MAX_VALUE_BYTES rows.within) fits);
   index = map;
   formed = formed;
   named = named_same mid last (alter m r k (Some to)) (records_stay mid last kept)

@@ -1,6 +1,7 @@
 -- A counters page that changes, and one that is read.
 use Rattle.std.proofs.Common.{◌≡◌, ◌≢◌, ◌⊎◌, inl, inr, ℕ, ◌<◌, ◌+◌, ◌==◌, Bool, true, false, cond, List, length, get_or, refl, ap, sym, ◌∙◌, subst, arith, ℤ}
 use Rattle.std.proofs.lemmas.Bool.{cases_eq, eq-eqb, ne_eqb}
+use Rattle.mt_base.specs.declared.limits.TheConstants.{MAX_VALUE_BYTES}
 use Rattle.mt_base.specs.Ranges.{Torn}
 use Rattle.mt_space.specs.Changes.{PageBytes, replaced}
 use Rattle.mt_space.proofs.Changing.{replaced_here, replaced_other}
@@ -52,7 +53,7 @@ adds_good relations total pages m new rows =
     let kept = file_kept relations total pages m new rows in
     record {
       file = file_stays pages (replaced 2 new pages) kept rows.file;
-      within = within_stays relations 1024 pages (replaced 2 new pages) kept rows.within;
+      within = within_stays relations MAX_VALUE_BYTES pages (replaced 2 new pages) kept rows.within;
       index = index_stays total pages (replaced 2 new pages) m rows.index (leaves relations total pages m new rows);
       formed = form_stays relations total pages (replaced 2 new pages) m rows.index rows.formed (leaves relations total pages m new rows);
       named = named_same pages (replaced 2 new pages) m (records_stay pages (replaced 2 new pages) kept) rows.named;

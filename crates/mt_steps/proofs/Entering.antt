@@ -2,6 +2,7 @@
 use Rattle.mt_steps.proofs.Counted.{StaysCounters, counters_refl, counters_trans, touches_counters, add_counters, row_act}
 use Rattle.std.proofs.Common.{◌≡◌, ◌⊎◌, inl, inr, ℕ, ◌<◌, List, [], ◌∷◌, zero, suc, Option, None, Some, Bool, true, ◌==◌, length, refl, ap, sym, ◌∙◌, subst, arith}
 use Rattle.std.proofs.lemmas.Bool.Decides.{Decides-eqb}
+use Rattle.mt_base.specs.declared.limits.TheConstants.{MAX_VALUE_BYTES}
 use Rattle.mt_base.specs.declared.numbers.RecordName.{RecordName}
 use Rattle.mt_slots.specs.Page.{Row, Fits}
 use Rattle.mt_space.specs.declared.changes.PageChange.{PageChange}
@@ -63,7 +64,7 @@ made_weaker Broken P Q f outcome = outcome
 
 -- both plans together are one act
 pub entered : (relations total : ℕ) (split : Bool) (pages last : PageBytes) (m : Map) (first : List PageChange) (name : RecordName) (r : ℕ) (k v : List ℕ) (reply : Reply) → AreRows relations total pages m → m r k ≡ None
-    → Fits relations 1024 (record { relation = r; key = k; value = v }) → IsPlaced total pages first name (record { relation = r; key = k; value = v })
+    → Fits relations MAX_VALUE_BYTES (record { relation = r; key = k; value = v }) → IsPlaced total pages first name (record { relation = r; key = k; value = v })
     → AreMap total last (alter m r k (Some name)) → Added split total (record { relation = r; key = k; name = name }) (after first pages) last → reply ≡ Done → IsAct relations total pages last (Insert r k v) reply
 entered relations total split pages last m first name r k v reply rows none fits placed map added is =
     row_act relations total pages last (alter m r k (Some name)) (Insert r k v) reply counters (λ b. refl)

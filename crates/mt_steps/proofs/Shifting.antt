@@ -2,6 +2,7 @@
 use Rattle.mt_steps.proofs.Counted.{StaysCounters, counters_refl, counters_trans, touches_counters, stays_counters, amends_counters, row_act}
 use Rattle.std.proofs.Common.{◌≡◌, ◌≢◌, ◌⊎◌, inl, inr, ⊎_elim, ℕ, ◌<◌, List, Option, None, Some, refl, ap, sym, ◌∙◌, subst, arith}
 use Rattle.std.proofs.lemmas.Bool.{cases_eq}
+use Rattle.mt_base.specs.declared.limits.TheConstants.{MAX_VALUE_BYTES}
 use Rattle.mt_base.specs.declared.numbers.RecordName.{RecordName}
 use Rattle.mt_slots.specs.Page.{Row, Fits, row_length}
 use Rattle.mt_space.specs.declared.changes.PageChange.{PageChange}
@@ -85,7 +86,7 @@ moved_map relations total pages m changes n to old row rows moved =
 pub updates_reported : (relations total : ℕ) (pages : PageBytes) (m : Map) (b : Base) (n : RecordName) (r : ℕ) (k v : List ℕ) (reply : Reply) → HoldsRows pages b → record_in pages n.page n.slot ≡ Some (record { relation = r; key = k; value = v }) → reply ≡ Was v → was (b.rows r k) ≡ reply
 updates_reported relations total pages m b n r k v reply held stood outcome = ap was (value_held pages m b n r k v held stood) ∙ sym outcome
 
-pub kept_act : (relations total : ℕ) (pages : PageBytes) (m : Map) (changes : List PageChange) (n : RecordName) (r : ℕ) (k v w : List ℕ) (reply : Reply) → AreRows relations total pages m → m r k ≡ Some n → Fits relations 1024 (record { relation = r; key = k; value = w })
+pub kept_act : (relations total : ℕ) (pages : PageBytes) (m : Map) (changes : List PageChange) (n : RecordName) (r : ℕ) (k v w : List ℕ) (reply : Reply) → AreRows relations total pages m → m r k ≡ Some n → Fits relations MAX_VALUE_BYTES (record { relation = r; key = k; value = w })
     → IsKept pages changes n (record { relation = r; key = k; value = v }) (record { relation = r; key = k; value = w }) → reply ≡ Was v → IsAct relations total pages (after changes pages) (Update r k w) reply
 kept_act relations total pages m changes n r k v w reply rows is fits kept outcome =
     let counters = stays_counters total pages (after changes pages) n.page n.slot (record { relation = r; key = k; value = w }) rows.map (record_kind pages n.page n.slot (record { relation = r; key = k; value = v }) kept.stood) kept.stays in
@@ -94,7 +95,7 @@ kept_act relations total pages m changes n r k v w reply rows is fits kept outco
     (λ b held. updates_base relations total pages (after changes pages) m b n r k v w rows held is kept.stood kept.stays)
     (updates_good relations total pages (after changes pages) m n r k v w rows is kept.stood fits kept.stays counters.map)
 
-pub moved_act : (relations total : ℕ) (pages last : PageBytes) (m : Map) (changes : List PageChange) (n to : RecordName) (r : ℕ) (k v w : List ℕ) (reply : Reply) → AreRows relations total pages m → m r k ≡ Some n → Fits relations 1024 (record { relation = r; key = k; value = w })
+pub moved_act : (relations total : ℕ) (pages last : PageBytes) (m : Map) (changes : List PageChange) (n to : RecordName) (r : ℕ) (k v w : List ℕ) (reply : Reply) → AreRows relations total pages m → m r k ≡ Some n → Fits relations MAX_VALUE_BYTES (record { relation = r; key = k; value = w })
     → IsMoved total pages changes n to (record { relation = r; key = k; value = v }) (record { relation = r; key = k; value = w }) → AreMap total last (alter m r k (Some to)) → ((p : ℕ) → kind (after changes pages) p ≢ 2 → last p ≡ after changes pages p)
     → AreFormed relations total last → reply ≡ Was v → IsAct relations total pages last (Update r k w) reply
 moved_act relations total pages last m changes n to r k v w reply rows is fits moved map others formed outcome =
@@ -129,7 +130,7 @@ moved_act relations total pages last m changes n to r k v w reply rows is fits m
     kept = amends_file mid last space others
 
 -- it moved within its page, and has its name still
-pub moved_here : (relations total : ℕ) (pages : PageBytes) (m : Map) (changes : List PageChange) (n : RecordName) (r : ℕ) (k v w : List ℕ) (reply : Reply) → AreRows relations total pages m → m r k ≡ Some n → Fits relations 1024 (record { relation = r; key = k; value = w })
+pub moved_here : (relations total : ℕ) (pages : PageBytes) (m : Map) (changes : List PageChange) (n : RecordName) (r : ℕ) (k v w : List ℕ) (reply : Reply) → AreRows relations total pages m → m r k ≡ Some n → Fits relations MAX_VALUE_BYTES (record { relation = r; key = k; value = w })
     → IsMoved total pages changes n n (record { relation = r; key = k; value = v }) (record { relation = r; key = k; value = w }) → reply ≡ Was v → IsAct relations total pages (after changes pages) (Update r k w) reply
 moved_here relations total pages m changes n r k v w reply rows is fits moved outcome =
     let both = moved_map relations total pages m changes n n (record { relation = r; key = k; value = v }) (record { relation = r; key = k; value = w }) rows moved in

@@ -2,6 +2,7 @@ pub mod Showing
 pub mod Living
 pub mod Answering
 pub mod Barring
+pub mod Beginning
 pub mod Stepping
 mod Failing
 mod Surveyed

@@ -14,7 +14,7 @@ use Rattle.mt_log.specs.Words.{appended, waiting}
 use Rattle.mt_model.specs.Model.{Base}
 use Rattle.mt_model.specs.declared.operations.Op.{Op}
 use Rattle.mt_pool.specs.declared.flushes.Flushed.{Flushed}
-use Rattle.mt_txn.specs.Causes.{IsFailure, IsFault, abort_cause, begin_cause, call_cause, commit_cause, open_cause, step_cause}
+use Rattle.mt_txn.specs.Causes.{IsFailure, IsFault, IsRefusedAtOnce, abort_cause, begin_cause, call_cause, commit_cause, open_cause, step_cause}
 use Rattle.mt_txn.specs.Events.{AbortsTo, AnswersIn, IsForcedBy, StepsTo}
 use Rattle.mt_txn.specs.Seen.{KernelSeen, ShowsSeen, has_failed_in}
 use Rattle.mt_txn.specs.declared.answers.AbortStepped.{AbortStepped}
@@ -23,7 +23,7 @@ use Rattle.mt_txn.specs.declared.answers.KernelForced.{KernelForced}
 use Rattle.mt_txn.specs.declared.answers.Stepped.{Stepped}
 use Rattle.mt_core.specs.Seen.{core_log}
 
--- Refused with 1, or for this cause; and if there is a cause, it is refused.
+-- Refused with 1 or for this cause; and not answered if there is a cause.
 pub record IsRefusedFor {T : Type 0} (cause : Option Refusal) (result : Result T Refusal) : Type 0 where
   pub may : OnOk result (cause ≡ None)
   pub why : IfErr result (λ why. why ≢ NoMemory → cause ≡ Some why)
@@ -32,12 +32,14 @@ module _ {D : Type 0} where
   -- the transaction is open then, or nothing has changed
   pub record AnswersBegin (k : KernelSeen D) (result : Result ℕ Refusal) (n : KernelSeen D) : Type 0 where
     pub refused : IsRefusedFor (begin_cause (has_failed_in k) k.core) result
+    pub early : (why : Refusal) → begin_cause (has_failed_in k) k.core ≡ Some why → result ≡ Err why
     pub opened : IfOk result (λ txn. SetsState k.core n.core txn (Some Open))
     pub err : OnErr result (n.core ≡ k.core)
 
   -- the commit is appended then, as the last of those under way, whose place in the book is answered; or no record is
   pub record AnswersCommit (k : KernelSeen D) (t : ℕ) (result : Result ℕ Refusal) (n : KernelSeen D) : Type 0 where
     pub refused : IsRefusedFor (commit_cause (has_failed_in k) k.core t) result
+    pub early : IsRefusedAtOnce (commit_cause (has_failed_in k) k.core t) k result n
     pub place : IfOk result (λ place. place ≡ length k.core.book.items + length k.core.commits.items + 1)
     pub queue : OnOk result ((c : Commit) × (c.txn ≡ t) × (c.place ≡ length (appended (core_log n.core)))
         × (n.core.commits.items ≡ k.core.commits.items ++ c ∷ []))
@@ -58,8 +60,7 @@ module _ {D : Type 0} (g : Ghosts D) where
   -- locks, escrow, pages and log are asked if nothing else forbids the call
   pub record AnswersCall (k : KernelSeen D) (t : ℕ) (op : Op) (result : Result Called Refusal)
       (n : KernelSeen D) : Type 0 where
-    pub early : (why : Refusal) → call_cause k.relations k.counters (has_failed_in k) k.core t op ≡ Some why
-        → result ≡ Err why
+    pub early : IsRefusedAtOnce (call_cause k.relations k.counters (has_failed_in k) k.core t op) k result n
     pub answer : call_cause k.relations k.counters (has_failed_in k) k.core t op ≡ None
         → AnswersIn g k.relations k.counters k.core t op result
     pub states : SameStates k.core n.core
@@ -68,6 +69,7 @@ module _ {D : Type 0} (g : Ghosts D) where
   -- what is replied is what the model replies, on the base that the pages hold
   pub record AnswersStep (k : KernelSeen D) (t : ℕ) (result : Result Stepped Refusal) (n : KernelSeen D) : Type 0 where
     pub may : OnOk result (step_cause (has_failed_in k) k.core t ≡ None)
+    pub early : IsRefusedAtOnce (step_cause (has_failed_in k) k.core t) k result n
     pub why : IfErr result (λ why. why ≢ NoMemory
         → (step_cause (has_failed_in k) k.core t ≡ Some why) ⊎ IsFault g k.core n.core why)
     pub stepped : (first : Base) (s : State) → ShowsSeen g first s k → StepsTo (λ z. ShowsSeen g first z n) s t result
@@ -76,6 +78,7 @@ module _ {D : Type 0} (g : Ghosts D) where
   pub record AnswersAbortStep (k : KernelSeen D) (t : ℕ) (result : Result AbortStepped Refusal)
       (n : KernelSeen D) : Type 0 where
     pub may : OnOk result (abort_cause (has_failed_in k) k.core t ≡ None)
+    pub early : IsRefusedAtOnce (abort_cause (has_failed_in k) k.core t) k result n
     pub why : IfErr result (λ why. why ≢ NoMemory
         → (abort_cause (has_failed_in k) k.core t ≡ Some why) ⊎ IsFault g k.core n.core why)
     pub out : result ≡ Ok Ended → (state_in n.core.live.members t ≡ None) × SameStatesBut k.core n.core t

@@ -1,5 +1,5 @@
 -- Which calls a kernel refuses before it asks locks, escrow, pages and log.
-use Rattle.std.specs.Prelude.{ℕ, ℤ, ◌≡◌, ◌⊎◌, ◌<◌, ◌+◌, ◌||◌, ◌&&◌, ◌==◌, nat_lt, nat_le, nat_eq, if◌then◌else◌, Bool, true, false, List, length, Option, Some, None, int_le, pos, neg_ℤ, ⊤}
+use Rattle.std.specs.Prelude.{ℕ, ℤ, ◌≡◌, ◌⊎◌, ◌<◌, ◌+◌, ◌||◌, ◌&&◌, ◌==◌, nat_lt, nat_le, nat_eq, if◌then◌else◌, Bool, true, false, List, length, Option, Some, None, Result, Err, int_le, pos, neg_ℤ, ⊤}
 use Rattle.std.specs.List.{list_any}
 use Rattle.mt_disk.specs.declared.device.Device.{Ghosts}
 use Rattle.mt_base.specs.declared.limits.TheConstants.{MAX_BEGUN, MAX_COMMITS, MAX_KEY_BYTES, MAX_LIVE, MAX_OPERATIONS, MAX_STEP, MAX_VALUE_BYTES, TRANSACTION_LOG_BYTES}
@@ -25,6 +25,10 @@ first_of None later = later
 
 abbrev pub unless : Bool → Refusal → Option Refusal
 unless holds why = if holds then None else Some why
+
+-- If there is a cause, a call is refused for it and for nothing else, and leaves what it was asked of as it was.
+abbrev pub IsRefusedAtOnce : {K T : Type 0} → Option Refusal → K → Result T Refusal → K → Type 0
+IsRefusedAtOnce cause k result n = (why : Refusal) → cause ≡ Some why → (result ≡ Err why) × (n ≡ k)
 
 -- why a transaction cannot begin, if it cannot
 abbrev pub begin_cause : {D : Type 0} → Bool → Core D → Option Refusal

@@ -1,5 +1,5 @@
 -- What a kernel over pages keeps, and what it shows of it.
-use Rattle.std.specs.Prelude.{ℕ, ◌≡◌, List}
+use Rattle.std.specs.Prelude.{ℕ, ◌≡◌}
 use Rattle.mt_disk.specs.declared.device.Device.{Ghosts}
 use Rattle.mt_escrow.specs.Seen.{Escrowed}
 use Rattle.mt_live.specs.Machine.{State}

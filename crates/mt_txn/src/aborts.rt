@@ -8,6 +8,7 @@ ghost use Rattle.mt_live.specs.declared.transactions.TxnState.TheVariants.{Abort
 ghost use Rattle.mt_core.specs.Consistent.{AtPlace};
 ghost use Rattle.mt_core.specs.Work.{most_steps};
 ghost use Rattle.mt_op.specs.declared.scope.OpScope.{OpScope};
+ghost use Rattle.mt_txn.specs.Causes.{IsRefusedAtOnce};
 ghost use Rattle.mt_txn.specs.Effects.{LeavesAbort, MovesAbort};
 ghost use Rattle.mt_txn.specs.Aborted.{StepsAbort};
 ghost use Rattle.mt_txn.specs.Events.{HasAborted};
@@ -139,6 +140,7 @@ impl<D: Device> Kernel<D> {
     /// step may be asked again after 1.
     pub fn abort_step(&mut self, txn: TxnNo) -> Result<AbortStepped, Refusal>
         ensures may { OnOk result (kernel_abort_cause self.old txn ≡ None) }
+        ensures early { IsRefusedAtOnce (kernel_abort_cause self.old txn) self.old result self.new }
         ensures cause { IfErr result (λ why. why ≢ Refusal.NoMemory
             → (kernel_abort_cause self.old txn ≡ Some why)
             ⊎ IsKernelFault self.old self.new why) }
@@ -146,8 +148,6 @@ impl<D: Device> Kernel<D> {
         ensures leaves { LeavesAbort self.old txn result self.new }
         ensures fails { FailsForGood self.old result self.new }
         ensures quiet { TellsEachFault self.old result self.new }
-        ensures unmoved { (why : Refusal) → kernel_abort_cause self.old txn ≡ Some why
-            → self.new ≡ self.old }
         ensures schema { SameSchema self.old self.new }
         ensures restarts { StaysRestarting self.old self.new }
         ensures moments { LeavesFound self.old self.new }

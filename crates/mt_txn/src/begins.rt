@@ -1,5 +1,5 @@
 // The begin of a transaction: its tests, and then the core's begin.
-ghost use Rattle.std.specs.Prelude.{◌≡◌, ◌≢◌, ◌+◌, ◌^◌, IfOk, IfErr, OnOk, OnErr, None, Some};
+ghost use Rattle.std.specs.Prelude.{◌≡◌, ◌≢◌, ◌+◌, ◌^◌, IfOk, IfErr, OnOk, OnErr, None, Some, Err};
 ghost use Rattle.mt_base.specs.declared.refusal.Refusal.{Refusal};
 ghost use Rattle.mt_live.specs.Machine.{State, begun};
 ghost use Rattle.mt_model.specs.Model.{Base};
@@ -23,6 +23,7 @@ impl<D: Device> Kernel<D> {
     pub fn begin(&mut self, session: u32) -> Result<TxnNo, Refusal>
         ensures number { IfOk result (λ txn. txn ≡ self.old.core.live.begun + 1) }
         ensures may { OnOk result (kernel_begin_cause self.old ≡ None) }
+        ensures early { (why : Refusal) → kernel_begin_cause self.old ≡ Some why → result ≡ Err why }
         ensures cause { IfErr result (λ why. why ≢ Refusal.NoMemory
             → kernel_begin_cause self.old ≡ Some why) }
         ensures begun { (first : Base) (s : State) → Shows first s self.old

@@ -1,10 +1,10 @@
 // `Kernel::call`: the causes in their order, and then the call of the core.
-ghost use Rattle.std.specs.Prelude.{◌≡◌, ◌+◌, ◌*◌, None, Some, Err};
-ghost use Rattle.mt_base.specs.declared.refusal.Refusal.{Refusal};
+ghost use Rattle.std.specs.Prelude.{◌≡◌, ◌+◌, ◌*◌, None};
 ghost use Rattle.mt_live.specs.Machine.{State};
 ghost use Rattle.mt_model.specs.Model.{Base};
 ghost use Rattle.mt_core.specs.Work.{CallRuns};
 ghost use Rattle.mt_pool.specs.Views.{pages};
+ghost use Rattle.mt_txn.specs.Causes.{IsRefusedAtOnce};
 ghost use Rattle.mt_txn.specs.Events.{HasCalled, IsAnsweredBy};
 ghost use Rattle.mt_txn.specs.Shown.{FailsForGood, SameSchema, Shows, StaysRestarting, kernel_pool};
 ghost use Rattle.mt_txn.specs.Shown.{LeavesFound};
@@ -28,9 +28,7 @@ impl<D: Device> Kernel<D> {
     /// too few bytes left. If a younger transaction is in the way, it answers [`Called::Wait`]. Refusal 1 is for
     /// want of memory, at the point if it is wanted. In each of these cases nothing of the call is kept.
     pub fn call(&mut self, txn: TxnNo, op: &Op) -> Result<Called, Refusal>
-        ensures early { (why : Refusal)
-            → kernel_call_cause self.old txn op.now ≡ Some why
-            → result ≡ Err why }
+        ensures early { IsRefusedAtOnce (kernel_call_cause self.old txn op.now) self.old result self.new }
         ensures answer { kernel_call_cause self.old txn op.now ≡ None
             → IsAnsweredBy self.old txn op.now result }
         ensures states { StatesStay self.old self.new }
@@ -41,9 +39,6 @@ impl<D: Device> Kernel<D> {
         ensures called { (first : Base) (s : State) → Shows first s self.old
             → HasCalled first s txn op.now result self.new }
         ensures fails { FailsForGood self.old result self.new }
-        ensures unmoved { (why : Refusal)
-            → kernel_call_cause self.old txn op.now ≡ Some why
-            → self.new ≡ self.old }
         ensures schema { SameSchema self.old self.new }
         ensures restarts { StaysRestarting self.old self.new }
         ensures moments { LeavesFound self.old self.new }

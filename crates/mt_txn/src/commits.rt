@@ -5,6 +5,7 @@ ghost use Rattle.mt_live.specs.Machine.{State};
 ghost use Rattle.mt_model.specs.Model.{Base};
 ghost use Rattle.mt_core.specs.Consistent.{OnlyOperations};
 ghost use Rattle.mt_core.specs.Answered.{KeepsAtCommit};
+ghost use Rattle.mt_txn.specs.Causes.{IsRefusedAtOnce};
 ghost use Rattle.mt_txn.specs.Effects.{FlushesPage, KeepsAtForce, LogsCommit};
 ghost use Rattle.mt_txn.specs.Events.{HasForced, IsForcedBy};
 ghost use Rattle.mt_txn.specs.Shown.{FailsForGood, SameSchema, Shows, Stays, StaysRestarting, TellsEachFault, is_failed, kernel_log};
@@ -27,6 +28,7 @@ impl<D: Device> Kernel<D> {
     /// operation of it is unfinished. Then 1 for want of memory. The state is as before.
     pub fn commit_begin(&mut self, txn: TxnNo) -> Result<u64, Refusal>
         ensures may { OnOk result (kernel_commit_cause self.old txn ≡ None) }
+        ensures early { IsRefusedAtOnce (kernel_commit_cause self.old txn) self.old result self.new }
         ensures cause { IfErr result (λ why. why ≢ Refusal.NoMemory
             → kernel_commit_cause self.old txn ≡ Some why) }
         ensures state { Stays self.old self.new }
@@ -35,8 +37,6 @@ impl<D: Device> Kernel<D> {
         ensures logs { LogsCommit self.old txn result self.new }
         ensures keeps { KeepsAtCommit self.old.core self.new.core }
         ensures fails { FailsForGood self.old result self.new }
-        ensures unmoved { (why : Refusal) → kernel_commit_cause self.old txn ≡ Some why
-            → self.new ≡ self.old }
         ensures schema { SameSchema self.old self.new }
         ensures restarts { StaysRestarting self.old self.new }
         ensures moments { LeavesFound self.old self.new }

@@ -2,8 +2,8 @@
 //! and commit or abort. Commits become durable by the steps of a force. Open nested transactions (Weikum 1991) with
 //! escrow (O'Neil 1986).
 //!
-//! Each public call of [`Kernel`] is at most one event of the laws of mt_live, and waits for nobody. `Shows`, in
-//! specs, ties a kernel to a state of these laws.
+//! Each public call of [`Kernel`] is at most one event of the laws of mt_live, but for a force step, which books each
+//! commit that it made durable. None waits for anybody. `Shows`, in specs, ties a kernel to a state of these laws.
 #![tactic(auto)]
 
 mod aborts;

@@ -4,6 +4,7 @@ ghost use Rattle.std.specs.Prelude.{◌≡◌, ◌≢◌, ◌⊎◌, IfErr, OnOk
 ghost use Rattle.mt_base.specs.declared.refusal.Refusal.{Refusal};
 ghost use Rattle.mt_live.specs.Machine.{State};
 ghost use Rattle.mt_model.specs.Model.{Base};
+ghost use Rattle.mt_txn.specs.Causes.{IsRefusedAtOnce};
 ghost use Rattle.mt_txn.specs.Effects.{LeavesStep, MovesStep};
 ghost use Rattle.mt_txn.specs.Work.{IsReportedAs};
 ghost use Rattle.mt_txn.specs.Events.{HasStepped};
@@ -34,6 +35,7 @@ impl<D: Device> Kernel<D> {
     /// step, so no fault is passed over. The state is as before.
     pub fn step(&mut self, txn: TxnNo) -> Result<Stepped, Refusal>
         ensures may { OnOk result (kernel_step_cause self.old txn ≡ None) }
+        ensures early { IsRefusedAtOnce (kernel_step_cause self.old txn) self.old result self.new }
         ensures cause { IfErr result (λ why. why ≢ Refusal.NoMemory
             → (kernel_step_cause self.old txn ≡ Some why)
             ⊎ IsKernelFault self.old self.new why) }
@@ -41,8 +43,6 @@ impl<D: Device> Kernel<D> {
         ensures leaves { LeavesStep self.old result self.new }
         ensures fails { FailsForGood self.old result self.new }
         ensures quiet { TellsEachFault self.old result self.new }
-        ensures unmoved { (why : Refusal) → kernel_step_cause self.old txn ≡ Some why
-            → self.new ≡ self.old }
         ensures schema { SameSchema self.old self.new }
         ensures restarts { StaysRestarting self.old self.new }
         ensures moments { LeavesFound self.old self.new }

@@ -4,6 +4,7 @@ ghost use Rattle.mt_base.specs.declared.refusal.Refusal.{Refusal};
 ghost use Rattle.mt_core.specs.Consistent.{OnlyOperations};
 ghost use Rattle.mt_live.specs.Machine.{State};
 ghost use Rattle.mt_model.specs.Model.{Base};
+ghost use Rattle.mt_txn.specs.Causes.{IsRefusedAtOnce};
 ghost use Rattle.mt_txn.specs.Shown.{FailsForGood, SameSchema, Shows, Stays, StaysRestarting, TellsEachFault, kernel_device, kernel_log, kernel_pool};
 ghost use Rattle.mt_txn.specs.Surveyed.{TellsBase, TellsPages};
 ghost use Rattle.mt_txn.specs.Shown.{LeavesFound};
@@ -24,6 +25,7 @@ impl<D: Device> Kernel<D> {
     /// and 2 if the device fails in this call, so no fault is passed over. The state is as before in any case.
     pub fn survey(&mut self) -> Result<Survey, Refusal>
         ensures may { OnOk result (kernel_survey_cause self.old ≡ None) }
+        ensures early { IsRefusedAtOnce (kernel_survey_cause self.old) self.old result self.new }
         ensures cause { IfErr result (λ why. why ≢ Refusal.NoMemory
             → (kernel_survey_cause self.old ≡ Some why)
             ⊎ IsKernelFault self.old self.new why) }

@@ -96,7 +96,7 @@ pub record HasBegun {D : Type 0} {g : Ghosts D} (s : Schema) (device : D) (k : K
   pub since : FindsSince formatted (schema_base s) k
 
 -- A device is formatted by the schema, and a kernel is opened on it at the first base; or the device is handed back.
-pub record BeginsOn {D : Type 0} {g : Ghosts D} (s : Schema) (device : D)
+pub record BeginsOnFormatted {D : Type 0} {g : Ghosts D} (s : Schema) (device : D)
     (r : Result (Kernel D g) (Refusal × D)) : Type 0 where
   pub shows : IfOk r (Shows (schema_base s) (start (schema_base s)))
   pub restarts : IfOk r (Restarts (schema_base s))

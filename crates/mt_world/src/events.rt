@@ -35,7 +35,7 @@ pub enum Answer {
     Called(Called),
     /// What the operation's step came to.
     Stepped(Stepped),
-    /// The commit has this place in the opening's order, once its record is durable.
+    /// The commit has this position in the opening's order, once its record is durable.
     Committing(u64),
     /// The transaction is to be undone.
     Aborting,

@@ -7,7 +7,7 @@ ghost use Rattle.mt_live.specs.Machine.{start};
 ghost use Rattle.mt_format.specs.Schemas.{counters_in, device_bytes, relations_in, schema_base};
 ghost use Rattle.mt_txn.specs.Shown.{Restarts, Shows};
 ghost use Rattle.mt_model.specs.Model.{Base};
-ghost use Rattle.mt_world.specs.Crashes.{BeginsOn, BeginsOrStands, FindsSince, FoundFromFormat, FoundTo};
+ghost use Rattle.mt_world.specs.Crashes.{BeginsOnFormatted, BeginsOrStands, FindsSince, FoundFromFormat, FoundTo};
 ghost use Rattle.mt_world.specs.Schedules.{HasRunTo, IsOfSchema};
 ghost use Rattle.mt_txn.specs.Words.{kernel_relations, kernel_counters};
 
@@ -52,7 +52,7 @@ pub(crate) fn begin_on<D: Device + Drop>(
     device: D,
     schema: &Schema,
 ) -> Result<Kernel<D>, (Refusal, D)>
-    ensures { BeginsOn schema.now device result }
+    ensures { BeginsOnFormatted schema.now device result }
 {
     let mut device = device;
     match format(&mut device, schema) {
@@ -67,9 +67,9 @@ pub(crate) fn begin_on<D: Device + Drop>(
 /// Whatever the events, what ended acted once on the model, in the order of the ends. The committed transactions
 /// replied as they do alone, in the order of the commits. What stands of the others is explained, whoever of them is
 /// struck out (Weikum 1991, O'Neil 1986). An event of a transaction that is not there is answered with 15; once an
-/// event was refused with 2, each later one is. A rotation while a transaction lives is refused with 16. The kernel
-/// goes on after one that is refused with that, with 1 or with 11. If the device fails in one after its force, no kernel
-/// stands, and the device is to be opened again.
+/// event was refused with 2, each later one is. A rotation while a transaction is active is refused with 16. The kernel
+/// goes on after one that is refused with that, with 1 or with 11. If the device fails in one after its force, no
+/// kernel stands, and the device is to be opened again.
 ///
 /// A crash while the device is formatted leaves what [`format`] says. Whatever a crash leaves from then on can be
 /// restarted from. A restart finds what some of the first commits lead to, with all that were acknowledged by then.

@@ -19,7 +19,7 @@ returns-then-not-wants_memory-clause-backed g c = λ p start.
     let e = c.abort_step-answer.ensures in
     let stood = c.loop.invariant.goes p start in
     back_from p c.args.txn c.args.kernel.now c.loop.kernel c.abort_step-answer.new.self c.abort_step-answer.result stood.1
-    (asked_back p c.args.txn c.loop.kernel c.abort_step-answer.new.self c.abort_step-answer.result (pages c.loop.kernel.core.operations.store.pool) stood.0 (λ is. absurd (let no : false ≡ true = sym c.if-abort_wants_frame.false ∙ c.abort_wants_frame.ensures.1 is in cc)) e.aborted e.leaves.states e.moves.work e.moves.other e.cause e.unmoved)
+    (asked_back p c.args.txn c.loop.kernel c.abort_step-answer.new.self c.abort_step-answer.result (pages c.loop.kernel.core.operations.store.pool) stood.0 (λ is. absurd (let no : false ≡ true = sym c.if-abort_wants_frame.false ∙ c.abort_wants_frame.ensures.1 is in cc)) e.aborted e.leaves.states e.moves.work e.moves.other e.cause (λ w is. (e.early w is).1))
 
 pub loop-preserved : goal.loop-preserved
 loop-preserved g c =

@@ -19,7 +19,7 @@ returns-then-not-wants_memory-clause-moved g c = λ p calls op start.
     let e = c.step-answer.ensures in
     let stood = c.loop.invariant.stands p calls op start in
     asked_from p c.args.txn calls op c.args.kernel.now c.loop.kernel c.step-answer.new.self c.step-answer.result stood.1
-    (asked p c.args.txn calls op c.loop.kernel c.step-answer.new.self c.step-answer.result (pages c.loop.kernel.core.operations.store.pool) stood.0 (λ is. absurd (let no : false ≡ true = sym c.if-wants_frame.false ∙ c.wants_frame.ensures.1 is in cc)) e.stepped e.leaves.states e.moves.work e.moves.other e.cause e.unmoved)
+    (asked p c.args.txn calls op c.loop.kernel c.step-answer.new.self c.step-answer.result (pages c.loop.kernel.core.operations.store.pool) stood.0 (λ is. absurd (let no : false ≡ true = sym c.if-wants_frame.false ∙ c.wants_frame.ensures.1 is in cc)) e.stepped e.leaves.states e.moves.work e.moves.other e.cause (λ w is. (e.early w is).1))
 
 pub loop-preserved : goal.loop-preserved
 loop-preserved g c =

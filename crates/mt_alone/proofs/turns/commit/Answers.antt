@@ -21,4 +21,4 @@ pub returns-in-Err-clause-answers : goal.returns-in-Err-clause-answers
 returns-in-Err-clause-answers g c = λ p (calls, under, o).
     let D = g.D.Device in
     let e = c.in-Err.ensures in
-    rw c.refused.ensures (commit_refused p c.args.kernel.now c.commit_begin.new.self c.args.txn calls c.in-Err.refusal under o e.state e.logs.err.0 e.cause e.unmoved)
+    rw c.refused.ensures (commit_refused p c.args.kernel.now c.commit_begin.new.self c.args.txn calls c.in-Err.refusal under o e.state e.logs.err.0 e.cause (λ w is. (e.early w is).1))

@@ -1,8 +1,10 @@
-use Rattle.std.proofs.Common.{arith}
+use Rattle.std.proofs.Common.{◌<◌, List, arith, length, subst}
 use Rattle.std.proofs.KnownBytes.{Keeps-refl}
 use Rattle.std.proofs.lemmas.List.{length-map}
 use Rattle.mt_folder.proofs.FolderLemmas.{lent_and_back}
 use Rattle.mt_script.specs.Scripts.{lines_in}
+use Rattle.mt_script.specs.declared.reader.Script.{Script}
+use Rattle.mt_base.specs.declared.limits.TheConstants.{MAX_SESSIONS}
 use Rattle.mt_cli.proofs.AtOnceLemmas.{unreported_at_once}
 use Rattle.mt_cli.specs.Serves.{let_go, no_device_at_once, too_many_at_once}
 use Rattle.mt_cli.proofs.at_once.serve_file_at_once.Goals as goal
@@ -11,9 +13,10 @@ pub returns-in-Err-clause-unserved : goal.returns-in-Err-clause-unserved
 returns-in-Err-clause-unserved g c =
     no_device_at_once c.in-Err.refusal (rw c.as_str-name.ensures.value at c.in-Err.ensures.cause) c.in-Err.ensures.err (Keeps-refl (g.O.Write.contents c.args.out.now))
 
-pub returns-then-len-gt-MAX_SESSIONS-clause-unserved : goal.returns-then-len-gt-MAX_SESSIONS-clause-unserved
-returns-then-len-gt-MAX_SESSIONS-clause-unserved g c =
-    too_many_at_once (omega (arith, length-map c.args.scripts.items lines_in, c.if-len-gt-MAX_SESSIONS.true))
+pub returns-then-are_too_many-clause-unserved : goal.returns-then-are_too_many-clause-unserved
+returns-then-are_too_many-clause-unserved g c =
+    let many : MAX_SESSIONS < length c.args.scripts.items = subst (λ (scripts : List Script). MAX_SESSIONS < length scripts) c.deref.ensures.value (rw c.if-are_too_many.true at c.are_too_many.ensures) in
+    too_many_at_once (omega (arith, length-map c.args.scripts.items lines_in, many))
     (lent_and_back _ _ _ _ _ c.in-Ok.ensures.held c.in-Ok.ensures.lent c.back.ensures) (Keeps-refl (g.O.Write.contents c.args.out.now))
 
 pub returns-in-Ok-serve_over_at_once-clause-unserved : goal.returns-in-Ok-serve_over_at_once-clause-unserved

@@ -19,13 +19,6 @@ returns-in-Ok-clause-opened g c = λ relations counters b can.
     opened_as c.only_own_pages_matter.ensures relations counters c.args.frames b r.restored.pages.items r.beside c.kernel_over.result e.recovered.beside (e.shows relations counters b can)
     (λ holds. c.kernel_over.ensures.opened b holds (base_in_bounds relations counters (g.D.Device.seen c.args.device) b can))
 
-pub returns-in-Ok-clause-begins : goal.returns-in-Ok-clause-begins
-returns-in-Ok-clause-begins g c =
-    let items = c.in-Ok.recovered.restored.pages.items in let checked = c.in-Ok.ensures.recovered.checked in
-    let based = base_of_good checked.relations checked.counters (length items) (bytes_of items) checked.good in
-    let o = c.kernel_over.ensures.opened based.0 based.1 based.2 in
-    (based.0, record { relations_are = refl; counters_are = refl; shows = o.shows; restarts = o.restarts })
-
 pub returns-in-Ok-clause-restored : goal.returns-in-Ok-clause-restored
 returns-in-Ok-clause-restored g c =
     let items = c.in-Ok.recovered.restored.pages.items in let x = c.in-Ok.ensures in
@@ -56,15 +49,8 @@ pub returns-in-Ok-clause-stands : goal.returns-in-Ok-clause-stands
 returns-in-Ok-clause-stands g c = λ relations counters b can x left.
     c.recover.ensures.settled relations counters b can (not_refused c.recover.result c.in-Ok.recovered Refusal.DeviceFailed c.in-Ok.is) x (subst (λ (d : _). g.D.Device.may_leave d x) c.kernel_over.ensures.device left)
 
-pub returns-in-Err-clause-settled : goal.returns-in-Err-clause-settled
-returns-in-Err-clause-settled g c = λ relations counters b can not.
-    c.recover.ensures.settled relations counters b can (refused_so c.recover.result c.in-Err.refusal Refusal.DeviceFailed c.in-Err.is not)
-
 pub returns-in-Err-clause-moments : goal.returns-in-Err-clause-moments
 returns-in-Err-clause-moments g c = c.recover.ensures.moments
-
-pub returns-in-Err-clause-never_full : goal.returns-in-Err-clause-never_full
-returns-in-Err-clause-never_full g c = λ s formatted. never_full c.slots_are_read_back.ensures s (g.D.Device.seen c.args.device) (g.D.Device.faults c.args.device < g.D.Device.faults c.recover.new.device) c.in-Err.refusal formatted c.in-Err.ensures.cause
 
 pub returns-in-Ok-clause-quiet : goal.returns-in-Ok-clause-quiet
 returns-in-Ok-clause-quiet g c = ap g.D.Device.faults c.kernel_over.ensures.device ∙ c.recover.ensures.quiet (not_refused c.recover.result c.in-Ok.recovered Refusal.DeviceFailed c.in-Ok.is)
@@ -77,3 +63,15 @@ returns-in-Ok-clause-once g c = λ slot rules. c.kernel_over.ensures.ruling ∙ 
 
 pub returns-in-Ok-clause-frames : goal.returns-in-Ok-clause-frames
 returns-in-Ok-clause-frames g c = c.kernel_over.ensures.frames c.args.frames c.in-Ok.ensures.recovered
+
+pub returns-in-Err-clause-refused : goal.returns-in-Err-clause-refused
+returns-in-Err-clause-refused g c =
+    let D = g.D.Device in let d = c.args.device in let e = c.in-Err.ensures in let why = c.in-Err.refusal in
+    record {
+      cause = e.cause;
+      unformatted = e.unformatted;
+      left = e.no_other_refusal;
+      formatted = λ s formatted. never_full c.slots_are_read_back.ensures s (D.seen d) (D.faults d < D.faults c.recover.new.device) why formatted e.cause;
+      unwritten = λ not. (e.reads not).same;
+      settled = λ relations counters b can not. c.recover.ensures.settled relations counters b can (refused_so c.recover.result why Refusal.DeviceFailed c.in-Err.is not);
+    }

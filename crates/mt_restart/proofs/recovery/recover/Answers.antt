@@ -2,7 +2,7 @@ use Rattle.std.proofs.Common.{rules, ◌∙◌, ◌<◌, ap, inl, inr, ℕ, List
 use Rattle.std.proofs.lemmas.Result.{err_from_is_err_and}
 use Rattle.mt_replay.specs.Stands.{CanRestart}
 use Rattle.mt_restart.specs.Found.{HasTurned}
-use Rattle.mt_restart.specs.Recovered.{AreRestored, IsCauseToStop}
+use Rattle.mt_restart.specs.Recovered.{AreRestored, IsCauseToStop, SaysUnformatted}
 use Rattle.mt_base.specs.declared.refusal.Refusal.{Refusal}
 use Rattle.mt_restart.proofs.Refusals.{not_either}
 use Rattle.mt_log.specs.Masters.{IsRuling}
@@ -33,6 +33,8 @@ returns-in_err-found g c = record {
   cause = let D = g.D.Device in let p = err_from_is_err_and c.from_residual-in_err-found.result c.from_residual-in_err-found.ensures.1 in let new = c.find.new.device in
       rw (p.1, p.2) (subst (λ (n : ℕ). IsCauseToStop (D.seen c.args.device.now) (n < D.faults new) c.in_err-found.field-0.0) (c.in_ok-sync.ensures.cause.quiet refl)
       (subst (λ (x : List ℕ). IsCauseToStop x (D.faults c.sync.new.self < D.faults new) c.in_err-found.field-0.0) c.sync.ensures.seen c.in_err-found.ensures.cause));
+  unformatted = let p = err_from_is_err_and c.from_residual-in_err-found.result c.from_residual-in_err-found.ensures.1 in
+      rw (p.1, p.2) (subst (λ (x : List ℕ). SaysUnformatted x c.in_err-found.field-0.0) c.sync.ensures.seen c.in_err-found.ensures.unformatted);
   quiet = let p = err_from_is_err_and c.from_residual-in_err-found.result c.from_residual-in_err-found.ensures.1 in
       rw (p.1, p.2) (λ not. c.in_err-found.ensures.quiet (not_either c.in_err-found.field-0.0 Refusal.DeviceFailed not) ∙ c.in_ok-sync.ensures.cause.quiet refl);
 }
@@ -64,6 +66,8 @@ returns-in_err-log g c = record {
       let fault = c.in_err-log.ensures.cause in
       let more : old < new = subst (λ (n : ℕ). n < new) (c.in_ok-found.ensures.quiet (λ e. cc) ∙ c.in_ok-sync.ensures.cause.quiet refl) fault.1 in
       rw (p.1, p.2) (subst (IsCauseToStop (D.seen c.args.device.now) (old < new)) (sym fault.0) (inl more));
+  unformatted = let p = err_from_is_err_and c.from_residual-in_err-log.result c.from_residual-in_err-log.ensures.1 in
+      rw (p.1, p.2) (λ none. inr c.in_err-log.ensures.cause.0);
   quiet = let p = err_from_is_err_and c.from_residual-in_err-log.result c.from_residual-in_err-log.ensures.1 in
       rw (p.1, p.2) (λ not. absurd (not (ap Err c.in_err-log.ensures.cause.0)));
 }
@@ -100,5 +104,6 @@ returns g c = record {
       c.deref.result.now c.deref.ensures.value c.turn.new.device c.turn.ensures.moments;
   reads = search rules;
   cause = search rules;
+  unformatted = search rules;
   quiet = λ not. c.in_ok-log.ensures.quiet ∙ c.in_ok-found.ensures.quiet (λ e. cc) ∙ c.in_ok-sync.ensures.cause.quiet refl;
 }

@@ -1,9 +1,9 @@
-use Rattle.std.proofs.Common.{◌∙◌, ◌<◌, ap, arith, inr, refl, subst, sym}
+use Rattle.std.proofs.Common.{[], ◌∙◌, ◌<◌, ap, append-nil, arith, inr, refl, subst, sym}
 use Rattle.std.proofs.Props.{props}
 use Rattle.std.proofs.lemmas.Int.{ints}
 use mathlib.Core.Logic.{∥∥₁_elim, ∥∥₁_map, ∥∥₁_prop}
 use Rattle.mt_base.specs.declared.refusal.Refusal.{Refusal}
-use Rattle.mt_log.specs.Words.{appended}
+use Rattle.mt_log.specs.Words.{appended, durable}
 use Rattle.mt_log.specs.Masters.{IsRuling}
 use Rattle.mt_model.specs.History.{after}
 use Rattle.mt_model.specs.Model.{Base}
@@ -71,6 +71,11 @@ returns-in-DeviceFailed-clause-rotated g c =
       refl,
       record {
         may = early_none k c.requires.well c.requires.nobody;
+        forced = (
+          k,
+          record { well = c.requires.well; nobody = c.requires.nobody; forced = c.requires.forced; grows = ([], sym (append-nil (durable k.core.operations.store.log))); ruling = refl },
+          refl,
+        );
         failed = let failed : D.faults d < D.faults e = fault_cause D d e c.in-Err.refusal c.in-DeviceFailed.is c.in-Err.ensures.cause in
             let was = ap D.faults (device_was k rest d is) in let now = ap D.faults c.part-device-in-DeviceFailed.ensures.device in omega (arith, failed, was, now);
       },

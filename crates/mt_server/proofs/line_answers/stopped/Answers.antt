@@ -1,3 +1,4 @@
+use Rattle.std.proofs.lemmas.Result.{IfErr-weaker}
 use Rattle.mt_server.proofs.HearingLemmas.{lets_live, stops_behind, reported_refused}
 use Rattle.mt_server.specs.Hearing.{Turning}
 use Rattle.mt_script.specs.declared.lines.Line.TheVariants as line
@@ -14,4 +15,5 @@ pub returns-in_default : goal.returns-in_default
 returns-in_default g c = record {
   turns = λ op may. reported_refused g.J.Naming.base c.args.txn c.args.pass.now c.requires.own (line.Call op) c.args.why _ _ c.refused.new.pass c.refused.result (lets_live c.args.why c.in_default.not-Die c.in_default.not-DeviceFailed, may) c.refused.ensures.tells;
   lives = λ never. c.refused.ensures.lives;
+  dies = IfErr-weaker c.refused.result _ _ (λ outcome alive died. absurd (alive died)) c.refused.ensures.lives;
 }

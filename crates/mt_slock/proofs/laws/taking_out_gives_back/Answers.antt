@@ -1,4 +1,5 @@
-use Rattle.mt_slock.proofs.Tables.{taken_out, granted_once}
+use Rattle.mt_slock.proofs.Tables.{granted_once}
+use Rattle.mt_slock.proofs.Asking.{taken_out}
 use Rattle.mt_slock.proofs.laws.taking_out_gives_back.Goals as goal
 
 pub returns-clause-back : goal.returns-clause-back

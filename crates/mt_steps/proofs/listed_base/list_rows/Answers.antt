@@ -1,4 +1,5 @@
 use Rattle.std.proofs.Common.{◌≡◌, ◌+◌, ℕ, List, length, ap, arith, refl, subst, sym, ◌∙◌}
+use Rattle.mt_base.specs.declared.limits.TheConstants.{MAX_VALUE_BYTES}
 use Rattle.mt_model.specs.Model.{Base}
 use Rattle.mt_model.specs.Views.{base_of, counters_of, relations_of}
 use Rattle.mt_slots.specs.Page.{Fits, Row, count, slot}
@@ -9,7 +10,7 @@ use Rattle.mt_steps.proofs.listed_base.list_rows.Goals.{in-Some+in_ok-list_row, 
 pub list_row-requires : goal.list_row-requires
 list_row-requires c =
     let row : Row = record { relation = c.in-Some.row.relation; key = c.in-Some.row.key.now; value = c.in-Some.row.value.now } in
-    record { fits = subst (λ (n : ℕ). Fits n 1024 row) (sym c.loop-slot.invariant.relations) (c.requires.page.within c.loop-slot.slot row c.in-Some.ensures.found) }
+    record { fits = subst (λ (n : ℕ). Fits n MAX_VALUE_BYTES row) (sym c.loop-slot.invariant.relations) (c.requires.page.within c.loop-slot.slot row c.in-Some.ensures.found) }
 
 pub loop-slot-init : goal.loop-slot-init
 loop-slot-init c = record {

@@ -1,4 +1,5 @@
 use Rattle.std.proofs.Common.{◌≡◌, ◌<◌, ◌∙◌, inl, inr, ⊎_elim, length, sym, subst}
+use Rattle.std.proofs.lemmas.Result.{IfErr-weaker}
 use Rattle.mt_base.specs.declared.refusal.Refusal.{Refusal}
 use Rattle.mt_base.specs.declared.refusal.Refusal.TheVariants as refusal
 use Rattle.mt_disk.proofs.Frame.{leaves_more}
@@ -27,8 +28,9 @@ returns-in-Ok g c =
       begun = begun_of s c.args.device c.format.new.device c.open.result (has_formatted g c) opened moments;
       err = left_of s c.args.device c.format.new.device c.open.result (has_formatted g c) moments;
       cause = cause_of (D.seen c.format.new.device) c.args.device c.format.new.device c.open.result (λ (why : Refusal). (why ≡ refusal.BadLength) × (length (D.seen c.args.device) < device_bytes s)) c.in-Ok.ensures.quiet
-          (c.open.ensures.no_other_refusal (relations_in s) (length (counters_in s)) (schema_base s) stands) (c.open.ensures.never_full s c.in-Ok.ensures.formatted) c.open.ensures.cause;
-      short = long_of c.args.device c.open.result (c.open.ensures.no_other_refusal (relations_in s) (length (counters_in s)) (schema_base s) stands);
+          (IfErr-weaker c.open.result _ _ (λ gone x. x.left (relations_in s) (length (counters_in s)) (schema_base s) stands) c.open.ensures.refused) (IfErr-weaker c.open.result _ _ (λ gone x. x.formatted s c.in-Ok.ensures.formatted) c.open.ensures.refused)
+          (IfErr-weaker c.open.result _ _ (λ gone x. x.cause) c.open.ensures.refused);
+      short = long_of c.args.device c.open.result (IfErr-weaker c.open.result _ _ (λ gone x. x.left (relations_in s) (length (counters_in s)) (schema_base s) stands) c.open.ensures.refused);
     }
 
 pub returns-in-Err : goal.returns-in-Err

@@ -1,7 +1,7 @@
 use Rattle.std.proofs.Common.{◌∙◌, ap}
 use Rattle.mt_model.specs.Views.{base_of}
 use Rattle.mt_locked.proofs.Keeping.{aborts_one}
-use Rattle.mt_locked.proofs.Standings.{asked, goes_on}
+use Rattle.mt_locked.proofs.Standings.{asked, at_once, goes_on}
 use Rattle.mt_locked.specs.Seen.{LockedSeen}
 use Rattle.mt_locked.proofs.locked.Locked.abort_step.Goals as goal
 
@@ -16,7 +16,7 @@ pub returns-clause-kernel : goal.returns-clause-kernel
 returns-clause-kernel g c =
     let D = g.D.Device in let e = c.abort_step.ensures in
     asked c.self.inside.standing c.in-Stands.kernel c.abort_step.new.self c.self.inside.end.view.list _ _ _ c.in-Stands.is c.self.view_is
-    (record { may = e.may; why = e.cause; out = e.leaves.out; aborted = e.aborted })
+    (record { may = e.may; early = at_once _ _ _ _ e.early; why = e.cause; out = e.leaves.out; aborted = e.aborted })
 
 pub returns-clause-book : goal.returns-clause-book
 returns-clause-book g c =

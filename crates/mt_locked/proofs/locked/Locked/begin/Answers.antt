@@ -16,7 +16,7 @@ pub returns-clause-kernel : goal.returns-clause-kernel
 returns-clause-kernel g c =
     let D = g.D.Device in let e = c.begin.ensures in
     asked c.self.inside.standing c.in-Stands.kernel c.begin.new.self c.self.inside.end.view.list _ _ _ c.in-Stands.is c.self.view_is
-    (record { refused = record { may = e.may; why = e.cause }; opened = e.opened; err = e.err })
+    (record { refused = record { may = e.may; why = e.cause }; early = e.early; opened = e.opened; err = e.err })
 
 pub returns-clause-book : goal.returns-clause-book
 returns-clause-book g c =

@@ -1,6 +1,6 @@
 use Rattle.std.proofs.Common.{◌∙◌, ap}
 use Rattle.mt_locked.proofs.Keeping.{stays}
-use Rattle.mt_locked.proofs.Standings.{asked, goes_on}
+use Rattle.mt_locked.proofs.Standings.{asked, at_once, goes_on}
 use Rattle.mt_locked.specs.Seen.{LockedSeen}
 use Rattle.mt_locked.proofs.locked.Locked.commit_begin.Goals as goal
 
@@ -15,7 +15,7 @@ pub returns-clause-kernel : goal.returns-clause-kernel
 returns-clause-kernel g c =
     let D = g.D.Device in let e = c.commit_begin.ensures in
     asked c.self.inside.standing c.in-Stands.kernel c.commit_begin.new.self c.self.inside.end.view.list _ _ _ c.in-Stands.is c.self.view_is
-    (record { refused = record { may = e.may; why = e.cause }; place = e.place; queue = e.logs.queue; waits = e.logs.waits; commits = e.logs.commits; unappended = e.logs.err_appended; states = e.logs.err })
+    (record { refused = record { may = e.may; why = e.cause }; early = at_once _ _ _ _ e.early; place = e.place; queue = e.logs.queue; waits = e.logs.waits; commits = e.logs.commits; unappended = e.logs.err_appended; states = e.logs.err })
 
 pub returns-clause-book : goal.returns-clause-book
 returns-clause-book g c =

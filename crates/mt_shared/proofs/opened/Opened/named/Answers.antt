@@ -11,18 +11,18 @@ use Rattle.mt_shared.proofs.opened.Opened.named.Goals as goal
 
 pub returns-in_default-clause-began : goal.returns-in_default-clause-began
 returns-in_default-clause-began g c = let D = g.D.Device in
-    subst (λ (x : OpenedSeen). BeganOn x.base c.self.inside.kernel) c.self.view_is c.self.invariant.0
+    subst (λ (x : OpenedSeen _). BeganOn x.base c.self.inside.kernel) c.self.view_is c.self.invariant.0
 
 pub over-requires-clause-name : goal.over-requires-clause-name
 over-requires-clause-name g c = let i = c.self.invariant in
-    let mark = ap (λ (x : OpenedSeen). x.mark) c.self.view_is ∙ c.requires.name.0 in
-    let base = ap (λ (x : OpenedSeen). x.base) c.self.view_is ∙ c.requires.name.1 in
-    let book = ap (λ (x : OpenedSeen). x.book) c.self.view_is ∙ c.requires.name.2 in
+    let mark = ap (λ (x : OpenedSeen _). x.mark) c.self.view_is ∙ c.requires.name.0 in
+    let base = ap (λ (x : OpenedSeen _). x.base) c.self.view_is ∙ c.requires.name.1 in
+    let book = ap (λ (x : OpenedSeen _). x.book) c.self.view_is ∙ c.requires.name.2 in
     (mark, base, i.3 ∙ book)
 
 pub over-requires-clause-began : goal.over-requires-clause-began
 over-requires-clause-began g c = let D = g.D.Device in
-    let base = ap (λ (x : OpenedSeen). x.base) c.self.view_is ∙ c.requires.name.1 in
+    let base = ap (λ (x : OpenedSeen _). x.base) c.self.view_is ∙ c.requires.name.1 in
     subst (λ (b : Base). BeganOn b c.self.inside.kernel) base c.self.invariant.0
 
 pub over-requires-clause-confirmed : goal.over-requires-clause-confirmed
@@ -33,11 +33,11 @@ over-requires-clause-front g c = let i = c.self.invariant in ([], append-nil _ �
 
 pub returns-clause-opened : goal.returns-clause-opened
 returns-clause-opened g c = let D = g.D.Device in let k = c.self.inside.kernel in
-    ∣ subst (λ (x : OpenedSeen). (k : Kernel _ D) × (kernel_frames k ≡ x.frames) × BeganOn x.base k) c.self.view_is (k, refl, c.self.invariant.0) ∣₁
+    ∣ subst (λ (x : OpenedSeen _). (k : Kernel _ D) × (kernel_frames k ≡ x.frames) × BeganOn x.base k) c.self.view_is (k, refl, c.self.invariant.0) ∣₁
 
 pub returns-clause-passes : goal.returns-clause-passes
 returns-clause-passes g c = λ k d h. ap dones (c.in-Ok.ensures.each k d h).seen ∙ (dones-labelled _ ∙ sym c.requires.name.2)
 
 pub passes_of-requires-clause-list : goal.passes_of-requires-clause-list
 passes_of-requires-clause-list g c = let i = c.self.invariant in
-    i.2 ∙ ap labelled (i.3 ∙ (ap (λ (x : OpenedSeen). x.book) c.self.view_is ∙ c.requires.name.2))
+    i.2 ∙ ap labelled (i.3 ∙ (ap (λ (x : OpenedSeen _). x.book) c.self.view_is ∙ c.requires.name.2))

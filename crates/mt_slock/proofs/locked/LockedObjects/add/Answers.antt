@@ -1,4 +1,4 @@
-use Rattle.std.proofs.Common.{◌≡◌, ◌≢◌, ◌==◌, ◌&&◌, ◌||◌, cond, [], ◌∷◌, List, Option, Some, None, is_some, ap, sym, ◌∙◌}
+use Rattle.std.proofs.Common.{rules, ◌≡◌, ◌≢◌, ◌==◌, ◌&&◌, ◌||◌, cond, [], ◌∷◌, List, Option, Some, None, is_some, ap, sym, ◌∙◌}
 use Rattle.std.specs.Map.{lookup}
 use Rattle.std.specs.Option.{option_copied_mut}
 use Rattle.std.proofs.lemmas.Result.{on_ok_weaker, on_err_weaker}
@@ -11,11 +11,11 @@ use Rattle.mt_slock.proofs.Among.{among-push, or_false}
 use Rattle.mt_slock.proofs.Keys.{same_lookup, updated}
 use Rattle.mt_slock.proofs.Entries.{with_changed, same_changed, still_no_idle, some_not_empty, grown_not_empty}
 use Rattle.mt_slock.proofs.locked.LockedObjects.add.Goals as goal
-use Rattle.mt_slock.proofs.locked.LockedObjects.add.Goals.{in-Key-1, in-Counter-1, Joined-object}
+use Rattle.mt_slock.proofs.locked.LockedObjects.add.Goals.{Joined-object}
 
 -- the entries once the holders have been written back
 written : (c : Joined-object) → c.match-object.self ≡ (c.get_mut.follows.lender c.add.new.self).entries
-written c = elim c.match-object.branch [ in-Key-1 w ↦ w.self-is | in-Counter-1 w ↦ w.self-is ]
+written c = search rules
 
 found : (c : Joined-object) → lookup (same_object c.args.object) c.args.self.now ≡ Some c.in-Some.holders.now
 found c =

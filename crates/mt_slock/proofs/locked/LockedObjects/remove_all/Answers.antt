@@ -1,8 +1,7 @@
 use Rattle.std.proofs.Common.{◌≡◌, ◌<◌, ◌+◌, ◌++◌, ◌∷◌, [], List, length, take, take-suc, add-one, sym, ◌∙◌, ap}
-use Rattle.mt_model.specs.Locks.{Held, without_lock}
-use Rattle.mt_slock.specs.declared.notes.Lock.{Lock}
+use Rattle.mt_model.specs.Locks.{Held, without_lock, without_locks}
+use Rattle.mt_model.specs.declared.objects.Lock.{Lock}
 use Rattle.mt_slock.specs.Views.{held_of}
-use Rattle.mt_slock.specs.Noted.{without_locks}
 use Rattle.mt_slock.proofs.Noting.{without_more}
 use Rattle.mt_slock.proofs.locked.LockedObjects.remove_all.Goals as goal
 
@@ -18,6 +17,6 @@ loop-lock-preserved c =
     record {
       removed = c.remove.ensures.removed
           ∙ (ap (λ (h : Held). without_lock h t l.object l.mode) c.loop-lock.invariant.removed
-          ∙ ((λ j u x m. without_more start t (take i ls) l u x m j) ∙ ap (without_locks start t) (sym more)));
+          ∙ (without_more start t (take i ls) l ∙ ap (without_locks start t) (sym more)));
       idle = λ h. c.remove.ensures.idle (c.loop-lock.invariant.idle h);
     }

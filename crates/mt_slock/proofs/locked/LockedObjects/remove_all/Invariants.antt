@@ -1,6 +1,6 @@
 use Rattle.std.proofs.Common.{◌≡◌, take}
 use Rattle.mt_slock.specs.Views.{held_of, HasNoIdle}
-use Rattle.mt_slock.specs.Noted.{without_locks}
+use Rattle.mt_model.specs.Locks.{without_locks}
 use Rattle.mt_slock.proofs.locked.LockedObjects.remove_all.Given as goal
 
 abbrev pub invariant-loop-lock : goal.invariant-loop-lock

@@ -2,7 +2,7 @@ use Rattle.std.proofs.Common.{◌≡◌, Bool, true, false, refl, ℕ, ◌==◌,
 use Rattle.std.specs.Map.{lookup}
 use Rattle.std.specs.Option.{option_copied_mut}
 use Rattle.std.proofs.lemmas.Result.{on_ok_weaker, on_err_weaker}
-use Rattle.mt_slock.specs.declared.notes.Lock.{Lock}
+use Rattle.mt_model.specs.declared.objects.Lock.{Lock}
 use Rattle.mt_slock.specs.Noted.{or_none, notes_of}
 use Rattle.mt_slock.proofs.Noting.{notes_changed}
 use Rattle.mt_slock.proofs.notes.Notes.add.Goals as goal

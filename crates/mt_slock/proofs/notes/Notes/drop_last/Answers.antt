@@ -1,7 +1,7 @@
 use Rattle.std.proofs.Common.{◌≡◌, ℕ, ◌==◌, cond, List, Option, Some, None, is_some, ap, sym, ◌∙◌}
 use Rattle.std.specs.Map.{lookup}
 use Rattle.std.specs.Option.{option_copied_mut}
-use Rattle.mt_slock.specs.declared.notes.Lock.{Lock}
+use Rattle.mt_model.specs.declared.objects.Lock.{Lock}
 use Rattle.mt_slock.specs.Noted.{front, or_none, notes_of}
 use Rattle.mt_slock.proofs.Noting.{notes_changed, own_notes}
 use Rattle.mt_slock.proofs.notes.Notes.drop_last.Goals as goal

@@ -1,30 +1,43 @@
-use Rattle.std.proofs.Common.{◌≡◌, ap, sym, ◌∙◌, subst}
-use Rattle.mt_model.specs.Locks.{IsFree}
+use Rattle.std.proofs.Common.{cond, [], ◌∷◌, sym, ap, ◌∙◌, subst}
+use Rattle.mt_model.specs.Locks.{Held, IsFree, with_lock, without_locks}
+use Rattle.mt_model.specs.Model.{intents}
+use Rattle.mt_slock.specs.Standings.{Allows}
 use Rattle.mt_slock.specs.Views.{held_of}
-use Rattle.mt_slock.specs.Noted.{notes_of, without_last, IsKept}
-use Rattle.mt_slock.proofs.Tables.{kept_with, dropped_again}
+use Rattle.mt_slock.specs.declared.standings.Standing.{Standing}
+use Rattle.mt_slock.proofs.Asking.{lock_of, free_intents, free_last, still_free, allowed_after, all_fresh, granted_last, intent_back}
 use Rattle.mt_slock.proofs.table.LockTable.grant.Goals as goal
-use Rattle.mt_slock.proofs.table.LockTable.grant.Goals.{After-into, In-Ok}
 
-failed : (c : After-into) → IsKept (held_of c.put.new.self) (notes_of c.drop_last.new.self)
-failed c =
-    let notes : notes_of c.drop_last.new.self ≡ notes_of c.self.inside.notes =
-    c.drop_last.ensures ∙ (ap (λ n. without_last n c.args.txn) c.in_ok-add.ensures.added ∙ dropped_again (notes_of c.self.inside.notes) c.args.txn c.args.object c.args.mode) in
-    subst (λ h. IsKept h (notes_of c.drop_last.new.self)) (sym c.in-Err.ensures.err) (subst (λ n. IsKept (held_of c.self.inside.objects) n) (sym notes) c.self.invariant.kept)
+pub grant_intent-requires-clause-free : goal.grant_intent-requires-clause-free
+grant_intent-requires-clause-free c = free_intents (held_of c.args.self.now) c.args.txn c.args.asks.intent (lock_of c.args.asks.object c.args.asks.mode ∷ []) c.requires.free
 
-kept : (c : In-Ok) → IsKept (held_of c.put.new.self) (notes_of c.add.new.self)
-kept c =
-    kept_with (held_of c.self.inside.objects) (held_of c.put.new.self) (notes_of c.self.inside.notes) (notes_of c.add.new.self) c.args.txn c.args.object c.args.mode
-    (subst (λ t. IsFree (held_of t) c.args.txn c.args.object c.args.mode) (sym c.self.view_is) c.requires.free) c.in-Ok.ensures.added c.in_ok-add.ensures.added c.self.invariant.kept
+pub grant_one-requires-clause-free : goal.grant_one-requires-clause-free
+grant_one-requires-clause-free c =
+    subst (λ (h : Held). IsFree h c.args.txn c.args.asks.object c.args.asks.mode) (sym c.in_ok-grant_intent.ensures.granted)
+    (still_free (held_of c.args.self.now) c.args.txn (intents c.args.asks.intent) c.args.asks.object c.args.asks.mode
+    (free_last (held_of c.args.self.now) c.args.txn c.args.asks.intent (lock_of c.args.asks.object c.args.asks.mode) c.requires.free))
 
-pub invariant_of-self-in-Ok : goal.invariant_of-self-in-Ok
-invariant_of-self-in-Ok c = record { kept = kept c; idle = c.in-Ok.ensures.idle c.self.invariant.idle }
+pub grant_one-requires-clause-standing : goal.grant_one-requires-clause-standing
+grant_one-requires-clause-standing c =
+    subst (λ (s : Standing). Allows c.grant_intent.new.self c.args.txn c.args.asks.object c.args.asks.mode s) (sym c.object_after-standing.ensures)
+    (allowed_after c.args.self.now c.grant_intent.new.self c.args.txn (intents c.args.asks.intent) c.args.asks.object c.args.asks.mode c.args.standings.object c.fresh-fresh.result.intent
+    c.in_ok-grant_intent.ensures.granted (λ e. c.grant_intent.ensures.same (sym c.fresh-fresh.ensures.intent ∙ e)) c.requires.standings.object
+    (free_last (held_of c.args.self.now) c.args.txn c.args.asks.intent (lock_of c.args.asks.object c.args.asks.mode) c.requires.free))
 
-pub invariant_of-self-in-Err : goal.invariant_of-self-in-Err
-invariant_of-self-in-Err c = record { kept = failed c; idle = c.in-Err.ensures.idle c.self.invariant.idle }
+pub returns-in-Ok-clause-asked : goal.returns-in-Ok-clause-asked
+returns-in-Ok-clause-asked c =
+    let a = c.args.asks in (
+      c.requires.free,
+      c.in-Ok.ensures.granted
+          ∙ (ap (λ (h : Held). with_lock h c.args.txn a.object a.mode) c.in_ok-grant_intent.ensures.granted
+          ∙ granted_last (held_of c.args.self.now) c.args.txn a.intent (lock_of a.object a.mode)),
+      all_fresh c.args.self.now c.args.txn a c.args.standings c.fresh-fresh.result c.fresh-fresh.ensures.intent c.fresh-fresh.ensures.object c.requires.standings c.requires.free,
+    )
 
-pub returns-in-Ok-clause-together : goal.returns-in-Ok-clause-together
-returns-in-Ok-clause-together c = (kept c).together
-
-pub returns-in-Err-clause-together : goal.returns-in-Err-clause-together
-returns-in-Err-clause-together c = (failed c).together
+pub returns-in-Err-clause-err : goal.returns-in-Err-clause-err
+returns-in-Err-clause-err c =
+    let a = c.args.asks in
+    let fi = c.fresh-fresh.result.intent in
+    c.take_out_intent.ensures.taken
+    ∙ (ap (λ (h : Held). without_locks h c.args.txn (cond fi (intents a.intent) [])) (c.in-Err.ensures.err ∙ c.in_ok-grant_intent.ensures.granted)
+    ∙ intent_back (held_of c.args.self.now) c.args.txn a.intent fi
+    (all_fresh c.args.self.now c.args.txn a c.args.standings c.fresh-fresh.result c.fresh-fresh.ensures.intent c.fresh-fresh.ensures.object c.requires.standings c.requires.free).intent)

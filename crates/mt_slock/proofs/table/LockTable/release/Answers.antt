@@ -1,7 +1,7 @@
 use Rattle.std.proofs.Common.{◌≡◌, ap, ◌∙◌}
-use Rattle.mt_model.specs.Locks.{without_holder}
+use Rattle.mt_model.specs.Locks.{without_holder, without_locks}
 use Rattle.mt_slock.specs.Views.{held_of}
-use Rattle.mt_slock.specs.Noted.{notes_of, without_locks, IsKept}
+use Rattle.mt_slock.specs.Noted.{notes_of, IsKept}
 use Rattle.mt_slock.proofs.Tables.{released, kept_released}
 use Rattle.mt_slock.proofs.table.LockTable.release.Goals as goal
 use Rattle.mt_slock.proofs.table.LockTable.release.Goals.{After-drop-locks-inside}

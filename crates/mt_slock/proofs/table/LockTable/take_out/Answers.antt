@@ -1,28 +1,23 @@
+use Rattle.std.proofs.Common.{cond, [], ap, ◌∙◌}
+use Rattle.mt_model.specs.Locks.{Held, without_locks}
+use Rattle.mt_model.specs.Model.{intents}
 use Rattle.mt_slock.specs.Views.{held_of}
-use Rattle.mt_slock.specs.Noted.{notes_of}
-use Rattle.mt_slock.proofs.Tables.{kept_without, kept_without_last}
+use Rattle.mt_slock.proofs.Asking.{lock_of, last_first, none_last}
 use Rattle.mt_slock.proofs.table.LockTable.take_out.Goals as goal
+use Rattle.mt_slock.proofs.table.LockTable.take_out.Goals.{then-fresh, else-fresh}
 
-pub invariant_of-self : goal.invariant_of-self
-invariant_of-self c = record {
-  kept = kept_without_last (held_of c.self.inside.objects) (held_of c.remove.new.self) (notes_of c.self.inside.notes) (notes_of c.drop_last.new.self) c.args.txn
-      c.args.object.now c.args.mode c.remove.ensures.removed c.drop_last.ensures (c.ends_with.ensures.0 c.if-ends_with.true) c.self.invariant.kept;
-  idle = c.remove.ensures.idle c.self.invariant.idle;
-}
-
-pub invariant_of-self-else-ends_with : goal.invariant_of-self-else-ends_with
-invariant_of-self-else-ends_with c = record {
-  kept = kept_without (held_of c.self.inside.objects) (held_of c.remove.new.self) (notes_of c.self.inside.notes) (notes_of c.self.inside.notes) c.args.txn
-      c.args.object.now c.args.mode c.remove.ensures.removed c.self.invariant.kept;
-  idle = c.remove.ensures.idle c.self.invariant.idle;
-}
-
-pub returns-then-ends_with-clause-together : goal.returns-then-ends_with-clause-together
-returns-then-ends_with-clause-together c =
-    (kept_without (held_of c.self.inside.objects) (held_of c.remove.new.self) (notes_of c.self.inside.notes) (notes_of c.self.inside.notes) c.args.txn
-    c.args.object.now c.args.mode c.remove.ensures.removed c.self.invariant.kept).together
-
-pub returns-else-ends_with-clause-together : goal.returns-else-ends_with-clause-together
-returns-else-ends_with-clause-together c =
-    (kept_without (held_of c.self.inside.objects) (held_of c.remove.new.self) (notes_of c.self.inside.notes) (notes_of c.self.inside.notes) c.args.txn
-    c.args.object.now c.args.mode c.remove.ensures.removed c.self.invariant.kept).together
+pub returns-clause-taken : goal.returns-clause-taken
+returns-clause-taken c =
+    let t = c.args.txn in
+    let a = c.args.asks.now in
+    let fi = c.args.fresh.intent in
+    elim c.if-fresh.branch [
+      | then-fresh w ↦
+          c.take_out_intent.ensures.taken
+          ∙ (ap (λ (h : Held). without_locks h t (cond fi (intents a.intent) [])) (ap held_of w.self-is ∙ w.take_out_one.ensures.taken)
+          ∙ last_first (held_of c.args.self.now) t (cond fi (intents a.intent) []) (lock_of a.object a.mode) c.args.fresh.object w.if-fresh.true)
+      | else-fresh w ↦
+          c.take_out_intent.ensures.taken
+          ∙ (ap (λ (h : Held). without_locks h t (cond fi (intents a.intent) [])) (ap held_of w.self-is)
+          ∙ none_last (held_of c.args.self.now) t (cond fi (intents a.intent) []) (lock_of a.object a.mode) c.args.fresh.object w.if-fresh.false)
+    ]

@@ -1,0 +1,73 @@
+// A kernel over a device that was used before, as `open` gives it, with the base on which it begins. mt_shared calls
+// it: a mark is made about a base.
+ghost use Rattle.std.specs.Prelude.{◌≡◌, ◌<◌, ℕ, List, IfOk, IfErr, MatchResult};
+ghost use Rattle.mt_base.specs.declared.refusal.Refusal.{Refusal};
+ghost use Rattle.mt_disk.specs.Disk.{LeavesOnly};
+ghost use Rattle.mt_model.specs.Model.{Base as ModelBase};
+ghost use Rattle.mt_model.specs.Views.{base_of};
+ghost use Rattle.mt_replay.specs.Stands.{CanRestart};
+ghost use Rattle.mt_steps.specs.Listed.{IsSame};
+ghost use Rattle.mt_txn.specs.Shown.{kernel_device, kernel_frames};
+ghost use Rattle.mt_restart.specs.Frames.{IsFrameCount};
+ghost use Rattle.mt_restart.specs.Recovered.{IsCauseToStop, StandsStill};
+ghost use Rattle.mt_restart.specs.Resumed.{IsOpened};
+
+use crate::inspection::survey_of;
+use crate::opened_kernel::kernel_over;
+use crate::recovery::recover;
+use mt_base::Refusal;
+use mt_disk::Device;
+use mt_model::Base;
+use mt_replay::only_own_pages_matter;
+use mt_txn::Kernel;
+use std::alloc::Global;
+
+/// Gives a kernel as [`open`](crate::open) does, and the base on which it begins. The base is listed from the pages
+/// that the restart has in memory, so no page is read for it.
+///
+/// Whenever a crash comes in this call, what it leaves is what it might have left before, or represents the same
+/// base. Each refusal is one of [`open`](crate::open), with the same cause; [`Refusal::NoMemory`] also if the base
+/// finds no memory. The device is handed back, and represents what it did before, unless it failed.
+pub fn open_with_base<D: Device + Drop>(
+    alloc: Global,
+    device: D,
+    frames: usize,
+) -> Result<(Kernel<D>, Base), (Refusal, D)>
+    requires frames { IsFrameCount frames }
+    ensures opened { IfOk result (λ opened. IsOpened opened.0.relations opened.0.counters (base_of opened.1)
+        opened.0) }
+    // It is the base that the bytes represented.
+    ensures base { (relations counters : ℕ) (b : ModelBase) → CanRestart relations counters (D.seen device) b
+        → IfOk result (λ opened. IsSame counters (base_of opened.1) b) }
+    ensures frames { IfOk result (λ opened. kernel_frames opened.0 ≡ frames) }
+    // Whenever a crash comes in this call.
+    ensures moments { (relations counters : ℕ) (b : ModelBase) → CanRestart relations counters (D.seen device) b
+        → MatchResult result
+        (λ opened. LeavesOnly D.moment D.left_since device (kernel_device opened.0)
+        (StandsStill D.Device relations counters b device))
+        (λ gone. LeavesOnly D.moment D.left_since device gone.1
+        (StandsStill D.Device relations counters b device)) }
+    // Once it has ended, unless the device failed.
+    ensures stands { (relations counters : ℕ) (b : ModelBase) → CanRestart relations counters (D.seen device) b
+        → IfOk result (λ opened. (c : List ℕ) → D.may_leave (kernel_device opened.0) c
+        → CanRestart relations counters c b) }
+    ensures settled { (relations counters : ℕ) (b : ModelBase) → CanRestart relations counters (D.seen device) b
+        → IfErr result (λ gone. (gone.0 ≡ Refusal.DeviceFailed → ⊥) → (c : List ℕ) → D.may_leave gone.1 c
+        → CanRestart relations counters c b) }
+    ensures cause { IfErr result (λ gone. IsCauseToStop (D.seen device) (D.faults device < D.faults gone.1) gone.0) }
+    ensures quiet { MatchResult result (λ opened. D.faults (kernel_device opened.0) ≡ D.faults device)
+        (λ gone. (gone.0 ≡ Refusal.DeviceFailed → ⊥) → D.faults gone.1 ≡ D.faults device) }
+{
+    only_own_pages_matter();
+    let mut device = device;
+    let recovered = match recover(alloc, &mut device, frames) {
+        Ok(recovered) => recovered,
+        Err(refusal) => return Err((refusal, device)),
+    };
+    let base = match survey_of(alloc, &recovered.restored) {
+        Ok(survey) => survey.base,
+        Err(refusal) => return Err((refusal, device)),
+    };
+    base.keeps_bounds();
+    Ok((kernel_over(alloc, device, recovered), base))
+}

@@ -1,0 +1,32 @@
+-- Why a begin is refused that passed the tests before the log's.
+use Rattle.std.proofs.Common.{◌≡◌, ◌∙◌, ◌<◌, ◌≤◌, ◌+◌, ℕ, Bool, true, false, Option, Some, None, Result, Err, length, ap, refl, sym}
+use Rattle.std.proofs.lemmas.Bool.{lt-leb, ltb-false}
+use Rattle.std.specs.Prelude.{nat_le, nat_lt, if◌then◌else◌}
+use Rattle.mt_base.specs.declared.limits.TheConstants.{MAX_BEGUN, MAX_COMMITS, MAX_LIVE, TRANSACTION_LOG_BYTES}
+use Rattle.mt_base.specs.declared.refusal.Refusal.{Refusal}
+use Rattle.mt_base.specs.declared.refusal.Refusal.TheVariants.{LogFull}
+use Rattle.mt_core.specs.Consistent.{log_kept}
+use Rattle.mt_core.specs.Seen.{core_log}
+use Rattle.mt_core.specs.declared.parts.Core.{Core}
+use Rattle.mt_log.specs.Words.{area_size}
+use Rattle.mt_txn.specs.Causes.{begin_cause}
+
+-- the log decides then
+pub begun_at_once : {D : Type 0} (failed : Bool) (k : Core D) (r : Result ℕ Refusal) → failed ≡ false → length k.live.members < MAX_LIVE
+    → length k.book.items + length k.live.members < MAX_COMMITS → k.live.begun < MAX_BEGUN → (area_size (core_log k) ≤ log_kept k + TRANSACTION_LOG_BYTES → r ≡ Err LogFull)
+    → (why : Refusal) → begin_cause failed k ≡ Some why → r ≡ Err why
+begun_at_once failed k r well few room fresh full why is = by (nat_lt (log_kept k + TRANSACTION_LOG_BYTES) (area_size (core_log k))) refl
+  where
+    tested : begin_cause failed k ≡ (if nat_lt (log_kept k + TRANSACTION_LOG_BYTES) (area_size (core_log k)) then None else Some LogFull)
+    tested =
+        let live : nat_le MAX_LIVE (length k.live.members) ≡ false = lt-leb MAX_LIVE (length k.live.members) few in
+        let booked : nat_le MAX_COMMITS (length k.book.items + length k.live.members) ≡ false = lt-leb MAX_COMMITS (length k.book.items + length k.live.members) room in
+        let begun : nat_le MAX_BEGUN k.live.begun ≡ false = lt-leb MAX_BEGUN k.live.begun fresh in
+        rw (well, live, booked, begun) refl
+
+    by : (takes : Bool) → nat_lt (log_kept k + TRANSACTION_LOG_BYTES) (area_size (core_log k)) ≡ takes → r ≡ Err why
+    by true e = absurd (let wrong : ◌≡◌ {A = Option Refusal} None (Some why) = sym (tested ∙ ap (λ (b : Bool). if b then None else Some LogFull) e) ∙ is in cc)
+    by false e =
+        let both : Some LogFull ≡ Some why = sym (tested ∙ ap (λ (b : Bool). if b then None else Some LogFull) e) ∙ is in
+        let same : LogFull ≡ why = cc in
+        full (ltb-false (log_kept k + TRANSACTION_LOG_BYTES) (area_size (core_log k)) e) ∙ ap (λ (w : Refusal). Err w) same

@@ -5,8 +5,8 @@ use Rattle.mt_base.specs.declared.refusal.Refusal.TheVariants as refusal
 use Rattle.mt_disk.specs.declared.device.Device.{Ghosts}
 use Rattle.mt_live.specs.Machine.{start}
 use Rattle.mt_model.specs.declared.counters.Count.{Count}
-use Rattle.mt_model.specs.declared.rows.Row.{Row}
-use Rattle.mt_model.specs.Rows.{value_at}
+use Rattle.mt_rows.specs.declared.rows.Row.{Row}
+use Rattle.mt_rows.specs.Rows.{value_at}
 use Rattle.mt_model.specs.Tables.{count_at}
 use Rattle.mt_model.specs.Views.{rows_of}
 use Rattle.mt_restart.specs.Rotated.{GoesOver}

@@ -10,7 +10,7 @@ use Rattle.mt_core.specs.declared.parts.Core.{Core}
 use Rattle.mt_model.specs.declared.operations.Op.{Op}
 use Rattle.mt_op.specs.declared.scope.OpScope.{OpScope}
 use Rattle.mt_log.specs.Words.{appended, durable}
-use Rattle.mt_core.specs.Work.{KeepsOthers, LeavesStanding, LeavesUndo, CallRuns, RunsBehind}
+use Rattle.mt_core.specs.Work.{KeepsOthers, LeavesStanding, LeavesUndo, CallRuns, DrawsNumber, RunsBehind, TakesNumber}
 use Rattle.mt_core.specs.Writes.{WritesOnce}
 use Rattle.mt_model.specs.Model.{Base}
 use Rattle.mt_op.specs.Faults.{TellsFaults}
@@ -147,6 +147,7 @@ pub record LocksCall {D : Type 0} (g : Ghosts D) (k n : Core D) (txn : ℕ)
       → IsAnswered g origin k (log_kept k) txn op split r
   pub live : n.live ≡ k.live
   pub runs : CallRuns txn (2 * pages (core_pool k) + 9) k.running.items n.running.items r
+  pub numbered : DrawsNumber k.last k.running.items n r
   pub same_commits : SameCommits k n
   pub store : core_store n ≡ core_store k
   pub book : n.book ≡ k.book
@@ -167,6 +168,7 @@ pub record StartsCall {D : Type 0} (g : Ghosts D) (k n : Core D) (txn : ℕ)
   pub err : OnErr r (IsRestored g k n)
   pub live : n.live ≡ k.live
   pub runs : OnOk r (RunsBehind txn (2 * pages (core_pool k) + 9) k.running.items n.running.items)
+  pub numbered : OnOk r (TakesNumber k.last k.running.items n)
   pub same_commits : SameCommits k n
   pub store : core_store n ≡ core_store k
   pub book : n.book ≡ k.book
@@ -187,6 +189,7 @@ pub record AdmitsCall {D : Type 0} (g : Ghosts D) (k n : Core D) (txn : ℕ)
   pub err : OnErr r (IsRestored g k n)
   pub live : n.live ≡ k.live
   pub runs : OnOk r (RunsBehind txn (2 * pages (core_pool k) + 9) k.running.items n.running.items)
+  pub numbered : OnOk r (TakesNumber k.last k.running.items n)
   pub same_commits : SameCommits k n
   pub store : core_store n ≡ core_store k
   pub book : n.book ≡ k.book

@@ -9,6 +9,7 @@ use Rattle.mt_pool.specs.declared.pool.Pool.{Pool}
 use Rattle.mt_pool.specs.declared.store.Store.{Store}
 use Rattle.mt_slock.specs.Views.{held_of}
 use Rattle.mt_core.specs.declared.parts.Commit.{Commit}
+use Rattle.mt_core.specs.declared.next_area.Rest.{Rest}
 use Rattle.mt_core.specs.declared.parts.Core.{Core}
 use Rattle.mt_op.specs.Operations.{operation_device, operation_frames, operation_log, operation_page_locks, operation_pool, operation_rooms, operation_ruling, operation_store}
 
@@ -25,6 +26,10 @@ core_rooms k = operation_rooms k.operations
 -- the number of the last operation that began
 abbrev pub core_last : {D : Type 0} → Core D → ℕ
 core_last k = k.last
+
+-- and of what outlasts the log's area
+abbrev pub rest_last : Rest → ℕ
+rest_last r = r.last
 
 abbrev pub core_log : {D : Type 0} → Core D → Log
 core_log k = operation_log k.operations

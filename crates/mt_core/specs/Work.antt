@@ -52,6 +52,16 @@ CallRuns t steps old new (Ok answer.Started) = RunsBehind t steps old new
 CallRuns t steps old new (Ok (answer.Wait holder)) = new ≡ old
 CallRuns t steps old new (Err why) = new ≡ old
 
+-- An operation that is started has the next number, after that of the last one, and no other call takes one.
+abbrev pub TakesNumber : {D : Type 0} → ℕ → List OpScope → Core D → Type 0
+TakesNumber last old n =
+    (n.last ≡ last + 1) × ((r : OpScope) × (n.running.items ≡ old ++ r ∷ []) × (r.number ≡ n.last))
+
+abbrev pub DrawsNumber : {D : Type 0} → ℕ → List OpScope → Core D → Result Called Refusal → Type 0
+DrawsNumber last old n (Ok answer.Started) = TakesNumber last old n
+DrawsNumber last old n (Ok (answer.Wait holder)) = n.last ≡ last
+DrawsNumber last old n (Err why) = n.last ≡ last
+
 -- ---- an abort
 
 -- An effect of a transaction is undone in these: its inverse begins, and makes two a page and nine at most.

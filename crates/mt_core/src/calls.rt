@@ -14,7 +14,7 @@ ghost use Rattle.mt_slock.specs.declared.holders.Holder.{Holder};
 ghost use Rattle.mt_core.specs.Consistent.{SameCommits, SameStates, log_kept, Origin, state_of, IsConsistent, IsPlaceOf, MayRun, MayBeCalled, IsLocked, IsGranted, IsCalled};
 ghost use Rattle.mt_core.specs.Causes.{IsAnswered};
 ghost use Rattle.mt_core.specs.Restartable.{StaysRestartable};
-ghost use Rattle.mt_core.specs.Work.{CallRuns};
+ghost use Rattle.mt_core.specs.Work.{CallRuns, DrawsNumber};
 ghost use Rattle.mt_op.specs.declared.scope.OpScope.{OpScope};
 ghost use Rattle.mt_core.specs.Advancing.{AdmitsCall, AsksLeave, LocksCall, StartsCall};
 ghost use Rattle.mt_core.specs.Seen.{core_log, core_pool, core_store};
@@ -79,7 +79,7 @@ impl<D: Device> Core<D> {
     /// It answers [`Called::Wait`] or is refused with 14 as the lock table does, and with 9 as the escrow does. It is
     /// refused with 10 if fewer pages are free and not claimed. It is refused with 11 if the log has no room
     /// beside what is kept. For want of memory it is refused with 1. In each of these cases nothing of the call is
-    /// kept.
+    /// kept. An operation that starts has the number after the last one, and no other call takes a number.
     pub fn call(
         &mut self,
         alloc: Global,
@@ -99,6 +99,7 @@ impl<D: Device> Core<D> {
         ensures states { SameStates self.old self.new }
         ensures runs { CallRuns txn (2 * pages (core_pool self.old) + 9) self.old.running.items
             self.new.running.items result }
+        ensures numbers { DrawsNumber self.old.last self.old.running.items self.new result }
         ensures same_commits { SameCommits self.old self.new }
         ensures store { core_store self.new ≡ core_store self.old }
         ensures restartable { StaysRestartable D.Device self.old self.new }

@@ -51,15 +51,6 @@ impl<D: Device + Drop> Core<D> {
         };
         (device, rest)
     }
-
-    /// The device, for another opening. All that lives or is under way is gone, and nothing of it is taken back. It
-    /// takes no memory.
-    pub fn into_device(self) -> D
-        ensures { result ≡ core_device self }
-    {
-        let (device, _rest) = self.part();
-        device
-    }
 }
 
 impl<D: Device> Core<D> {
@@ -70,6 +61,7 @@ impl<D: Device> Core<D> {
         ensures resumed { Resumes D.Device rest operations escrow result }
         ensures operations { result.operations ≡ operations }
         ensures book { result.book ≡ rest.book }
+        ensures numbers { result.last ≡ rest.last }
     {
         let Rest {
             live,

@@ -58,6 +58,7 @@ impl<D: Device> Core<D> {
             → IsRight D.Device origin.pages origin.relations origin.counters operations
             → IsEscrowed origin.counters origin.first escrow → IsRestartable origin result }
         ensures operations { result.operations ≡ operations }
+        ensures numbers { result.last ≡ 0 }
     {
         Core {
             operations,

@@ -1,6 +1,6 @@
 // The inverse of a transaction's last effect begins, and an abort ends of which nothing is left to undo.
 // The steps between are made in `steps`. An operation that is unfinished is taken back before, in `drops`.
-ghost use Rattle.std.specs.Prelude.{◌≡◌, ◌≢◌, ◌<◌, ◌≤◌, true, false, All, None, Some, Ok, IfErr, OnOk, OnErr};
+ghost use Rattle.std.specs.Prelude.{◌≡◌, ◌≢◌, ◌<◌, ◌≤◌, ◌+◌, true, false, All, None, Some, Ok, IfErr, OnOk, OnErr};
 ghost use Rattle.mt_live.specs.Lives.{member_of};
 ghost use Rattle.mt_live.specs.Machine.{gone};
 ghost use Rattle.mt_live.specs.Undoing.{last_effect};
@@ -37,6 +37,8 @@ impl<D: Device> Core<D> {
         ensures fewer { result ≡ Ok true → undo_steps self.new txn < undo_steps self.old txn }
         ensures err_left { OnErr result (undo_steps self.new txn ≤ undo_steps self.old txn) }
         ensures keeps { KeepsToUndo self.old self.new txn }
+        ensures drawn { result ≡ Ok true → self.new.last ≡ self.old.last + 1 }
+        ensures undrawn { OnErr result (self.new.last ≡ self.old.last) }
         ensures only_memory { IfErr result (λ why. why ≡ Refusal.NoMemory) }
         ensures restartable { StaysRestartable D.Device self.old self.new }
     {

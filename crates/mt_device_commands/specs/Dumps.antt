@@ -5,7 +5,7 @@ use Rattle.std.specs.List.{concat}
 use Rattle.mt_base.specs.declared.refusal.Refusal.{Refusal}
 use Rattle.mt_base.specs.declared.refusal.Refusal.TheVariants as refusal
 use Rattle.mt_model.specs.Model.{Base}
-use Rattle.mt_model.specs.Rows.{IsOrdered}
+use Rattle.mt_rows.specs.Rows.{IsOrdered}
 use Rattle.mt_model.specs.Views.{counters_of, rows_of}
 use Rattle.mt_op.specs.Surveyed.{IsSurvey}
 use Rattle.mt_op.specs.declared.survey.Survey.{Survey}

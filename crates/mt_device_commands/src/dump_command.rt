@@ -3,7 +3,7 @@ ghost use Rattle.std.specs.Prelude.{◌≡◌, ℕ, IfErr, IfOk, OnErr, OnOk};
 ghost use Rattle.std.specs.Io.KnownBytes.{Appends};
 ghost use Rattle.mt_disk.specs.Disk.{Only};
 ghost use Rattle.mt_model.specs.Model.{Base};
-ghost use Rattle.mt_model.specs.Rows.{IsOrdered};
+ghost use Rattle.mt_rows.specs.Rows.{IsOrdered};
 ghost use Rattle.mt_model.specs.Views.{rows_of};
 ghost use Rattle.mt_restart.specs.Resumed.{IsOpened};
 ghost use Rattle.mt_script.specs.Answers.{AppendsFront};

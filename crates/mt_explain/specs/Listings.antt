@@ -3,7 +3,7 @@ use Rattle.std.specs.Prelude.{ℕ, ◌+◌, ◌/◌, ◌%◌, ◌==◌, if◌the
 use Rattle.std.specs.Fmt.{decimal, signed_decimal}
 use Rattle.std.specs.List.{concat}
 use Rattle.mt_model.specs.declared.counters.Count.{Count}
-use Rattle.mt_model.specs.declared.rows.Row.{Row}
+use Rattle.mt_rows.specs.declared.rows.Row.{Row}
 
 -- a hexadecimal digit, and the two of a byte
 abbrev pub digit : ℕ → ℕ

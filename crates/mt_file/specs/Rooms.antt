@@ -11,6 +11,11 @@ use Rattle.mt_space.specs.Kinds.{kind}
 unfoldable pub fits_of : List ℕ → ℕ
 fits_of page = if live_slots page (count page) == count page then room_of page - 4 else room_of page
 
+-- what a page of this kind with these bytes takes: nothing if it does not hold records
+pub record IsRoom (kind : ℕ) (bytes : List ℕ) (room : ℕ) : Type 0 where
+  pub records : kind ≡ 3 → room ≡ fits_of bytes
+  pub others : kind ≢ 3 → room ≡ 0
+
 -- the page takes a record of so many bytes
 abbrev pub Takes : List ℕ → ℕ → ℕ → Type 0
 Takes fits bytes p = (p < length fits) × (bytes ≤ get_or fits p 0)

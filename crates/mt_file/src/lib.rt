@@ -8,6 +8,7 @@
 
 mod insertion;
 mod lookup;
+mod page_rooms;
 mod removal;
 mod replacement;
 mod rooms;
@@ -15,6 +16,7 @@ mod step;
 
 pub use insertion::plan_put;
 pub use lookup::{Lookup, plan_read};
+pub use page_rooms::{room_after, rooms_of};
 pub use removal::plan_remove;
 pub use replacement::plan_replace;
 pub use rooms::{Rooms, fits};

@@ -1,5 +1,5 @@
 -- A store over a device as it is formatted.
-use Rattle.std.proofs.Common.{◌≡◌, ◌+◌, ◌++◌, ◌∙◌, ◌*◌, inl, ℕ, false, List, [], ◌∷◌, get_or, sym, ap, subst, arith}
+use Rattle.std.proofs.Common.{◌≡◌, ◌+◌, ◌++◌, ◌∙◌, ◌*◌, ◌<◌, ◌≤◌, inl, ℕ, false, List, [], ◌∷◌, get_or, sym, ap, subst, arith}
 use Rattle.mt_disk.specs.declared.device.Device.{Ghosts}
 use Rattle.mt_disk.specs.Disk.{Only}
 use Rattle.mt_frame.specs.declared.records.Record.{Record}
@@ -8,25 +8,26 @@ use Rattle.mt_log.specs.Area.{Area}
 use Rattle.mt_log.specs.Masters.{IsRuling, area_start as start_of, area_end as end_of}
 use Rattle.mt_log.specs.Batch.{Stands}
 use Rattle.mt_log.specs.Sound.{IsSound}
-use Rattle.mt_log.specs.Words.{IsOn, seen_of, appended, in_flight, waiting, used, area_size, has_failed}
+use Rattle.mt_log.specs.Words.{IsOn, seen_of, appended, area_start, in_flight, waiting, used, area_size, has_failed}
 use Rattle.mt_log.specs.declared.log.Log.{Log}
 use Rattle.mt_log.specs.declared.stage.Stage.TheVariants.{Idle}
 use Rattle.mt_log.proofs.Settled.{same_area, batches_in}
 use Rattle.mt_op.specs.Begun.{ShowsOpening}
-use Rattle.mt_pool.specs.Images.{slot}
-use Rattle.mt_pool.specs.Kept.{IsKept}
-use Rattle.mt_pool.specs.Views.{pages}
+use Rattle.mt_pool.specs.Images.{IsSafe, slot}
+use Rattle.mt_pool.specs.Kept.{IsKept, Names, carried}
+use Rattle.mt_pool.specs.Moves.{IsStoreOver}
+use Rattle.mt_pool.specs.Views.{Shows, pages, view}
+use Rattle.mt_pool.specs.declared.pool.Pool.{Pool}
 use Rattle.mt_pool.specs.declared.store.Store.{Store}
-use Rattle.mt_pool.proofs.Kept.{kept_begin}
 use Rattle.mt_format.specs.Firsts.{IsFirstLog, IsFirstPool}
 use Rattle.mt_format.specs.Formats.{IsFormattedAs, first_slot}
 use Rattle.mt_format.specs.Schemas.{pages_in, mib_in, pages_end, area_end}
 use Rattle.mt_format.specs.declared.schema.Schema.{Schema}
 
--- a store over a device, with a log and a pool as it is formatted
-pub record IsFirstStore {D : Type 0} (g : Ghosts D) (s : Schema) (store : Store D) : Type 0 where
-  pub kept : IsKept g (slot 8192 (g.seen store.device)) store
-  pub shows : ShowsOpening g (slot 8192 (g.seen store.device)) store
+-- a store over a device as it is formatted
+pub record IsFirstStore {D : Type 0} (g : Ghosts D) (s : Schema) (device : D) (store : Store D) : Type 0 where
+  pub kept : IsKept g (slot 8192 (g.seen device)) store
+  pub shows : ShowsOpening g (slot 8192 (g.seen device)) store
   pub empty : appended store.log ≡ []
   pub head : used store.log ≡ 5
   pub well : has_failed store.log ≡ false
@@ -71,29 +72,56 @@ first_rules s c f = inl (record {
   beside = inl f.other;
 })
 
-pub begun : {D : Type 0} (g : Ghosts D) (s : Schema) (frames : ℕ) (store : Store D) → IsFirstLog s store.log → IsFirstPool s frames store.pool → store.settled ≡ 0 → store.ruling ≡ first_slot s
-    → IsFormattedAs s (g.seen store.device) → Only (g.seen store.device) (g.may_leave store.device) → IsFirstStore g s store
-begun g s frames store l p settled ruling f only =
-    let d = store.device in
-    let opening = slot 8192 (g.seen d) in
-    let few = s.page_count.1 in
-    let long = f.long in
-    let n = p.page_count in
-    record {
-      kept = kept_begin g opening store (first_on g s store.log d l f only) (subst (λ (k : ℕ). IsSound k store.log) (sym n) l.sound)
-          (omega (arith, p.place, n, l.start)) (omega (arith, few, n)) p.sound (p.shows (g.seen d) (omega arith)) settled l.none l.flying l.waits p.waits
-          (λ q lt. p.views (g.seen d) q) (λ q lt c left. ap (λ (k : ℕ). slot k c q) p.place ∙ ap (λ (k : List ℕ). slot 8192 k q) (only c left))
-          (record {
-            count = ap (λ (m : MasterSlot). m.pages) ruling ∙ sym n;
-            place = p.place;
-            start = ap start_of ruling ∙ first_start s ∙ sym l.start;
-            end = ap end_of ruling ∙ first_end s ∙ sym l.end;
-          })
-          (λ c left. subst (λ (X : Type 0). X) (λ i. IsRuling (sym (only c left) i) (sym ruling i)) (first_rules s (g.seen d) f));
-      shows = λ q lt. p.views (g.seen d) q;
-      empty = ap (λ (rs : List Record). rs ++ (in_flight store.log ++ waiting store.log)) l.none ∙ ap (λ (rs : List Record). rs ++ waiting store.log) l.flying ∙ l.waits;
-      head = l.head;
-      well = l.well;
-      size = l.size;
-      page_count = n;
-    }
+-- a log and a pool as a device is formatted, with the slot that names them
+module _ {D : Type 0} (g : Ghosts D) (s : Schema) (frames : ℕ) (device : D) (log : Log) (pool : Pool) (ruling : MasterSlot)
+    (l : IsFirstLog s log) (p : IsFirstPool s frames pool) (named : ruling ≡ first_slot s)
+    (f : IsFormattedAs s (g.seen device)) (only : Only (g.seen device) (g.may_leave device)) where
+  abbrev opening : ℕ → List ℕ
+  opening = slot 8192 (g.seen device)
+
+  pub begun_on : IsOn g log device
+  begun_on = first_on g s log device l f only
+
+  pub begun_sound : IsSound (pages pool) log
+  begun_sound = subst (λ (k : ℕ). IsSound k log) (sym p.page_count) l.sound
+
+  pub begun_apart : pool.place + 4096 * pages pool ≤ area_start log
+  begun_apart = omega (arith, p.place, p.page_count, l.start)
+
+  pub begun_few : pages pool ≤ 4000
+  begun_few = let few = s.page_count.1 in omega (arith, few, p.page_count)
+
+  pub begun_names : Names ruling pool log
+  begun_names = record {
+    count = ap (λ (m : MasterSlot). m.pages) named ∙ sym p.page_count;
+    place = p.place;
+    start = ap start_of named ∙ first_start s ∙ sym l.start;
+    end = ap end_of named ∙ first_end s ∙ sym l.end;
+  }
+
+  pub begun_rules : (c : List ℕ) → g.may_leave device c → IsRuling c ruling
+  begun_rules c left = subst (λ (X : Type 0). X) (λ i. IsRuling (sym (only c left) i) (sym named i)) (first_rules s (g.seen device) f)
+
+  pub begun_shows : Shows pool (g.seen device)
+  begun_shows = let long = f.long in p.shows (g.seen device) (omega arith)
+
+  -- each page is in its slot, and none has an image
+  pub begun_safe : IsSafe pool.place (pages pool) opening (carried []) 0 (g.may_leave device)
+  begun_safe = record {
+    within = omega arith;
+    images = λ q lt has d. absurd (cc);
+    slots = λ q lt none c left. ap (λ (k : ℕ). slot k c q) p.place ∙ ap (λ (k : List ℕ). slot 8192 k q) (only c left);
+  }
+
+  pub begun : (store : Store D) → IsStoreOver device log pool ruling store
+      → ((first : ℕ → List ℕ) → IsSafe pool.place (pages pool) first (carried []) 0 (g.may_leave device) → ((q : ℕ) → q < pages pool → view pool (g.seen device) q ≡ first q) → IsKept g first store)
+      → IsFirstStore g s device store
+  begun store over kept = record {
+    kept = kept opening begun_safe (λ q lt. p.views (g.seen device) q);
+    shows = λ q lt. over.views (g.seen store.device) q ∙ ap (λ (d : D). view pool (g.seen d) q) over.device ∙ p.views (g.seen device) q;
+    empty = ap (λ (x : Log). appended x) over.log ∙ ap (λ (rs : List Record). rs ++ (in_flight log ++ waiting log)) l.none ∙ ap (λ (rs : List Record). rs ++ waiting log) l.flying ∙ l.waits;
+    head = ap (λ (x : Log). used x) over.log ∙ l.head;
+    well = ap (λ (x : Log). has_failed x) over.log ∙ l.well;
+    size = ap (λ (x : Log). area_size x) over.log ∙ l.size;
+    page_count = over.page_count ∙ p.page_count;
+  }

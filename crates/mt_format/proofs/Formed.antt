@@ -7,8 +7,8 @@ use Rattle.mt_base.proofs.Places.{part_has, has_front, has_back, one_of}
 use Rattle.mt_disk.specs.Disk.{Has, Torn, Wrote, Apart}
 use Rattle.mt_frame.specs.SlotText.{slot_text}
 use Rattle.mt_log.specs.Holds.{HoldsBatches}
-use Rattle.mt_model.specs.Rows.{value_at}
-use Rattle.mt_model.specs.declared.rows.Row.{Row}
+use Rattle.mt_rows.specs.Rows.{value_at}
+use Rattle.mt_rows.specs.declared.rows.Row.{Row}
 use Rattle.mt_model.specs.Views.{rows_of}
 use Rattle.mt_pool.specs.Images.{slot}
 use Rattle.mt_pool.proofs.Safe.{cut_torn, slot_apart, other_slot}

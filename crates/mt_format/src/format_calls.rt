@@ -1,11 +1,8 @@
 // The formatting of a device, in the order of its calls.
-ghost use Rattle.std.specs.Prelude.{◌≡◌, ◌⊎◌, ◌+◌, ◌*◌, ◌<◌, ◌≤◌, ℕ, List, [], ◌∷◌, length, drop, Err, IfErr, OnOk};
+ghost use Rattle.std.specs.Prelude.{◌≡◌, ◌⊎◌, ◌*◌, ◌<◌, ◌≤◌, ℕ, List, length, Err, IfErr, OnOk};
 ghost use Rattle.mt_base.specs.declared.limits.TheConstants.{MASTER_BYTES, PAGE_BYTES};
 ghost use Rattle.mt_base.specs.declared.refusal.Refusal.{Refusal};
 ghost use Rattle.mt_disk.specs.Disk.{Only, Torn, Follows, LeavesOnly, HasCause};
-ghost use Rattle.mt_frame.specs.SlotText.{slot_text};
-ghost use Rattle.mt_frame.specs.declared.TheConstants.{OPEN_GATE};
-ghost use Rattle.mt_log.specs.Lasting.{WritesDurably};
 ghost use Rattle.mt_replay.specs.Stands.{CanRestart};
 ghost use Rattle.mt_format.specs.Formats.{FormatsDurably, HasFirstPages, IsFormattedAs, IsShut, ButForGates, FormatBegins, Tears, WritesContent, first_slot};
 ghost use Rattle.mt_format.specs.Schemas.{pages_in, pages_end, device_bytes, relations_in, counters_in, schema_base};
@@ -16,8 +13,8 @@ use crate::first_pages::page_of;
 use mt_base::limits::MASTER_BYTES;
 use mt_base::{PageNo, Refusal};
 use mt_disk::{Device, DeviceFault};
-use mt_frame::{CLOSED_GATE, MasterSlot, OPEN_GATE, encode_slot};
-use mt_log::{AreaPlace, FIRST_SLOT, SECOND_SLOT};
+use mt_frame::{CLOSED_GATE, MasterSlot, OPEN_GATE};
+use mt_log::{AreaPlace, FIRST_SLOT, SECOND_SLOT, write_master};
 use mt_pool::slot_at;
 
 // The first opening of a device.
@@ -76,27 +73,6 @@ pub(crate) fn first_slot_of(schema: &Schema) -> MasterSlot
     }
 }
 
-// Makes what stands after the first master slot's gate durable: a write and a sync.
-fn write_slot<D: Device>(device: &mut D, schema: &Schema) -> Result<(), DeviceFault>
-    requires { MASTER_BYTES ≤ length (D.seen device.old) }
-    ensures { WritesDurably D.Device
-        1 (drop 1 (slot_text (first_slot schema.now))) device.old device.new result }
-{
-    let slot = encode_slot(&first_slot_of(schema));
-    device.write_at(FIRST_SLOT + 1, &slot[1..])?;
-    device.sync()
-}
-
-// Opens the first master slot's gate: a write and a sync.
-fn open_gate<D: Device>(device: &mut D) -> Result<(), DeviceFault>
-    requires { MASTER_BYTES ≤ length (D.seen device.old) }
-    ensures { WritesDurably D.Device
-        0 (OPEN_GATE ∷ []) device.old device.new result }
-{
-    device.write_at(FIRST_SLOT, &[OPEN_GATE])?;
-    device.sync()
-}
-
 // Formats a device that is long enough.
 fn write_all<D: Device>(device: &mut D, schema: &Schema) -> Result<(), DeviceFault>
     requires { device_bytes schema.now ≤ length (D.seen device.old) }
@@ -104,8 +80,7 @@ fn write_all<D: Device>(device: &mut D, schema: &Schema) -> Result<(), DeviceFau
 {
     close_slots(device)?;
     write_content(device, schema)?;
-    write_slot(device, schema)?;
-    open_gate(device)
+    write_master(device, FIRST_SLOT, &first_slot_of(schema))
 }
 
 /// Formats a device with a schema, whatever it held. It closes the gates of both master slots, and syncs. It writes

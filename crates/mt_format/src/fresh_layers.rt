@@ -11,8 +11,8 @@ ghost use Rattle.mt_op.specs.Operations.{operation_frames, operation_device};
 use crate::first_pages::first_pages;
 use crate::format_calls::first_slot_of;
 use crate::{Schema, format};
+use mt_base::Refusal;
 use mt_base::limits::MASTER_BYTES;
-use mt_base::{LogPos, Refusal};
 use mt_disk::Device;
 use mt_escrow::Escrow;
 use mt_log::{AreaPlace, Log};
@@ -84,13 +84,7 @@ fn first_operations<D: Device>(
     ensures frames { (frames : ℕ) → IsFirstPool schema.now frames pool → operation_frames result ≡ frames }
     ensures device { operation_device result ≡ device }
 {
-    let store = Store {
-        device,
-        log,
-        pool,
-        ruling: first_slot_of(schema),
-        settled: LogPos::new(0),
-    };
+    let store = Store::over_images(device, log, pool, first_slot_of(schema), &[]);
     Operations::join(store, idle)
 }
 

@@ -1,11 +1,12 @@
 -- The names that are gathered, bucket by bucket.
 use Rattle.std.proofs.Common.{◌≡◌, ◌≢◌, ◌⊎◌, inl, inr, ⊎_elim, ℕ, zero, suc, ◌+◌, ◌*◌, ◌<◌, ◌≤◌, ◌%◌, ◌^◌, Bool, true, false, cond, ◌==◌, List, [], ◌∷◌, ◌++◌, length, get_or, min, Option, Some, None, refl, ap, sym, ◌∙◌, subst, arith, append-nil, append_assoc, length-append}
-use Rattle.std.specs.Prelude.{Contains}
+use Rattle.std.specs.Prelude.{AllPairs, Contains}
 use Rattle.std.specs.List.{cons_option}
 use Rattle.std.proofs.Math.Nat.{pow-le-pow_right}
 use Rattle.std.proofs.lemmas.Bool.{cases_lt}
 use Rattle.std.proofs.lemmas.Bool.Decides.{Decides-eqb}
-use Rattle.std.proofs.lemmas.List.Elements.{Contains-append_left, Contains-append_right, Contains-append_cases, Contains-push, Contains-push_cases, filter_map-append}
+use Rattle.std.proofs.lemmas.List.Kept.{AllPairs-cons}
+use Rattle.std.proofs.lemmas.List.Elements.{All-contains_itself, Contains-append_left, Contains-append_right, Contains-append_cases, Contains-push, Contains-push_cases, filter_map-append}
 use Rattle.std.proofs.lemmas.Nat.{pow_pos, mod_below, mod_low, one_shl}
 use Rattle.mt_base.specs.declared.numbers.RecordName.{RecordName}
 use Rattle.mt_bucket.specs.Entries.{Entry, is_at, look, name_under}
@@ -45,25 +46,53 @@ contains_more x xs n h = go (Contains-append_cases (x ∷ []) xs n h)
     go (inl here) = first (Contains-push_cases [] x n here)
     go (inr there) = inr there
 
+-- of entries with different keys, what a look finds after the first one it finds in all
+look_more : (r : ℕ) (k : List ℕ) (e : Entry) (es : List Entry) (n : RecordName) → look e.relation e.key es ≡ None → look r k es ≡ Some n → look r k (e ∷ es) ≡ Some n
+look_more r k e es n once found = go (is_at r k e) refl
+  where
+    go : (b : Bool) → is_at r k e ≡ b → cond b (Some e.name) (look r k es) ≡ Some n
+    go true at =
+        let parts = at_parts r k e at in
+        none_is_some (look r k es) n (subst (λ q. look q k es ≡ None) parts.0 (subst (λ x. look e.relation x es ≡ None) parts.1 once)) found
+    go false at = found
+
+-- and a look at the first one's key finds its name
+look_first : (r : ℕ) (e : Entry) (es : List Entry) → e.relation ≡ r → look r e.key (e ∷ es) ≡ Some e.name
+look_first r e es same = ap (λ b. cond b (Some e.name) (look r e.key es)) (at_from r e.key e same refl)
+
 -- a name among those of a relation is what a look finds
 pub names_look : (r : ℕ) (es : List Entry) (n : RecordName) → Once es → Contains (names_in r es) n → (k : List ℕ) × (look r k es ≡ Some n)
 names_look r [] n once has = absurd (let below = has.1 in omega (arith, below))
 names_look r (e ∷ es) n once has = go (names_look r es n once.1) (e.relation == r) refl has
   where
-    past : (k : List ℕ) → look r k es ≡ Some n → (b : Bool) → is_at r k e ≡ b → cond b (Some e.name) (look r k es) ≡ Some n
-    past k found true at =
-        let parts = at_parts r k e at in
-        none_is_some (look r k es) n (subst (λ q. look q k es ≡ None) parts.0 (subst (λ x. look e.relation x es ≡ None) parts.1 once.0)) found
-    past k found false at = found
-
     own : e.relation ≡ r → e.name ≡ n → (k : List ℕ) × (look r k (e ∷ es) ≡ Some n)
-    own same is = (e.key, ap (λ b. cond b (Some e.name) (look r e.key es)) (at_from r e.key e same refl) ∙ ap Some is)
+    own same is = (e.key, look_first r e es same ∙ ap Some is)
 
     go : (Contains (names_in r es) n → (k : List ℕ) × (look r k es ≡ Some n)) → (b : Bool) → (e.relation == r) ≡ b
         → Contains (cons_option (cond b (Some e.name) None) (names_in r es)) n → (k : List ℕ) × (look r k (e ∷ es) ≡ Some n)
     go rest true same h = ⊎_elim (own ((Decides-eqb e.relation r).0 same))
-        (λ there. let found = rest there in (found.0, past found.0 found.1 (is_at r found.0 e) refl)) (contains_more e.name (names_in r es) n h)
-    go rest false other h = let found = rest h in (found.0, past found.0 found.1 (is_at r found.0 e) refl)
+        (λ there. let found = rest there in (found.0, look_more r found.0 e es n once.0 found.1)) (contains_more e.name (names_in r es) n h)
+    go rest false other h = let found = rest h in (found.0, look_more r found.0 e es n once.0 found.1)
+
+-- if no name has two keys, no name stands twice
+pub names_distinct : (r : ℕ) (es : List Entry) → Once es → ((k l : List ℕ) (n : RecordName) → look r k es ≡ Some n → look r l es ≡ Some n → k ≡ l)
+    → AllPairs (λ a b. a ≢ b) (names_in r es)
+names_distinct r [] once one = λ i j d lt within. absurd (omega (arith, within))
+names_distinct r (e ∷ es) once one =
+    go (names_distinct r es once.1 (λ k l n a b. one k l n (look_more r k e es n once.0 a) (look_more r l e es n once.0 b))) (e.relation == r) refl
+  where
+    apart : e.relation ≡ r → (n : RecordName) → Contains (names_in r es) n → e.name ≢ n
+    apart same n has is =
+        let found = names_look r es n once.1 has in
+        let keys : found.0 ≡ e.key = one found.0 e.key n (look_more r found.0 e es n once.0 found.1) (look_first r e es same ∙ ap Some is) in
+        none_is_some (look r e.key es) n (subst (λ q. look q e.key es ≡ None) same once.0) (subst (λ k. look r k es ≡ Some n) keys found.1)
+
+    go : AllPairs (λ a b. a ≢ b) (names_in r es) → (b : Bool) → (e.relation == r) ≡ b
+        → AllPairs (λ a b. a ≢ b) (cons_option (cond b (Some e.name) None) (names_in r es))
+    go rest true same =
+        AllPairs-cons (λ a b. a ≢ b) e.name (names_in r es)
+        (λ i d lt. apart ((Decides-eqb e.relation r).0 same) (get_or (names_in r es) i d) (All-contains_itself (names_in r es) i d lt)) rest
+    go rest false other = rest
 
 -- and what a look finds is among them
 pub look_names : (r : ℕ) (k : List ℕ) (es : List Entry) (n : RecordName) → look r k es ≡ Some n → Contains (names_in r es) n

@@ -18,7 +18,7 @@ pub mod Searching
 pub mod Chaining
 pub mod OnePage
 mod Listing
-mod Gathering
+pub mod Gathering
 mod Marks
 mod Settled
 mod Sounds

@@ -1,9 +1,9 @@
 -- A transaction's last effect among the entries, and what is behind it.
 use Rattle.std.proofs.Common.{◌≡◌, ℕ, Bool, true, false, ◌==◌, List, [], ◌∷◌, ◌++◌, Option, Some, None, is_some, refl, ap, ◌∙◌, subst}
+use Rattle.std.proofs.lemmas.Bool.{and_parts}
 use Rattle.std.proofs.lemmas.Bool.Decides.{Decides-eqb}
 use Rattle.mt_model.specs.declared.operations.Op.{Op}
 use Rattle.mt_model.specs.Model.{inverse_of}
-use Rattle.mt_model.proofs.Cells.{and_parts}
 use Rattle.mt_live.specs.Entries.{Entry, kept}
 use Rattle.mt_live.specs.Sound.{Each}
 use Rattle.mt_live.specs.Undoing.{others, is_effect, last_of, last_effect, cut_back}

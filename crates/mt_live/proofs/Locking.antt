@@ -1,5 +1,6 @@
 -- Locks that are granted, one or several, and one transaction's that go.
 use Rattle.std.proofs.Common.{◌≡◌, ◌≢◌, ◌⊎◌, inl, inr, ℕ, Bool, true, false, cond, not, ◌&&◌, ◌||◌, ◌==◌, List, [], ◌∷◌, ◌++◌, refl, sym, ◌∙◌, subst}
+use Rattle.std.proofs.lemmas.Bool.{and_parts, and_from}
 use Rattle.std.proofs.lemmas.Bool.Decides.{Decides-eqb}
 use Rattle.mt_base.specs.Modes.{granted_together}
 use Rattle.mt_base.specs.declared.modes.LockMode.{LockMode}
@@ -9,7 +10,7 @@ use Rattle.mt_model.specs.declared.objects.Object.{Object}
 use Rattle.mt_model.specs.declared.operations.Op.{Op}
 use Rattle.mt_model.specs.Model.{object_of, same_object, mode_of, intent_of, intents, locks_of}
 use Rattle.mt_model.specs.Locks.{Held, same_mode, is_lock, with_lock, with_locks, without_holder, Bars, IsFree, HoldsEach, BarsSome, AreAllFree, AreTogether}
-use Rattle.mt_model.proofs.Cells.{and_parts, both_true, same-true, same-self}
+use Rattle.mt_model.proofs.Cells.{same-true, same-self}
 use Rattle.mt_live.specs.Entries.{Entry, kept}
 use Rattle.mt_live.specs.Sound.{Each, IsLocked}
 use Rattle.mt_live.specs.Undoing.{others}
@@ -80,8 +81,8 @@ is_this t x m u y n h =
 pub has_lock : (held : Held) (t : ℕ) (x : Object) (m : LockMode) → with_lock held t x m t x m ≡ true
 has_lock held t x m =
     or_right (held t x m) (is_lock t x m t x m)
-    (both_true (t == t) (same_object x x && same_mode m m) ((Decides-eqb t t).1 refl)
-    (both_true (same_object x x) (same_mode m m) (same-self x) (same_mode_self m)))
+    (and_from (t == t) (same_object x x && same_mode m m) ((Decides-eqb t t).1 refl)
+    (and_from (same_object x x) (same_mode m m) (same-self x) (same_mode_self m)))
 
 pub still_held : (held : Held) (t : ℕ) (x : Object) (m : LockMode) (u : ℕ) (y : Object) (n : LockMode) → held u y n ≡ true → with_lock held t x m u y n ≡ true
 still_held held t x m u y n h = rw h refl

@@ -1,5 +1,6 @@
 -- A run in which each event takes place.
 use Rattle.std.specs.Prelude.{pos, negsuc, ◌≡◌, List, [], ◌∷◌, None}
+use Rattle.mt_rows.proofs.Listings.{listed}
 use Rattle.mt_model.specs.declared.operations.Op.{Op}
 use Rattle.mt_model.specs.declared.operations.Op.TheVariants.{Insert, Add}
 use Rattle.mt_model.specs.declared.operations.Reply.TheVariants.{Done}
@@ -13,7 +14,7 @@ abbrev pub five : Count
 five = record { low = pos 0; high = pos 10; number = pos 5 }
 
 abbrev pub opening : Base
-opening = record { rows = λ r k. None; counts = λ c. five }
+opening = record { rows = λ r k. None; counts = λ c. five; listing = listed [] }
 
 abbrev pub insert : Op
 insert = Insert 0 (1 ∷ []) (2 ∷ [])

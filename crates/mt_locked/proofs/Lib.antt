@@ -3,6 +3,8 @@ pub mod Counts
 pub mod Idle
 pub mod Keeping
 pub mod Refusals
+pub mod Rooms
 pub mod Rotations
 pub mod Sets
 pub mod Standings
+pub mod Uses

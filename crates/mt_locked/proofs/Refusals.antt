@@ -11,12 +11,12 @@ use Rattle.mt_core.specs.declared.calls.Called.{Called}
 use Rattle.mt_core.specs.declared.parts.Core.{Core}
 use Rattle.mt_model.specs.declared.operations.Op.{Op}
 use Rattle.mt_model.specs.declared.operations.Op.TheVariants.{Get, Insert, Update, Delete, Add, Read}
-use Rattle.mt_txn.specs.Answered.{AnswersAbort, AnswersAbortStep, AnswersBegin, AnswersCall, AnswersCommit, AnswersStep}
 use Rattle.mt_txn.specs.Causes.{IsCallRefusal, IsFault, abort_cause, busy_cause, call_cause, commit_cause, count_cause, first_of, is_aborting, is_busy, is_open, name_cause, open_cause, size_cause, step_cause, unless}
 use Rattle.mt_txn.specs.Events.{AnswersIn}
 use Rattle.mt_txn.specs.Seen.{KernelSeen, has_failed_in}
 use Rattle.mt_txn.specs.declared.answers.AbortStepped.{AbortStepped}
 use Rattle.mt_txn.specs.declared.answers.Stepped.{Stepped}
+use Rattle.mt_locked.specs.Asked.{DidAbort, DidAbortStep, DidBegin, DidCall, DidCommit, DidStep}
 use Rattle.mt_locked.specs.Refusals.{IsAbortRefusal, IsBeginRefusal, IsCommitRefusal, IsRoomRefusal, IsStepRefusal}
 use Rattle.mt_locked.specs.Seen.{IsAskedOf}
 
@@ -122,37 +122,37 @@ fault_is : {D : Type 0} (P : Refusal → Type 0) (g : Ghosts D) (k n : Core D) (
 fault_is P g k n w device fault = subst P (sym fault.0) device
 
 module _ {D : Type 0} (w : Refusal) (o n : Option (KernelSeen D)) where
-  pub begin_refused : IsAskedOf {T = ℕ} o (Err w) n (λ k m. AnswersBegin k (Err w) m) → IsBeginRefusal w
-  begin_refused = let P : Refusal → Type 0 = IsBeginRefusal in
-      asked_is _ P o n w _ tt (λ k m a. memory_or P w tt (λ other.
-      if_is P (has_failed_in k) refusal.DeviceFailed w _ tt (if_is P _ refusal.TooManyTransactions w _ tt (if_is P _ refusal.BookFull w _ tt (unless_is P _ refusal.LogFull w tt))) (a.refused.why other)))
-
-  pub commit_refused : (t : ℕ) → IsAskedOf {T = ℕ} o (Err w) n (λ k m. AnswersCommit k t (Err w) m) → IsCommitRefusal w
-  commit_refused t = let P : Refusal → Type 0 = IsCommitRefusal in
-      asked_is _ P o n w _ tt (λ k m a. memory_or P w tt (λ other. commit_is P (has_failed_in k) k.core t w tt tt tt (a.refused.why other)))
-
-  pub abort_refused : (t : ℕ) → IsAskedOf {T = Unit {0}} o (Err w) n (λ k m. AnswersAbort k t (Err w) m) → IsAbortRefusal w
-  abort_refused t = let P : Refusal → Type 0 = IsAbortRefusal in
-      asked_is _ P o n w _ tt (λ k m a. open_is P (has_failed_in k) k.core t w tt tt a.why)
-
   module _ (g : Ghosts D) where
-    pub call_refused : (t : ℕ) (op : Op) → IsAskedOf {T = Called} o (Err w) n (λ k m. AnswersCall g k t op (Err w) m) → IsCallRefusal op w
+    pub begin_refused : (session : ℕ) → IsAskedOf {T = ℕ} o (Err w) n (λ k m. DidBegin g k session (Err w) m) → IsBeginRefusal w
+    begin_refused session = let P : Refusal → Type 0 = IsBeginRefusal in
+        asked_is _ P o n w _ tt (λ k m a. memory_or P w tt (λ other.
+        if_is P (has_failed_in k) refusal.DeviceFailed w _ tt (if_is P _ refusal.TooManyTransactions w _ tt (if_is P _ refusal.BookFull w _ tt (unless_is P _ refusal.LogFull w tt))) (a.answers.refused.why other)))
+
+    pub commit_refused : (t : ℕ) → IsAskedOf {T = ℕ} o (Err w) n (λ k m. DidCommit g k t (Err w) m) → IsCommitRefusal w
+    commit_refused t = let P : Refusal → Type 0 = IsCommitRefusal in
+        asked_is _ P o n w _ tt (λ k m a. memory_or P w tt (λ other. commit_is P (has_failed_in k) k.core t w tt tt tt (a.answers.refused.why other)))
+
+    pub abort_refused : (t : ℕ) → IsAskedOf {T = Unit {0}} o (Err w) n (λ k m. DidAbort g k t (Err w) m) → IsAbortRefusal w
+    abort_refused t = let P : Refusal → Type 0 = IsAbortRefusal in
+        asked_is _ P o n w _ tt (λ k m a. open_is P (has_failed_in k) k.core t w tt tt a.answers.why)
+
+    pub call_refused : (t : ℕ) (op : Op) → IsAskedOf {T = Called} o (Err w) n (λ k m. DidCall g k t op (Err w) m) → IsCallRefusal op w
     call_refused t op = asked_is _ (IsCallRefusal op) o n w _ tt did
       where
-        did : (k m : KernelSeen D) → AnswersCall g k t op (Err w) m → IsCallRefusal op w
+        did : (k m : KernelSeen D) → DidCall g k t op (Err w) m → IsCallRefusal op w
         did k m a = go (call_cause k.relations k.counters (has_failed_in k) k.core t op) refl
           where
             go : (c : Option Refusal) → call_cause k.relations k.counters (has_failed_in k) k.core t op ≡ c → IsCallRefusal op w
-            go None none = answer_refuses g k.relations k.counters k.core t op w (a.answer none)
-            go (Some x) some = subst (IsCallRefusal op) (let is = (a.early x some).0 in let same : x ≡ w = cc in same) (cause_refuses k.relations k.counters (has_failed_in k) k.core t op x some)
+            go None none = answer_refuses g k.relations k.counters k.core t op w (a.answers.answer none)
+            go (Some x) some = subst (IsCallRefusal op) (let is = (a.answers.early x some).0 in let same : x ≡ w = cc in same) (cause_refuses k.relations k.counters (has_failed_in k) k.core t op x some)
 
-    pub step_refused : (t : ℕ) → IsAskedOf {T = Stepped} o (Err w) n (λ k m. AnswersStep g k t (Err w) m) → IsStepRefusal w
+    pub step_refused : (t : ℕ) → IsAskedOf {T = Stepped} o (Err w) n (λ k m. DidStep g k t (Err w) m) → IsStepRefusal w
     step_refused t = let P : Refusal → Type 0 = IsStepRefusal in
-        asked_is _ P o n w _ tt (λ k m a. memory_or P w tt (λ other. ⊎_elim (step_is P (has_failed_in k) k.core t w tt tt) (fault_is P g k.core m.core w tt) (a.why other)))
+        asked_is _ P o n w _ tt (λ k m a. memory_or P w tt (λ other. ⊎_elim (step_is P (has_failed_in k) k.core t w tt tt) (fault_is P g k.core m.core w tt) (a.answers.why other)))
 
-    pub undo_refused : (t : ℕ) → w ≢ refusal.NoMemory → IsAskedOf {T = AbortStepped} o (Err w) n (λ k m. AnswersAbortStep g k t (Err w) m) → IsAbortRefusal w
+    pub undo_refused : (t : ℕ) → w ≢ refusal.NoMemory → IsAskedOf {T = AbortStepped} o (Err w) n (λ k m. DidAbortStep g k t (Err w) m) → IsAbortRefusal w
     undo_refused t other = let P : Refusal → Type 0 = IsAbortRefusal in
-        asked_is _ P o n w _ tt (λ k m a. ⊎_elim (abort_is P (has_failed_in k) k.core t w tt tt) (fault_is P g k.core m.core w tt) (a.why other))
+        asked_is _ P o n w _ tt (λ k m a. ⊎_elim (abort_is P (has_failed_in k) k.core t w tt tt) (fault_is P g k.core m.core w tt) (a.answers.why other))
 
 -- what makes no room is a cause of each step that asks for it
 pub room_steps : (w : Refusal) → IsRoomRefusal w → IsStepRefusal w
@@ -186,10 +186,10 @@ none_sized relations counters failed k t op none =
     last_none (name_cause relations counters op) (size_cause op) (last_none (count_cause k t) _ (last_none (busy_cause k t) _ (last_none (open_cause failed k t) _ none)))
 
 -- an operation that was not refused lies within its limits
-pub call_sized : {D : Type 0} → (g : Ghosts D) (o n : Option (KernelSeen D)) (t : ℕ) (op : Op) (x : Called) → IsAskedOf {T = Called} o (Ok x) n (λ k m. AnswersCall g k t op (Ok x) m) → size_cause op ≡ None
+pub call_sized : {D : Type 0} → (g : Ghosts D) (o n : Option (KernelSeen D)) (t : ℕ) (op : Op) (x : Called) → IsAskedOf {T = Called} o (Ok x) n (λ k m. DidCall g k t op (Ok x) m) → size_cause op ≡ None
 call_sized g None n t op x asked = absurd (ok_is x refusal.DeviceFailed asked.0)
 call_sized g (Some k) n t op x asked = go (call_cause k.relations k.counters (has_failed_in k) k.core t op) refl
   where
     go : (c : Option Refusal) → call_cause k.relations k.counters (has_failed_in k) k.core t op ≡ c → size_cause op ≡ None
     go None none = none_sized k.relations k.counters (has_failed_in k) k.core t op none
-    go (Some w) some = absurd (ok_is x w (asked.2.early w some).0)
+    go (Some w) some = absurd (ok_is x w (asked.2.answers.early w some).0)

@@ -1,25 +1,28 @@
 -- A log that is turned over under the lock.
-use Rattle.std.proofs.Common.{◌≡◌, ◌≤◌, ℕ, Bool, true, List, length, Option, Some, None, Result, Ok, Err, refl, sym, subst, arith}
+use Rattle.std.proofs.Common.{◌≡◌, ◌≤◌, ◌∙◌, ℕ, Bool, true, false, List, length, Option, Some, None, Result, Ok, Err, ap, inr, refl, sym, subst, arith, ⊎_elim}
 use Rattle.std.specs.Prelude.{IfErr, IsErr, IsOk}
 use mathlib.Core.List.{IsPrefix}
 use Rattle.mt_base.specs.declared.refusal.Refusal.{Refusal}
+use Rattle.mt_base.specs.declared.refusal.Refusal.TheVariants as refusal
 use Rattle.mt_disk.specs.declared.device.Device.{Ghosts}
 use Rattle.mt_model.specs.Model as model
 use Rattle.mt_model.specs.Views.{base_of}
 use Rattle.mt_model.specs.declared.history.Committed.{Committed}
 use Rattle.mt_model.specs.declared.tables.Base.{Base}
+use Rattle.mt_restart.proofs.EarlyCauses.{early_failed, not_early}
 use Rattle.mt_restart.proofs.Standings.{rotated_of, stands_over}
-use Rattle.mt_restart.specs.Rotated.{Rotates}
+use Rattle.mt_restart.specs.Rotated.{IsKeptCause, IsLeft, Rotates, early_cause}
 use Rattle.mt_restart.specs.Standings.{HasFrames, device_at}
 use Rattle.mt_restart.specs.TurnFaults.{IsTurnFault}
 use Rattle.mt_restart.specs.declared.standing.Standing.{Standing}
 use Rattle.mt_restart.specs.declared.standing.Standing.TheVariants.{Stands, Ended}
 use Rattle.mt_txn.specs.Restarted.{FindsMeanwhile}
 use Rattle.mt_txn.specs.Seen.{KernelSeen, seen_of}
-use Rattle.mt_txn.specs.Shown.{Restarts}
+use Rattle.mt_txn.specs.Shown.{Restarts, is_failed}
+use Rattle.mt_txn.specs.Turned.{HasNobody}
 use Rattle.mt_txn.specs.declared.kernel.Kernel.{Kernel}
 use Rattle.mt_locked.specs.Standings.{LeavesBook, kernel_in}
-use Rattle.mt_locked.specs.Turns.{IsOneTurn, IsRotation}
+use Rattle.mt_locked.specs.Turns.{IsOneTurn, IsRotation, IsTooEarly}
 use Rattle.mt_locked.proofs.Books.{whole_front}
 use Rattle.mt_locked.proofs.Keeping.{turned_began, turned_book}
 use Rattle.mt_locked.proofs.Standings.{found_with}
@@ -28,10 +31,18 @@ use Rattle.mt_locked.proofs.Standings.{found_with}
 stands_here : {D P : Type 0} (k : KernelSeen D) → ◌≡◌ {A = Option (KernelSeen D)} (Some k) None → P
 stands_here k wrong = absurd cc
 
+-- what is too early is no refusal, and did not turn over
+not_refused : (o : Result Bool Refusal) → o ≡ Ok false → IsErr o → ⊥
+not_refused (Ok b) is refused = absurd cc
+not_refused (Err why) is refused = absurd cc
+
+not_both : (o : Result Bool Refusal) → o ≡ Ok true → o ≡ Ok false → ⊥
+not_both o did early = let wrong : ◌≡◌ {A = Result Bool Refusal} (Ok true) (Ok false) = sym did ∙ early in absurd cc
+
 module _ {D : Type 0} (g : Ghosts D) where
   -- what has not been turned over, and is refused or too early
-  pub not_turned : (commits frames : ℕ) (s : Standing D g) (outcome : Result Bool Refusal) → IfErr outcome IsTurnFault → (outcome ≡ Ok true → ⊥) → (kernel_in s ≡ None → IsErr outcome) → IsRotation g commits frames s s outcome
-  not_turned commits frames s outcome why not gone = record { keeps = λ base history long keeps. (keeps, refl); why = why; did = λ did. absurd (not did); gone = gone }
+  pub not_turned : (commits frames : ℕ) (s : Standing D g) (outcome : Result Bool Refusal) → IfErr outcome IsTurnFault → (outcome ≡ Ok true → ⊥) → (outcome ≡ Ok false → IsTooEarly commits s) → (kernel_in s ≡ None → IsErr outcome) → IsRotation g commits frames s s outcome
+  not_turned commits frames s outcome why not early gone = record { keeps = λ base history long keeps. (keeps, refl); why = why; did = λ did. absurd (not did); early = λ is. (refl, early is); gone = gone }
 
   -- the device that is left leaves the whole book
   pub left_whole : (k : Kernel D g) (device : D) → ((t : ℕ) (c : List ℕ) → t ≤ g.moment device → g.may_leave device c → g.left_since device t c)
@@ -41,12 +52,35 @@ module _ {D : Type 0} (g : Ghosts D) where
       let f = found (base_of base) restarts in
       found_with base k c (f.each c (counts (g.moment k.core.operations.store.device) c f.later leaves))
 
+  -- a kernel that was refused for no fault is left as it was, since somebody lives in it
+  left_early : (commits : ℕ) (k n : Kernel D g) (why : Refusal) → (IsTurnFault why → ⊥) → IsLeft k why n → (Stands n ≡ Stands k) × IsTooEarly commits (Stands k)
+  left_early commits k n why faultless left = ⊎_elim
+      (λ at_once. (ap (λ (x : Kernel D g). Stands x) at_once.1, inr (λ nobody. busy (is_failed k) refl nobody at_once.0)))
+      (λ kept. absurd (not_kept why faultless kept.1))
+      left.cause
+    where
+      busy : (failed : Bool) → is_failed k ≡ failed → HasNobody k → early_cause k ≡ Some why → ⊥
+      busy true is nobody early = faultless (subst IsTurnFault (let same : Some refusal.DeviceFailed ≡ Some why = sym (early_failed k is) ∙ early in let one : refusal.DeviceFailed ≡ why = cc in one) tt)
+      busy false is nobody early = not_early k why is nobody early
+
+      not_kept : (w : Refusal) → (IsTurnFault w → ⊥) → IsKeptCause n w → ⊥
+      not_kept refusal.NoMemory none kept = none tt
+      not_kept refusal.DeviceFailed none kept = none tt
+      not_kept refusal.LogFull none kept = none tt
+      not_kept _ none kept = kept
+
+  early_of : (commits : ℕ) (k n : Kernel D g) (r : Result (Unit {0}) Refusal) (outcome : Result Bool Refusal) → (IsOk r → outcome ≡ Ok true) → IfErr r (λ why. IsTurnFault why → IsErr outcome) → Rotates k (Stands n) r
+      → outcome ≡ Ok false → (Stands n ≡ Stands k) × IsTooEarly commits (Stands k)
+  early_of commits k n (Ok u) outcome so fault rotates is = absurd (not_both outcome (so refl) is)
+  early_of commits k n (Err why) outcome so fault rotates is =
+      left_early commits k n why (λ faulty. not_refused outcome is (fault faulty)) rotates
+
   pub turned_so : (commits frames : ℕ) (k : Kernel D g) (new : Standing D g) (r : Result (Unit {0}) Refusal) (outcome : Result Bool Refusal)
       → ((device : D) (t : ℕ) (c : List ℕ) → t ≤ g.moment device → g.may_leave device c → g.left_since device t c)
       → ((first : model.Base) → Restarts first k → FindsMeanwhile g k.relations k.counters first k.core (device_at new))
-      → IfErr outcome IsTurnFault → (outcome ≡ Ok true → IsOk r) → IfErr r (λ why. IsTurnFault why → IsErr outcome) → length k.core.book.items ≡ commits
+      → IfErr outcome IsTurnFault → (outcome ≡ Ok true → IsOk r) → (IsOk r → outcome ≡ Ok true) → IfErr r (λ why. IsTurnFault why → IsErr outcome) → length k.core.book.items ≡ commits
       → (IsOk r → HasFrames frames new) → Rotates k new r → IsRotation g commits frames (Stands k) new outcome
-  turned_so commits frames k (Stands n) r outcome counts found why did fault just many rotates =
+  turned_so commits frames k (Stands n) r outcome counts found why did so fault just many rotates =
       let over = stands_over k n r rotates in record {
         keeps = λ base history long keeps. let same = turned_book base k n over.state keeps.0 in
             ((turned_began base k n over.state over.restarts keeps.0, subst (IsPrefix history) (sym same) keeps.1), same);
@@ -64,14 +98,16 @@ module _ {D : Type 0} (g : Ghosts D) where
               images = x.begun;
               many = many (did is);
             } in ∣ turn ∣₁;
+        early = early_of commits k n r outcome so fault rotates;
         gone = stands_here (seen_of n);
       }
-  turned_so commits frames k (Ended device) (Ok u) outcome counts found why did fault just many rotates = absurd rotates
-  turned_so commits frames k (Ended device) (Err refusal) outcome counts found why did fault just many rotates = record {
+  turned_so commits frames k (Ended device) (Ok u) outcome counts found why did so fault just many rotates = absurd rotates
+  turned_so commits frames k (Ended device) (Err refusal) outcome counts found why did so fault just many rotates = record {
     keeps = λ base history long keeps.
         let whole : history ≡ k.core.book.items = whole_front history k.core.book.items keeps.1 (omega (arith, long, just)) in
         (subst (λ (h : List Committed). LeavesBook g base h device) (sym whole) (left_whole k device (counts device) found base keeps.0.1), whole);
     why = why;
     did = λ is. absurd (let no = did is in cc);
+    early = λ is. absurd (not_refused outcome is (fault (subst IsTurnFault (sym rotates.0) tt)));
     gone = λ left. fault (subst IsTurnFault (sym rotates.0) tt);
   }

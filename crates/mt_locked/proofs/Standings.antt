@@ -9,6 +9,8 @@ use Rattle.mt_base.specs.declared.refusal.Refusal.TheVariants.{DeviceFailed}
 use Rattle.mt_disk.specs.declared.device.Device.{Ghosts}
 use Rattle.mt_core.specs.Booked.{txns_of}
 use Rattle.mt_core.specs.Consistent.{session_in}
+use Rattle.mt_core.specs.declared.calls.Called.{Called}
+use Rattle.mt_core.specs.declared.calls.Called.TheVariants as call
 use Rattle.mt_live.specs.Laws.{in_turn}
 use Rattle.mt_live.specs.Machine.{State}
 use Rattle.mt_mark.specs.Legal.{IsLegal}
@@ -16,23 +18,26 @@ use Rattle.mt_mark.specs.Rule.{dones}
 use Rattle.mt_mark.specs.declared.view.Entry.{Entry}
 use Rattle.mt_mark.proofs.Fronts.{prefix_self, prefix_trans}
 use Rattle.mt_model.specs.History.{after}
+use Rattle.mt_model.specs.Model as model
 use Rattle.mt_model.specs.Views.{base_of}
 use Rattle.mt_model.specs.declared.history.Committed.{Committed}
+use Rattle.mt_model.specs.declared.operations.Op.{Op}
 use Rattle.mt_model.specs.declared.tables.Base.{Base}
 use Rattle.mt_replay.specs.Stands.{CanRestart}
 use Rattle.mt_restart.specs.Standings.{IsFoundAfter, device_at}
 use Rattle.mt_restart.specs.declared.standing.Standing.{Standing}
 use Rattle.mt_restart.specs.declared.standing.Standing.TheVariants.{Stands, Ended}
 use Rattle.mt_txn.specs.Causes.{IsRefusedAtOnce}
-use Rattle.mt_txn.specs.Events.{HasForced}
+use Rattle.mt_txn.specs.Events.{HasCalled, HasForced}
 use Rattle.mt_txn.specs.Restarted.{all_commits, FindsCommits}
-use Rattle.mt_txn.specs.Seen.{KernelSeen, seen_of}
+use Rattle.mt_txn.specs.Seen.{KernelSeen, ShowsSeen, seen_of}
 use Rattle.mt_txn.specs.Shown.{Shows, StaysRestarting}
 use Rattle.mt_txn.specs.declared.answers.KernelForced.{KernelForced}
 use Rattle.mt_txn.specs.declared.kernel.Kernel.{Kernel}
+use Rattle.mt_locked.specs.Asked.{CallsTo}
 use Rattle.mt_locked.specs.Began.{BeganOn}
 use Rattle.mt_locked.specs.Seen.{IsAskedOf, LockedSeen}
-use Rattle.mt_locked.specs.Standings.{HasBook, KeepsHistory, LeavesBook, book_in, kernel_in, seen_in}
+use Rattle.mt_locked.specs.Standings.{HasBook, IsDeviceSeen, KeepsHistory, LeavesBook, book_in, kernel_in, seen_in}
 use Rattle.mt_locked.proofs.Books.{dones-length, grown, none_behind}
 use Rattle.mt_locked.proofs.Keeping.{Goes, forced_began, forced_grows, legal_book, same_book, still_began}
 
@@ -104,6 +109,13 @@ module _ {D : Type 0} {g : Ghosts D} where
   pub at_once : {T : Type 0} → (cause : Option Refusal) (k n : Kernel D g) (r : Result T Refusal) → IsRefusedAtOnce cause k r n → IsRefusedAtOnce cause (seen_of k) r (seen_of n)
   at_once cause k n r early why is = ((early why is).0, ap (λ (x : Kernel D g). seen_of x) (early why is).1)
 
+  -- what a call left is seen so
+  pub calls_to : (first : model.Base) (s : State) (t : ℕ) (op : Op) (r : Result Called Refusal) (n : Kernel D g) → HasCalled first s t op r n
+      → CallsTo (λ z. ShowsSeen g first z (seen_of n)) s t op r
+  calls_to first s t op (Ok call.Started) n did = did
+  calls_to first s t op (Ok (call.Wait holder)) n did = did
+  calls_to first s t op (Err why) n did = did
+
   -- none stood
   pub unasked : {T : Type 0} → (s : Standing D g) (device : D) (list : List Entry) (old : LockedSeen D) (r : Result T Refusal) (Did : KernelSeen D → KernelSeen D → Type 0)
       → s ≡ Ended device → seen_in s list ≡ old → r ≡ Err DeviceFailed → IsAskedOf old.kernel r (kernel_in s) Did
@@ -111,6 +123,11 @@ module _ {D : Type 0} {g : Ghosts D} where
       let none : kernel_in s ≡ None = ap (λ (x : Standing D g). kernel_in x) is in
       let was : None ≡ old.kernel = sym none ∙ ap (λ (l : LockedSeen D). l.kernel) there in
       subst (λ (o : Option (KernelSeen D)). IsAskedOf o r (kernel_in s) Did) was (refused, none)
+
+  -- the device of what stands
+  pub device_seen : (s : Standing D g) (list : List Entry) (old : LockedSeen D) (device : D) → device ≡ device_at s → seen_in s list ≡ old → IsDeviceSeen old.kernel device
+  device_seen (Stands k) list old device is there = subst (λ (o : Option (KernelSeen D)). IsDeviceSeen o device) (ap (λ (l : LockedSeen D). l.kernel) there) is
+  device_seen (Ended alone) list old device is there = subst (λ (o : Option (KernelSeen D)). IsDeviceSeen o device) (ap (λ (l : LockedSeen D). l.kernel) there) tt
 
   -- ---- what a crash leaves
 

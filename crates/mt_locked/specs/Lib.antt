@@ -1,6 +1,8 @@
+pub mod Asked
 pub mod Began
 pub mod Names
 pub mod Refusals
+pub mod Rooms
 pub mod Seen
 pub mod Standings
 pub mod Turns

@@ -1,6 +1,7 @@
 -- What stands under the lock: a kernel, or the device that a rotation left of it.
-use Rattle.std.specs.Prelude.{◌++◌, ℕ, List, Option, Some, None}
+use Rattle.std.specs.Prelude.{◌≡◌, ◌++◌, ℕ, List, Option, Some, None, ⊤}
 use mathlib.Core.List.{IsPrefix}
+use Rattle.mt_core.specs.Seen.{core_device}
 use Rattle.mt_disk.specs.declared.device.Device.{Ghosts}
 use Rattle.mt_model.specs.History.{after}
 use Rattle.mt_model.specs.Views.{base_of}
@@ -46,3 +47,8 @@ kernel_in (Ended device) = None
 -- what contracts see of it, with the history as it is at the mark
 abbrev pub seen_in : {D : Type 0} → {g : Ghosts D} → Standing D g → List Entry → LockedSeen D
 seen_in standing list = record { kernel = kernel_in standing; book = book_in standing (dones list); list = list }
+
+-- it is the device of the kernel that is seen, if one stands
+abbrev pub IsDeviceSeen : {D : Type 0} → Option (KernelSeen D) → D → Type 0
+IsDeviceSeen None device = ⊤
+IsDeviceSeen (Some k) device = device ≡ core_device k.core

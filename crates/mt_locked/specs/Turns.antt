@@ -1,6 +1,7 @@
 -- What is reported of a kernel under the lock: of its log, and of a log that was turned over.
-use Rattle.std.specs.Prelude.{◌≡◌, ℕ, Bool, true, List, length, None, Result, Ok, IfErr, IsErr}
+use Rattle.std.specs.Prelude.{◌≡◌, ◌≢◌, ◌⊎◌, ◌<◌, ◌/◌, ℕ, Bool, true, false, List, length, Option, None, Some, Result, Ok, IfErr, IsErr}
 use Rattle.mt_base.specs.declared.refusal.Refusal.{Refusal}
+use Rattle.mt_core.specs.Seen.{core_log}
 use Rattle.mt_disk.specs.declared.device.Device.{Ghosts}
 use Rattle.mt_live.specs.Machine.{State}
 use Rattle.mt_log.specs.Words.{appended, area_size, used}
@@ -12,10 +13,14 @@ use Rattle.mt_restart.specs.Rotated.{early_cause}
 use Rattle.mt_locked.specs.Began.{BeganOn}
 use Rattle.mt_restart.specs.TurnFaults.{IsTurnFault}
 use Rattle.mt_restart.specs.declared.standing.Standing.{Standing}
+use Rattle.mt_restart.specs.declared.standing.Standing.TheVariants.{Stands, Ended}
+use Rattle.mt_locked.specs.Seen.{LockedSeen}
 use Rattle.mt_locked.specs.Standings.{KeepsHistory, book_in, kernel_in}
+use Rattle.mt_txn.specs.Seen.{KernelSeen}
 use Rattle.mt_txn.specs.Shown.{Shows, kernel_frames, kernel_log}
 use Rattle.mt_txn.specs.declared.kernel.Kernel.{Kernel}
 use Rattle.mt_txn.specs.declared.log_use.LogUse.{LogUse}
+use Rattle.mt_txn.specs.Turned.{HasNobody}
 use Rattle.mt_txn.specs.Words.{kernel_book}
 
 -- a kernel that began on this base has so many bytes of its log's area in use
@@ -27,6 +32,17 @@ pub record IsUse {D : Type 0} (g : Ghosts D) (base : Base) (u : LogUse) : Type 0
 
 abbrev pub IsUseOn : {D : Type 0} → Ghosts D → Base → LogUse → Type 0
 IsUseOn g base u = ∥ IsUse g base u ∥₁
+
+-- They are those of the kernel that is seen, and there are none if none stands.
+abbrev pub IsUseSeen : {D : Type 0} → Option (KernelSeen D) → Option LogUse → Type 0
+IsUseSeen None u = u ≡ None
+IsUseSeen (Some k) None = ⊥
+IsUseSeen (Some k) (Some u) = (u.used ≡ used (core_log k.core)) × (u.size ≡ area_size (core_log k.core))
+
+-- more than half of its log's area is in use
+abbrev pub IsHalfUsed : {D : Type 0} → Option (KernelSeen D) → Type 0
+IsHalfUsed None = ⊥
+IsHalfUsed (Some k) = area_size (core_log k.core) / 2 < used (core_log k.core)
 
 -- A kernel that began on this base had not failed, and nobody lived in it. It goes on as another one, in whatever
 -- state it was, with its book and so many frames, and with a log that has no record but its area's images.
@@ -44,6 +60,21 @@ pub record IsOneTurn {D : Type 0} (g : Ghosts D) (frames : ℕ) (base : Base) : 
 abbrev pub HasTurned : {D : Type 0} → Ghosts D → ℕ → Base → Type 0
 HasTurned g frames base = ∥ IsOneTurn g frames base ∥₁
 
+-- It is too early to turn the log over under a history of so many commits: the book has others, or a transaction is
+-- active.
+abbrev pub IsTooEarly : {D : Type 0} → {g : Ghosts D} → ℕ → Standing D g → Type 0
+IsTooEarly commits (Stands k) = (length (kernel_book k) ≢ commits) ⊎ (HasNobody k → ⊥)
+IsTooEarly commits (Ended device) = ⊥
+
+-- a transaction is active in the kernel that is seen
+abbrev pub IsBusyIn : {D : Type 0} → Option (KernelSeen D) → Type 0
+IsBusyIn None = ⊥
+IsBusyIn (Some k) = length k.core.live.members ≢ 0
+
+-- it is too early for what is seen
+abbrev pub IsTooEarlyIn : {D : Type 0} → LockedSeen D → Type 0
+IsTooEarlyIn l = (length l.book ≢ length l.list) ⊎ IsBusyIn l.kernel
+
 -- What a rotation to so many frames makes of what stands under a history of so many commits, and what it answers. That
 -- history and the book are kept.
 pub record IsRotation {D : Type 0} (g : Ghosts D) (commits frames : ℕ) (old new : Standing D g)
@@ -54,5 +85,7 @@ pub record IsRotation {D : Type 0} (g : Ghosts D) (commits frames : ℕ) (old ne
   pub why : IfErr outcome IsTurnFault
   pub did : outcome ≡ Ok true → (base : Base) (history : List Committed)
       → KeepsHistory base history old → HasTurned g frames base
+  -- if it is too early, nothing is done
+  pub early : outcome ≡ Ok false → (new ≡ old) × IsTooEarly commits old
   -- if no more than the device is left, it is refused
   pub gone : kernel_in new ≡ None → IsErr outcome

@@ -4,13 +4,14 @@ ghost use Rattle.std.specs.Prelude.{◌≡◌, ◌<◌, ◌+◌, ◌++◌, ◌�
 ghost use mathlib.Core.List.{IsPrefix};
 ghost use Rattle.mt_mark.specs.Legal.{IsLegal};
 ghost use Rattle.mt_mark.specs.Rule.{dones, Holds, IsConfirmed};
+ghost use Rattle.mt_locked.specs.Asked.{DidAbort, DidAbortStep, DidBegin, DidCall, DidCommit, DidFlush, DidForce, DidStep};
 ghost use Rattle.mt_locked.specs.Began.{BeganOn, IsIdle};
-ghost use Rattle.mt_locked.specs.Standings.{LeavesBook};
+ghost use Rattle.mt_locked.specs.Standings.{IsDeviceSeen, LeavesBook};
 ghost use Rattle.mt_locked.specs.Refusals.{IsCloseRefusal, IsRoomRefusal};
 ghost use Rattle.mt_restart.specs.TurnFaults.{IsTurnFault};
+ghost use Rattle.mt_locked.specs.Rooms.{GoesOnFrom, MakesRoom};
 ghost use Rattle.mt_locked.specs.Seen.{PassSeen, Entered, CannotEnter, IsAsked, IsToForce, is_failed_in, under_way_in};
-ghost use Rattle.mt_locked.specs.Turns.{HasTurned, IsUseOn};
-ghost use Rattle.mt_txn.specs.Answered.{AnswersAbort, AnswersAbortStep, AnswersBegin, AnswersCall, AnswersCommit, AnswersFlush, AnswersForce, AnswersStep};
+ghost use Rattle.mt_locked.specs.Turns.{HasTurned, IsHalfUsed, IsTooEarlyIn, IsUseOn, IsUseSeen};
 ghost use Rattle.mt_txn.specs.Seen.{seen_of};
 ghost use Rattle.mt_txn.specs.Shown.{is_failed};
 ghost use Rattle.mt_txn.specs.Turned.{HasNobody};
@@ -193,7 +194,7 @@ impl<D: Device, J: Naming> Locked<D, J> {
 
     /// Begins a transaction, as [`Kernel::begin`]; the book and the history stay.
     pub fn begin(&mut self, session: u32) -> Result<TxnNo, Refusal>
-        ensures kernel { IsAsked self.old result self.new (λ k n. AnswersBegin k result n) }
+        ensures kernel { IsAsked self.old result self.new (λ k n. DidBegin D.Device k session result n) }
         ensures book { self.new.book ≡ self.old.book }
         ensures list { self.new.list ≡ self.old.list }
     {
@@ -206,7 +207,7 @@ impl<D: Device, J: Naming> Locked<D, J> {
     /// Begins an operation, as [`Kernel::call`]; the book and the history stay.
     pub fn call(&mut self, txn: TxnNo, op: &Op) -> Result<Called, Refusal>
         ensures kernel { IsAsked self.old result self.new
-            (λ k n. AnswersCall D.Device k txn op.now result n) }
+            (λ k n. DidCall D.Device k txn op.now result n) }
         ensures book { self.new.book ≡ self.old.book }
         ensures list { self.new.list ≡ self.old.list }
     {
@@ -219,7 +220,7 @@ impl<D: Device, J: Naming> Locked<D, J> {
     /// Makes a step of an operation, as [`Kernel::step`]; the book and the history stay.
     pub fn step(&mut self, txn: TxnNo) -> Result<Stepped, Refusal>
         ensures kernel { IsAsked self.old result self.new
-            (λ k n. AnswersStep D.Device k txn result n) }
+            (λ k n. DidStep D.Device k txn result n) }
         ensures book { self.new.book ≡ self.old.book }
         ensures list { self.new.list ≡ self.old.list }
     {
@@ -231,7 +232,7 @@ impl<D: Device, J: Naming> Locked<D, J> {
 
     /// Appends a commit, and answers its position, as [`Kernel::commit_begin`]; the book and the history stay.
     pub fn commit_begin(&mut self, txn: TxnNo) -> Result<u64, Refusal>
-        ensures kernel { IsAsked self.old result self.new (λ k n. AnswersCommit k txn result n) }
+        ensures kernel { IsAsked self.old result self.new (λ k n. DidCommit D.Device k txn result n) }
         ensures book { self.new.book ≡ self.old.book }
         ensures list { self.new.list ≡ self.old.list }
     {
@@ -243,7 +244,7 @@ impl<D: Device, J: Naming> Locked<D, J> {
 
     /// Begins an abort, as [`Kernel::abort_begin`]; the book and the history stay.
     pub fn abort_begin(&mut self, txn: TxnNo) -> Result<(), Refusal>
-        ensures kernel { IsAsked self.old result self.new (λ k n. AnswersAbort k txn result n) }
+        ensures kernel { IsAsked self.old result self.new (λ k n. DidAbort D.Device k txn result n) }
         ensures book { self.new.book ≡ self.old.book }
         ensures list { self.new.list ≡ self.old.list }
     {
@@ -256,7 +257,7 @@ impl<D: Device, J: Naming> Locked<D, J> {
     /// Makes a step of an abort, as [`Kernel::abort_step`]; the book and the history stay.
     pub fn abort_step(&mut self, txn: TxnNo) -> Result<AbortStepped, Refusal>
         ensures kernel { IsAsked self.old result self.new
-            (λ k n. AnswersAbortStep D.Device k txn result n) }
+            (λ k n. DidAbortStep D.Device k txn result n) }
         ensures book { self.new.book ≡ self.old.book }
         ensures list { self.new.list ≡ self.old.list }
     {
@@ -268,7 +269,7 @@ impl<D: Device, J: Naming> Locked<D, J> {
 
     /// Flushes a page, as [`Kernel::flush_step`]; the book and the history stay.
     pub fn flush_step(&mut self) -> Result<Flushed, Refusal>
-        ensures kernel { IsAsked self.old result self.new (λ k n. AnswersFlush D.Device k result n) }
+        ensures kernel { IsAsked self.old result self.new (λ k n. DidFlush D.Device k result n) }
         ensures book { self.new.book ≡ self.old.book }
         ensures list { self.new.list ≡ self.old.list }
     {
@@ -280,7 +281,7 @@ impl<D: Device, J: Naming> Locked<D, J> {
 
     /// One force step. The book grows at its end.
     pub fn force_step(&mut self) -> Result<KernelForced, Refusal>
-        ensures kernel { IsAsked self.old result self.new (λ k n. AnswersForce D.Device k result n) }
+        ensures kernel { IsAsked self.old result self.new (λ k n. DidForce D.Device k result n) }
         ensures book { IsPrefix self.old.book self.new.book }
         ensures list { self.new.list ≡ self.old.list }
     {
@@ -293,16 +294,28 @@ impl<D: Device, J: Naming> Locked<D, J> {
     /// Flushes a page; if each waits for the log, one step of a force. Refused with 1 or 2.
     pub fn make_room(&mut self) -> Result<(), Refusal>
         ensures why { IfErr result IsRoomRefusal }
+        ensures kernel { MakesRoom D.Device self.old.kernel result self.new.kernel }
         ensures book { IsPrefix self.old.book self.new.book }
         ensures list { self.new.list ≡ self.old.list }
     {
-        match self.flush_step()? {
-            Flushed::Page(_) | Flushed::Clean => {}
+        let flushed = self.flush_step()?;
+        self.go_on(flushed)
+    }
+
+    // Goes on after a flush: if each page waits for the log, a step of a force is made.
+    fn go_on(&mut self, flushed: Flushed) -> Result<(), Refusal>
+        ensures why { IfErr result IsRoomRefusal }
+        ensures kernel { GoesOnFrom D.Device (Ok flushed) self.old.kernel result self.new.kernel }
+        ensures book { IsPrefix self.old.book self.new.book }
+        ensures list { self.new.list ≡ self.old.list }
+    {
+        match flushed {
+            Flushed::Page(_) | Flushed::Clean => Ok(()),
             Flushed::Force => {
-                self.force_step()?;
+                drop(self.force_step()?);
+                Ok(())
             }
         }
-        Ok(())
     }
 
     // Why this cannot be closed, if it cannot. Each durable transaction is entered by its pass, and is waited for.
@@ -337,6 +350,7 @@ impl<D: Device, J: Naming> Locked<D, J> {
         ensures idle { IfOk result (λ k. is_failed k ≡ false → IsIdle k) }
         ensures why { IfErr result (λ u. IsCloseRefusal u.why) }
         ensures back { IfErr result (λ u. u.passes.items ≡ passes.items) }
+        ensures stays { IfErr result (λ u. u.locked ≡ self) }
     {
         let Locked {
             standing,
@@ -375,6 +389,7 @@ impl<D: Device, J: Naming> Locked<D, J> {
         ensures idle { IfOk result (λ k. is_failed k ≡ false → IsIdle k) }
         ensures why { IfErr result (λ u. IsCloseRefusal u.why) }
         ensures back { IfErr result (λ u. u.passes.items ≡ passes.items) }
+        ensures stays { IfErr result (λ u. u.locked ≡ self) }
     {
         let mut locked = self;
         match locked.close_cause(passes.as_slice()) {
@@ -391,7 +406,8 @@ impl<D: Device, J: Naming> Locked<D, J> {
 
     /// How much of the log's area is in use.
     pub fn log_use(&self) -> Option<LogUse>
-        ensures { IfSome result (IsUseOn ⟦<D as Device>⟧ J.base) }
+        ensures use_on { IfSome result (IsUseOn ⟦<D as Device>⟧ J.base) }
+        ensures kernel { IsUseSeen self.now.kernel result }
     {
         match &self.standing {
             Standing::Stands(kernel) => Some(kernel.log_use()),
@@ -400,7 +416,9 @@ impl<D: Device, J: Naming> Locked<D, J> {
     }
 
     /// Whether more than half of the log's area is in use; false if a rotation left no kernel.
-    pub fn is_half_used(&self) -> bool {
+    pub fn is_half_used(&self) -> bool
+        ensures { IsTrue result ↔ IsHalfUsed self.now.kernel }
+    {
         match self.log_use() {
             Some(log) => log.is_above_half(),
             None => false,
@@ -465,10 +483,12 @@ impl<D: Device, J: Naming> Locked<D, J> {
 
 impl<D: Device + Drop, J: Naming> Locked<D, J> {
     /// Turns the log over if each transaction of the book is entered and no transaction is active; whether it did.
-    /// Unless it was too early for that, who rotates is not to turn it over before a further transaction has ended.
+    /// If it was too early for that, nothing has changed. Else who rotates is not to turn it over before a further
+    /// transaction has ended.
     pub fn rotate(&mut self, alloc: Global, frames: usize) -> Result<bool, Refusal>
         ensures why { IfErr result IsTurnFault }
         ensures did { result ≡ Ok true → HasTurned ⟦<D as Device>⟧ frames J.base }
+        ensures early { result ≡ Ok false → (self.new ≡ self.old) × IsTooEarlyIn self.old }
         ensures gone { self.new.kernel ≡ None → IsErr result }
         ensures book { self.new.book ≡ self.old.book }
         ensures list { self.new.list ≡ self.old.list }
@@ -484,7 +504,8 @@ impl<D: Device + Drop, J: Naming> Locked<D, J> {
     /// The device, of the kernel or as a rotation left it. What is active is gone with the kernel. Whatever a crash
     /// leaves of the device, a restart finds what the book leads to, or the book and commits that were under way.
     pub fn into_device(self) -> D
-        ensures { LeavesBook D.Device J.base self.book result }
+        ensures leaves { LeavesBook D.Device J.base self.book result }
+        ensures device { IsDeviceSeen self.kernel result }
     {
         let Locked {
             standing,

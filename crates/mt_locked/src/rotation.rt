@@ -27,6 +27,7 @@ fn answer_to(why: Refusal) -> Result<bool, Refusal>
 fn has_turned(outcome: Result<(), Refusal>) -> Result<bool, Refusal>
     ensures why { IfErr result IsTurnFault }
     ensures did { result ≡ Ok true → IsOk outcome }
+    ensures so { IsOk outcome → result ≡ Ok true }
     ensures fault { IfErr outcome (λ why. IsTurnFault why → IsErr result) }
 {
     match outcome {

@@ -25,6 +25,6 @@ pub use laws::{
     calls_say_all_of_the_log,
 };
 pub use log::{Forced, Log};
-pub use masters::{FIRST_SLOT, SECOND_SLOT, ruling_slot};
+pub use masters::{FIRST_SLOT, SECOND_SLOT, ruling_slot, write_master};
 pub use scanner::scan;
 pub use slot_change::{slot_after, turn_slot};

@@ -1,15 +1,19 @@
-// A device's two master slots: which of them is in force. They are only read here; `slot_change` writes one.
+// A device's two master slots: which of them is in force, and how one is written. `slot_change` puts the next in force.
 ghost use Rattle.std.specs.Prelude.{◌≡◌, ◌⊎◌, ◌+◌, ◌<◌, ◌≤◌, ℕ, List, length, IfOk, IfErr, Err};
+ghost use Rattle.mt_base.specs.declared.limits.TheConstants.{MASTER_BYTES};
 ghost use Rattle.mt_base.specs.declared.refusal.Refusal.{Refusal};
 ghost use Rattle.mt_disk.specs.Disk.{LeavesOnly, LeavesTheSame};
+ghost use Rattle.mt_frame.specs.SlotText.{IsSlot};
 ghost use Rattle.mt_frame.specs.declared.slots.MasterSlot.{MasterSlot};
+ghost use Rattle.mt_log.specs.Lasting.{WritesMaster};
 ghost use Rattle.mt_log.specs.Quiet.{OnlyReads};
 ghost use Rattle.mt_log.specs.Masters.{BreaksMaster, IsBadAt, IsFoundAt, IsNewer, IsRuling, IsUnformatted};
 
+use crate::synced_write::write_durably;
 use mt_base::Refusal;
 use mt_base::limits::{MASTER_BYTES, MASTER_SLOT_BYTES, device_bytes};
-use mt_disk::Device;
-use mt_frame::{MasterSlot, SlotRead, decode_slot, slots_are_read_back};
+use mt_disk::{Device, DeviceFault};
+use mt_frame::{MasterSlot, OPEN_GATE, SlotRead, decode_slot, encode_slot, slots_are_read_back};
 
 /// Where the first master slot lies.
 pub const FIRST_SLOT: u64 = 0;
@@ -92,4 +96,22 @@ pub fn ruling_slot<D: Device>(device: &mut D) -> Result<MasterSlot, Refusal>
         (None, Some(slot)) => Ok(slot),
         (Some(first), Some(second)) => newer(first, second),
     }
+}
+
+/// Makes a master slot last, whose gate at this place is closed. It writes the slot after the gate, and syncs; then it
+/// opens the gate, and syncs. So no crash leaves an open gate before bytes that are not the slot's. The only error is
+/// the device's.
+pub fn write_master<D: Device>(
+    device: &mut D,
+    at: u64,
+    slot: &MasterSlot,
+) -> Result<(), DeviceFault>
+    requires fits { IsSlot slot.now }
+    requires within { at + 17 ≤ length (D.seen device.old) }
+    requires below { at + 17 ≤ MASTER_BYTES }
+    ensures { WritesMaster D.Device at slot.now device.old device.new result }
+{
+    let text = encode_slot(slot);
+    write_durably(device, at + 1, &text[1..17])?;
+    write_durably(device, at, &[OPEN_GATE])
 }

@@ -8,11 +8,11 @@ ghost use Rattle.mt_log.specs.Masters.{AreSlots, IsClosedAt, IsRuling, Rules};
 ghost use Rattle.mt_log.specs.NextSlot.{ClosesBeside, TurnsBeside, TurnsTo, next_slot};
 
 use crate::fetch::gate_is_open;
-use crate::masters::{FIRST_SLOT, SECOND_SLOT};
+use crate::masters::{FIRST_SLOT, SECOND_SLOT, write_master};
 use crate::synced_write::write_durably;
 use mt_base::limits::MASTER_SLOT_BYTES;
 use mt_disk::{Device, DeviceFault};
-use mt_frame::{CLOSED_GATE, MasterSlot, OPEN_GATE, encode_slot, slots_are_read_back};
+use mt_frame::{CLOSED_GATE, MasterSlot, encode_slot, slots_are_read_back};
 
 /// The slot that rules next: one opening later, over the other area.
 pub fn slot_after(ruling: &MasterSlot) -> MasterSlot
@@ -53,8 +53,7 @@ fn close_beside<D: Device>(device: &mut D, at: u64, other: u64) -> Result<(), De
     write_durably(device, at, &[CLOSED_GATE])
 }
 
-// Has the next slot rule at `at`, if the gate is closed, beside the slot that rules at `other`. Writes it after the
-// gate, and then opens the gate.
+// Has the next slot rule at `at`, if the gate is closed, beside the slot that rules at `other`.
 fn open_beside<D: Device>(
     device: &mut D,
     at: u64,
@@ -68,9 +67,7 @@ fn open_beside<D: Device>(
     requires epoch { ruling.now.epoch < 2 ^ 63 }
     ensures { TurnsBeside D.Device ruling.now device.old device.new result }
 {
-    let text = encode_slot(&slot_after(ruling));
-    write_durably(device, at + 1, &text[1..17])?;
-    write_durably(device, at, &[OPEN_GATE])
+    write_master(device, at, &slot_after(ruling))
 }
 
 // Has the next slot rule at `at`, beside the slot that rules at `other`, whatever stands at `at`.

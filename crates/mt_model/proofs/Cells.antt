@@ -1,7 +1,11 @@
 -- A base seen at one object at a time: an operation reads one cell and changes no other.
 use Rattle.std.proofs.Common.{◌≡◌, ℕ, pos, ◌==◌, ◌&&◌, Bool, true, false, cond, List, Option, None, bytes_eq, refl}
+use Rattle.std.proofs.lemmas.Bool.{and_parts, and_from}
 use Rattle.std.proofs.lemmas.Bool.Decides.{Decides-eqb}
 use Rattle.std.specs.Cmp.Lexicographic.{bytes_decides}
+use mathlib.Core.HLevel.{is_prop→PathP}
+use Rattle.mt_rows.specs.Listing.{Listing}
+use Rattle.mt_rows.proofs.Listings.{listing_prop}
 use Rattle.mt_model.specs.declared.counters.Count.{Count}
 use Rattle.mt_model.specs.declared.operations.Op.{Op}
 use Rattle.mt_model.specs.declared.operations.Op.TheVariants.{Get, Insert, Update, Delete, Add, Read}
@@ -82,22 +86,19 @@ cell-next b (Add c d) (Relation s) = refl
 cell-next b (Add c d) (Counter e) = cond_out count_cell (c == e) (added d (b.counts e)) (b.counts e)
 cell-next b (Read c) x = cond_both (same_object (Counter c) x) (cell b x)
 
--- bases with the same cells are the same
-pub same_base : (a b : Base) → ((x : Object) → cell a x ≡ cell b x) → a ≡ b
-same_base a b h = λ i. record {
-  rows = λ r k. (h (Key r k) i).row;
-  counts = λ c. (h (Counter c) i).count;
+-- bases with the same rows and counters are the same, since the rows have one listing
+pub base_equal : (a b : Base) → ((r : ℕ) (k : List ℕ) → a.rows r k ≡ b.rows r k) → ((c : ℕ) → a.counts c ≡ b.counts c) → a ≡ b
+base_equal a b rows counts i = record {
+  rows = λ r k. rows r k i;
+  counts = λ c. counts c i;
+  listing = is_prop→PathP (λ j. Listing (λ r k. rows r k j)) (λ j. listing_prop (λ r k. rows r k j)) a.listing b.listing i;
 }
 
+-- so are bases with the same cells
+pub same_base : (a b : Base) → ((x : Object) → cell a x ≡ cell b x) → a ≡ b
+same_base a b h = base_equal a b (λ r k i. (h (Key r k) i).row) (λ c i. (h (Counter c) i).count)
+
 -- ---- the test of objects
-
-pub and_parts : (p q : Bool) → (p && q) ≡ true → (p ≡ true) × (q ≡ true)
-and_parts true q h = (refl, h)
-and_parts false q h = absurd cc
-
-pub both_true : (p q : Bool) → p ≡ true → q ≡ true → (p && q) ≡ true
-both_true true q is also = also
-both_true false q is also = absurd cc
 
 pub same-true : (x y : Object) → same_object x y ≡ true → x ≡ y
 same-true (Key r k) (Key s l) h =
@@ -115,6 +116,6 @@ same-true (Relation r) (Counter d) h = absurd cc
 same-true (Relation r) (Relation s) h = let relations : r ≡ s = (Decides-eqb r s).0 h in cc
 
 pub same-self : (x : Object) → same_object x x ≡ true
-same-self (Key r k) = both_true (r == r) (bytes_eq k k) ((Decides-eqb r r).1 refl) ((bytes_decides k k).1 refl)
+same-self (Key r k) = and_from (r == r) (bytes_eq k k) ((Decides-eqb r r).1 refl) ((bytes_decides k k).1 refl)
 same-self (Counter c) = (Decides-eqb c c).1 refl
 same-self (Relation r) = (Decides-eqb r r).1 refl

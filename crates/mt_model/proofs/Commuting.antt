@@ -1,13 +1,16 @@
 -- Two operations in either order.
-use Rattle.std.proofs.Common.{◌≡◌, ◌≢◌, inl, inr, ℕ, ℤ, Bool, true, false, cond, refl, ap, sym, ◌∙◌, subst}
+use Rattle.std.proofs.Common.{◌≡◌, ◌≢◌, ◌⊎◌, inl, inr, ℕ, ℤ, Bool, true, false, cond, [], ◌∷◌, ◌++◌, Option, None, Some, refl, ap, sym, ◌∙◌, subst}
+use Rattle.std.specs.Prelude.{All}
+use Rattle.std.proofs.lemmas.List.Elements.{All-head, All-tail}
 use Rattle.mt_base.specs.Modes.{granted_together}
 use Rattle.mt_base.specs.declared.modes.LockMode.{LockMode}
 use Rattle.mt_base.specs.declared.modes.LockMode.TheVariants as mode
+use Rattle.mt_model.specs.declared.objects.Lock.{Lock}
 use Rattle.mt_model.specs.declared.operations.Op.{Op}
 use Rattle.mt_model.specs.declared.operations.Op.TheVariants.{Get, Insert, Update, Delete, Add, Read}
 use Rattle.mt_model.specs.declared.operations.Reply.TheVariants.{Done, OutOfBounds}
-use Rattle.mt_model.specs.Model.{Base, Object, object_of, same_object, mode_of, moved, stays, reply_of, base_after}
-use Rattle.mt_model.specs.Laws.{DoCommute, StaysIn, AreFree}
+use Rattle.mt_model.specs.Model.{Base, Object, Relation, object_of, same_object, mode_of, intent_of, intents, locks_of, moved, stays, reply_of, base_after}
+use Rattle.mt_model.specs.Laws.{DoCommute, StaysIn, AreCompatible, AreFree}
 use Rattle.mt_model.proofs.Cells.{Cell, cell, next, says, reply-cell, cell-next, same-true, same-self, same_base}
 use Rattle.mt_model.proofs.Steps.{moved-swap}
 
@@ -158,8 +161,22 @@ cell_stays b f g e h =
       second = λ o. h.second (r ∙ o);
     }
 
+-- the lock of what an operation is on is one of its locks
+object_lock : (P : Lock → Type 0) (op : Op) → All P (locks_of op) → P (record { object = object_of op; mode = mode_of op })
+object_lock P op each = go (intent_of op) each
+  where
+    own : Lock
+    own = record { object = object_of op; mode = mode_of op }
+
+    go : (intent : Option ℕ) → All P (intents intent ++ own ∷ []) → P own
+    go None h = All-head P own [] h
+    go (Some r) h = All-head P own [] (All-tail P (record { object = Relation r; mode = mode.Intend }) (own ∷ []) h)
+
 pub free_commute : (b : Base) (f g : Op) → AreFree f g → StaysIn b f g → StaysIn b g f → DoCommute b f g
-free_commute b f g (inl apart) there back = from_cell b f g (λ e. absurd (apart e))
-free_commute b f g (inr granted) there back = from_cell b f g (λ e.
-    cell_commute (cell b (object_of f)) f g granted (cell_stays b f g e there)
-    (subst (λ y. CellStays (cell b y) g f) (sym e) (cell_stays b g f (sym e) back)))
+free_commute b f g free there back = by (object_lock (AreCompatible (record { object = object_of f; mode = mode_of f })) g (object_lock (λ l. All (AreCompatible l) (locks_of g)) f free))
+  where
+    by : (object_of f ≢ object_of g) ⊎ (granted_together (mode_of f) (mode_of g) ≡ true) → DoCommute b f g
+    by (inl apart) = from_cell b f g (λ e. absurd (apart e))
+    by (inr granted) = from_cell b f g (λ e.
+        cell_commute (cell b (object_of f)) f g granted (cell_stays b f g e there)
+        (subst (λ y. CellStays (cell b y) g f) (sym e) (cell_stays b g f (sym e) back)))

@@ -5,5 +5,4 @@ pub mod Steps
 pub mod Undo
 pub mod Commuting
 pub mod Appends
-pub mod RowLemmas
-pub mod CounterLemmas
+pub mod TableLemmas

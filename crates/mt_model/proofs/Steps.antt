@@ -1,10 +1,10 @@
 -- A counter moved by one step, or by several.
 use Rattle.std.proofs.Common.{◌≡◌, ℤ, pos, ◌+ℤ◌, ◌≤ℤ◌, neg_ℤ, true, List, ◌∷◌, ap, arith, int_le}
+use Rattle.std.proofs.lemmas.Bool.{and_from}
 use Rattle.std.proofs.lemmas.Int.{ints}
 use Rattle.mt_model.specs.declared.counters.Count.{Count}
 use Rattle.mt_model.specs.Model.{IsInBounds, moved, stays, added}
 use Rattle.mt_model.specs.Escrow.{HasRoom}
-use Rattle.mt_model.proofs.Cells.{both_true}
 use Rattle.mt_model.proofs.Sums.{below_is, above_is, lowest_below, highest_above}
 
 with_number : Count → ℤ → Count
@@ -16,7 +16,7 @@ le_true a b h = grind (arith, ints)
 -- a step that leads to a number between the bounds is made
 pub stays_true : (n : Count) (d : ℤ) → IsInBounds (moved n d) → stays n d ≡ true
 stays_true n d h =
-    both_true (int_le n.low (n.number +ℤ d)) (int_le (n.number +ℤ d) n.high)
+    and_from (int_le n.low (n.number +ℤ d)) (int_le (n.number +ℤ d) n.high)
     (le_true n.low (n.number +ℤ d) h.not_under) (le_true (n.number +ℤ d) n.high h.not_over)
 
 pub moved-moved : (n : Count) (y z : ℤ) → moved (moved n y) z ≡ moved n (y +ℤ z)

@@ -1,12 +1,13 @@
 -- What holds of the model: the statements of its laws.
-use Rattle.std.specs.Prelude.{ℤ, ◌≡◌, ◌≢◌, ◌⊎◌, ◌↔◌, ◌++◌, true, List, Some, None}
+use Rattle.std.specs.Prelude.{ℤ, ◌≡◌, ◌≢◌, ◌⊎◌, ◌↔◌, ◌++◌, true, List, Some, None, All}
 use Rattle.mt_base.specs.Modes.{granted_together}
 use Rattle.mt_model.specs.declared.counters.Count.{Count}
+use Rattle.mt_model.specs.declared.objects.Lock.{Lock}
 use Rattle.mt_model.specs.declared.operations.Op.{Op}
 use Rattle.mt_model.specs.declared.operations.Reply.{Reply}
 use Rattle.mt_model.specs.declared.operations.Reply.TheVariants.{OutOfBounds}
 use Rattle.mt_model.specs.declared.history.Committed.{Committed}
-use Rattle.mt_model.specs.Model.{Base, IsBase, asks_of, object_of, mode_of, reply_of, base_after, inverse_of}
+use Rattle.mt_model.specs.Model.{Base, IsBase, asks_of, locks_of, reply_of, base_after, inverse_of}
 use Rattle.mt_model.specs.Escrow.{IsAdmissible, HasRoom}
 use Rattle.mt_model.specs.History.{Call, alone, run, IsActed, ops_of, replies_of, after, IsLegal}
 
@@ -21,9 +22,13 @@ pub record StaysIn (b : Base) (f g : Op) : Type 0 where
   pub first : reply_of b f ≢ OutOfBounds
   pub second : reply_of (base_after b f) g ≢ OutOfBounds
 
--- on different objects, or in modes that are granted together
+-- two locks are on different objects, or in modes that are granted together
+abbrev pub AreCompatible : Lock → Lock → Type 0
+AreCompatible l m = (l.object ≢ m.object) ⊎ (granted_together l.mode m.mode ≡ true)
+
+-- two transactions may hold the locks of both operations
 abbrev pub AreFree : Op → Op → Type 0
-AreFree f g = (object_of f ≢ object_of g) ⊎ (granted_together (mode_of f) (mode_of g) ≡ true)
+AreFree f g = All (λ l. All (AreCompatible l) (locks_of g)) (locks_of f)
 
 -- ---- the laws
 

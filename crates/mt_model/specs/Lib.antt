@@ -4,7 +4,6 @@ pub mod Locks
 pub mod Pending
 pub mod History
 pub mod Laws
-pub mod Rows
 pub mod Tables
 pub mod Views
 pub mod Performing

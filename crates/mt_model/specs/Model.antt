@@ -3,6 +3,9 @@ use Rattle.std.specs.Prelude.{ℕ, ℤ, ◌<◌, ◌+ℤ◌, ◌≤ℤ◌, ◌==
 use Rattle.mt_base.specs.Limits.{IsKey, IsValue, IsStep}
 use Rattle.mt_base.specs.declared.modes.LockMode.{LockMode}
 use Rattle.mt_base.specs.declared.modes.LockMode.TheVariants as mode
+pub use Rattle.mt_rows.specs.Rows.{inserted, updated, deleted}
+use Rattle.mt_rows.specs.Listing.{Listing}
+use Rattle.mt_rows.proofs.Listings.{with_altered}
 use Rattle.mt_model.specs.declared.counters.Count.{Count}
 use Rattle.mt_model.specs.declared.objects.Asks.{Asks}
 use Rattle.mt_model.specs.declared.objects.Lock.{Lock}
@@ -13,10 +16,11 @@ use Rattle.mt_model.specs.declared.operations.Op.TheVariants.{Get, Insert, Updat
 use Rattle.mt_model.specs.declared.operations.Reply.{Reply}
 use Rattle.mt_model.specs.declared.operations.Reply.TheVariants.{Found, Missing, Exists, Done, Was, Value, OutOfBounds}
 
--- the value under each key of each relation, and each counter
+-- the value under each key of each relation, and each counter; the rows in order, which the values say already
 pub record Base : Type 0 where
   pub rows : ℕ → List ℕ → Option (List ℕ)
   pub counts : ℕ → Count
+  pub listing : Listing rows
 
 -- a counter lies in its bounds, ends included
 pub record IsInBounds (n : Count) : Type 0 where
@@ -91,19 +95,6 @@ locks_in a = intents a.intent ++ record { object = a.object; mode = a.mode } ∷
 abbrev pub locks_of : Op → List Lock
 locks_of op = locks_in (asks_of op)
 
--- ---- what is under a key, after an operation on it
-
-abbrev pub inserted : List ℕ → Option (List ℕ) → Option (List ℕ)
-inserted v None = Some v
-inserted v (Some old) = Some old
-
-abbrev pub updated : List ℕ → Option (List ℕ) → Option (List ℕ)
-updated v None = None
-updated v (Some old) = Some v
-
-abbrev pub deleted : Option (List ℕ) → Option (List ℕ)
-deleted row = None
-
 -- ---- a counter, after an add
 
 -- the counter with its number moved by a step, wherever that leads
@@ -145,6 +136,7 @@ abbrev pub alter_row : Base → ℕ → List ℕ → (Option (List ℕ) → Opti
 alter_row b r k f = record {
   rows = λ s l. cond ((r == s) && bytes_eq k l) (f (b.rows s l)) (b.rows s l);
   counts = b.counts;
+  listing = with_altered b.rows r k f b.listing;
 }
 
 -- the base with one counter altered
@@ -152,6 +144,7 @@ abbrev pub alter_count : Base → ℕ → (Count → Count) → Base
 alter_count b c f = record {
   rows = b.rows;
   counts = λ d. cond (c == d) (f (b.counts d)) (b.counts d);
+  listing = b.listing;
 }
 
 abbrev pub base_after : Base → Op → Base

@@ -1,9 +1,9 @@
 //! Laws of the model. Each is a function with an empty body, whose contract is the law.
 ghost use Rattle.mt_model.specs.Laws.{OperationsCommute, InversesTakeBack, NoInverseNoEffect, InversesAskTheSame, BoundsAreKept, TwoNumbersDecide, RepliesAppend, ActedIsAlone, RunIsAlone, LegalAppends, AfterAppends};
 
-/// Operations on different objects, and operations whose modes are granted together, commute: both
-/// orders give the same replies and the same base. It holds wherever neither order leaves a
-/// counter's bounds (Weikum 1991).
+/// Operations commute if two transactions may hold their locks at once. Each two of these locks are then on different
+/// objects, or in modes that are granted together. Both orders give the same replies and the same base, unless one
+/// order leaves a counter's bounds (Weikum 1991).
 pub fn operations_commute()
     ensures { OperationsCommute }
 {}

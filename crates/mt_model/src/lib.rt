@@ -13,13 +13,12 @@ pub mod laws;
 mod objects;
 mod operations;
 mod pending_add;
-mod rows;
 mod tables;
 
 pub use counters::Count;
 pub use history::{Calls, Committed};
+pub use mt_rows::Row;
 pub use objects::{Asks, Lock, Object};
 pub use operations::{Op, Reply};
 pub use pending_add::Pending;
-pub use rows::Row;
 pub use tables::Base;

@@ -2,16 +2,16 @@
 ghost use Rattle.std.specs.Prelude.{◌≡◌, ◌≤◌, ◌<◌, IfOk, OnOk, IfErr, OnErr, All, map, length};
 ghost use Rattle.mt_base.specs.declared.limits.TheConstants.{MAX_COUNTERS, MAX_RELATIONS};
 ghost use Rattle.mt_base.specs.Limits.{IsCounter, IsStep};
+ghost use Rattle.mt_rows.specs.Rows.{IsOrdered};
 ghost use Rattle.mt_model.specs.Model.{IsWithin, IsBase, IsInBounds, reply_of, base_after};
 ghost use Rattle.mt_model.specs.Performing.{Performs};
-ghost use Rattle.mt_model.specs.Rows.{IsOrdered};
 ghost use Rattle.mt_model.specs.Tables.{AreLimited, IsLimited, started};
 ghost use Rattle.mt_model.specs.Views.{base_of, rows_of, counters_of, relations_of};
 
 use crate::counters::Counters;
-use crate::rows::Rows;
-use crate::{Count, Op, Reply, Row};
+use crate::{Count, Op, Reply};
 use mt_base::{Bytes, CtrNo, Refusal, RelNo};
+use mt_rows::{Row, Rows};
 use std::alloc::{AllocError, Global};
 
 /// A base: the rows of some relations, each a value under a key, and some counters in their bounds.
@@ -60,6 +60,7 @@ impl Base {
     pub fn rows(&self) -> &[Row]
         ensures rows { result.now ≡ rows_of self.now }
         ensures ordered { IsOrdered result.now }
+        ensures listed { result.now ≡ (base_of self.now).listing.sorted }
     {
         self.rows.as_slice()
     }

@@ -31,7 +31,7 @@ use Rattle.mt_op.specs.declared.scope.OpScope.{OpScope}
 use Rattle.mt_op.specs.declared.scope.Stage.{Stage}
 use Rattle.mt_op.specs.declared.scope.Stage.TheVariants.{Planning, Writing}
 use Rattle.mt_file.specs.declared.rooms.Rooms.{Rooms}
-use Rattle.mt_op.specs.declared.space_map.SpaceMap.{SpaceMap}
+use Rattle.mt_space.specs.declared.space_map.SpaceMap.{SpaceMap}
 use Rattle.mt_op.proofs.Ahead.{IsIdle, idle_works, idle_asks}
 use Rattle.mt_op.proofs.Chosen.{on_steps, steps_then}
 use Rattle.mt_op.proofs.Faulting.{no_fault, reported_ok, reported_err, reported_behind}

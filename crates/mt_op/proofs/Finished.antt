@@ -29,7 +29,7 @@ use Rattle.mt_op.specs.Operations.{world, IsRight, Acts}
 use Rattle.mt_op.specs.Records.{end_with, end_of}
 use Rattle.mt_op.specs.declared.operations.Operations.{Operations}
 use Rattle.mt_op.specs.declared.scope.OpScope.{OpScope}
-use Rattle.mt_op.specs.declared.space_map.SpaceMap.{SpaceMap}
+use Rattle.mt_space.specs.declared.space_map.SpaceMap.{SpaceMap}
 use Rattle.mt_op.specs.declared.scope.Stage.TheVariants.{Writing, Ready}
 use Rattle.mt_op.proofs.Ending.{ends, others_end, own_ends, own_ends_quietly}
 use Rattle.mt_file.specs.Rooms.{fits_of, AreRooms}

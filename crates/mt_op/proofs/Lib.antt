@@ -16,7 +16,6 @@ pub mod Chosen
 pub mod Restored
 pub mod Budget
 pub mod Written
-pub mod Following
 pub mod Finished
 pub mod Stored
 pub mod Noted
@@ -28,7 +27,6 @@ pub mod Faulting
 pub mod Ahead
 pub mod Back
 pub mod Parted
-pub mod Roomed
 pub mod Surveyed
 pub mod Detached
 pub mod Known

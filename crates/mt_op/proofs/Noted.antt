@@ -6,7 +6,8 @@ use Rattle.std.proofs.lemmas.List.{get_or-set_same, get_or-set_other, get_or_def
 use Rattle.mt_plock.specs.declared.guards.PageLock.{PageLock}
 use Rattle.mt_space.specs.Changes.{PageBytes, after}
 use Rattle.mt_op.specs.World.{looked, changes_in}
-use Rattle.mt_op.specs.Room.{IsRoom, HasRooms}
+use Rattle.mt_file.specs.Rooms.{IsRoom}
+use Rattle.mt_op.specs.Room.{HasRooms}
 use Rattle.mt_op.specs.declared.scope.OpScope.{OpScope}
 
 -- of the pages of the first so many guards

@@ -12,7 +12,7 @@ use Rattle.mt_op.specs.World.{held_in, IsWorld}
 use Rattle.mt_op.specs.Moves.{Rests}
 use Rattle.mt_op.specs.Operations.{world, IsRight}
 use Rattle.mt_op.specs.declared.operations.Operations.{Operations}
-use Rattle.mt_op.specs.declared.space_map.SpaceMap.{SpaceMap}
+use Rattle.mt_space.specs.declared.space_map.SpaceMap.{SpaceMap}
 use Rattle.mt_op.proofs.Staying.{world_rests, rests_held}
 
 pub right_held : {D : Type 0} (g : Ghosts D) (opening : PageBytes) (relations counters : ℕ) (o n : Operations D)

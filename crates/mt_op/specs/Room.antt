@@ -1,14 +1,9 @@
 -- What the index of rooms says of the pages that an operation looked at.
-use Rattle.std.specs.Prelude.{◌≡◌, ◌≢◌, ◌⊎◌, ℕ, List, [], Any, get_or, None, IsSome}
-use Rattle.mt_file.specs.Rooms.{fits_of}
+use Rattle.std.specs.Prelude.{◌≡◌, ◌⊎◌, ℕ, List, [], Any, get_or, None, IsSome}
+use Rattle.mt_file.specs.Rooms.{IsRoom}
 use Rattle.mt_space.specs.Changes.{PageBytes, Agrees, AreShort, after}
 use Rattle.mt_op.specs.World.{looked, changes_in}
 use Rattle.mt_op.specs.declared.scope.OpScope.{OpScope}
-
--- what a page of this kind with these bytes takes: nothing if it does not hold records
-pub record IsRoom (kind : ℕ) (bytes : List ℕ) (room : ℕ) : Type 0 where
-  pub records : kind ≡ 3 → room ≡ fits_of bytes
-  pub others : kind ≢ 3 → room ≡ 0
 
 -- each page that it looked at and locked takes so much, once its changes are made in these pages
 abbrev pub HasRooms : OpScope → List ℕ → List ℕ → PageBytes → Type 0

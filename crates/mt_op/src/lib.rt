@@ -16,7 +16,6 @@ mod operations;
 mod page_locks;
 mod page_writes;
 mod scope;
-mod space_map;
 mod steps;
 mod survey;
 mod take_back;

@@ -4,7 +4,6 @@ ghost use Rattle.std.specs.Prelude.{◌≡◌, ◌≤◌, [], ℕ, length, IfOk,
 ghost use Rattle.mt_base.specs.declared.limits.TheConstants.{MAX_PAGES};
 ghost use Rattle.mt_base.specs.declared.refusal.Refusal.{Refusal};
 ghost use Rattle.mt_index.specs.Checks.{bytes_of};
-ghost use Rattle.mt_file.specs.Rooms.{AreRooms};
 ghost use Rattle.mt_log.specs.Words.{appended};
 ghost use Rattle.mt_pool.specs.Kept.{IsKept};
 ghost use Rattle.mt_pool.specs.Views.{pages};
@@ -14,15 +13,15 @@ ghost use Rattle.mt_op.specs.Begun.{AreImages, ShowsOpening, FitsPages, idle_cla
 ghost use Rattle.mt_op.specs.Operations.{IsRight, claimed};
 
 use crate::operations::Operations;
-use crate::space_map::SpaceMap;
-use mt_base::{PageNo, Refusal};
+use mt_base::Refusal;
 use mt_disk::Device;
-use mt_file::{Rooms, fits};
+use mt_file::{Rooms, rooms_of};
 use mt_plock::PageLocks;
 use mt_pool::Store;
-use mt_space::pages::{MAP, RECORDS};
+use mt_space::SpaceMap;
+use mt_space::pages::MAP;
 use mt_steps::SpareCopies;
-use std::alloc::{AllocError, Global};
+use std::alloc::Global;
 
 /// What operations keep beside their store.
 #[derive(Drop)]
@@ -31,24 +30,6 @@ pub struct Idle {
     pub(crate) rooms: Rooms,
     pub(crate) map: SpaceMap,
     pub(crate) spare: SpareCopies,
-}
-
-// What each page of records takes.
-fn rooms_of(alloc: Global, pages: &[[u8; 4096]]) -> Result<Rooms, AllocError>
-    requires good { ∥ ((relations : ℕ) × (counters : ℕ)
-        × IsGood relations counters (length pages.now) (bytes_of pages.now)) ∥₁ }
-    requires few { length pages.now ≤ MAX_PAGES }
-    ensures size { IfOk result (λ rooms. length rooms ≡ length pages.now) }
-    ensures noted { IfOk result (λ rooms. AreRooms rooms (bytes_of pages.now)) }
-{
-    let map = &pages[usize::from(MAP)];
-    let mut rooms = Rooms::of(alloc, pages.len() as u16)?;
-    for number in 0..pages.len() {
-        if map[number] == RECORDS {
-            rooms.noted(PageNo::new(number as u16), fits(&pages[number]));
-        }
-    }
-    Ok(rooms)
 }
 
 impl Idle {

@@ -26,7 +26,6 @@ ghost use Rattle.mt_op.specs.declared.scope.OpScope.{OpScope};
 ghost use Rattle.mt_op.specs.declared.scope.Stage.TheVariants.{Planning};
 
 use crate::scope::{OpScope, Stage};
-use crate::space_map::SpaceMap;
 use mt_base::limits::OPERATION_LOG_BYTES;
 use mt_base::{LogPos, OpNo, Refusal, TxnNo};
 use mt_disk::{Device, DeviceFault};
@@ -37,7 +36,7 @@ use mt_log::{Forced, Log};
 use mt_model::Op;
 use mt_plock::PageLocks;
 use mt_pool::{Flushed, Store};
-use mt_space::{Changes, Pages};
+use mt_space::{Changes, Pages, SpaceMap};
 use mt_steps::{Copies, SpareCopies};
 use std::alloc::Global;
 

@@ -1,6 +1,6 @@
 // How an operation writes the pages of its plan, each with its log records, and how it ends.
 // All its pages are locked by then. The device is asked to read alone, if a page is in no frame.
-ghost use Rattle.std.specs.Prelude.{◌≡◌, ◌≢◌, ◌<◌, ◌≤◌, ◌+◌, ℕ, List, length, get_or, false, true, None, Some, IsSome, IfErr, IfOk, IfSome};
+ghost use Rattle.std.specs.Prelude.{◌≡◌, ◌<◌, ◌≤◌, ◌+◌, ℕ, List, length, get_or, false, true, None, Some, IsSome, IfErr, IfOk, IfSome};
 ghost use Rattle.mt_base.specs.declared.limits.TheConstants.{BATCH_HEAD_BYTES, LARGEST_OP_END, MAX_COUNTERS, MAX_RELATIONS, PAGE_BYTES};
 ghost use Rattle.mt_frame.specs.Grammar.{IsTxn, IsOp, IsOperation, IsOfPage, IsRecord};
 ghost use Rattle.mt_frame.specs.Lengths.{record_length};
@@ -9,7 +9,6 @@ ghost use Rattle.mt_pool.specs.Views.{IsThere};
 ghost use Rattle.mt_space.specs.declared.changes.PageChange.{PageChange};
 ghost use Rattle.mt_frame.specs.declared.records.Record.TheVariants.{OpEnd};
 ghost use Rattle.mt_log.specs.Words.{appended, used, area_size};
-ghost use Rattle.mt_file.specs.Rooms.{fits_of};
 ghost use Rattle.mt_space.specs.Changes.{PageBytes, Agrees, after, AreShort};
 ghost use Rattle.mt_slots.specs.Page.{IsShaped};
 ghost use Rattle.mt_model.specs.Model.{IsWithin};
@@ -26,11 +25,10 @@ use crate::operations::Operations;
 use crate::scope::{OpScope, Stage};
 use mt_base::{PageNo, Refusal};
 use mt_disk::Device;
-use mt_file::fits;
+use mt_file::room_after;
 use mt_frame::{LoggedOp, Record};
 use mt_model::Reply;
-use mt_space::pages::RECORDS;
-use mt_space::{Changes, Pages, patch};
+use mt_space::Pages;
 use mt_steps::{logged, pages_for};
 
 impl<D: Device> Operations<D> {
@@ -163,32 +161,10 @@ impl<D: Device> Operations<D> {
         for guard in &scope.guards {
             let page = guard.lock().page;
             if let Some(before) = scope.seen.page(page) {
-                let room = self.room_after(&scope.changes, page, before);
+                let room = room_after(&*self.map.kinds, &scope.changes, page, before);
                 self.rooms.noted(page, room);
             }
         }
-    }
-
-    // What a page takes once these changes are made: nothing if it does not hold records.
-    fn room_after(&self, changes: &Changes, page: PageNo, before: &[u8; 4096]) -> u16
-        requires inside { page < PAGE_BYTES }
-        requires whole { length before.now ≡ PAGE_BYTES }
-        requires pages { ∥ ((pages : PageBytes) × (pages page ≡ before.now) × AreShort changes.now.list.items pages
-            × (get_or self.now.map.kinds.value page 0 ≡ 3 → IsShaped (after changes.now.list.items pages page))) ∥₁ }
-        ensures records { (pages : PageBytes) → pages page ≡ before.now → AreShort changes.now.list.items pages
-            → get_or self.now.map.kinds.value page 0 ≡ 3 → result ≡ fits_of (after changes.now.list.items pages page) }
-        ensures others { get_or self.now.map.kinds.value page 0 ≢ 3 → result ≡ 0 }
-    {
-        if self.map.kinds[usize::from(page.get())] != RECORDS {
-            return 0;
-        }
-        let mut bytes = *before;
-        for change in &changes.list {
-            if change.page == page {
-                patch(&mut bytes, change.edits.as_slice());
-            }
-        }
-        fits(&bytes)
     }
 }
 

@@ -1,6 +1,6 @@
 // The steps of an operation, from its first page lock to its end. After each look the plan is made anew.
 // Locks are got in `page_locks`, and pages written in `page_writes`.
-ghost use Rattle.std.specs.Prelude.{◌≡◌, ◌⊎◌, ◌<◌, ◌≤◌, ◌+◌, ◌^◌, ℕ, length, All, Contains, [], None, true, MatchOption, IsTrue, ◌↔◌};
+ghost use Rattle.std.specs.Prelude.{◌≡◌, ◌⊎◌, ◌<◌, ◌≤◌, ◌+◌, ◌^◌, ℕ, length, All, Contains, [], None, true, MatchOption};
 ghost use Rattle.mt_base.specs.declared.limits.TheConstants.{MAX_PAGES, MAX_RELATIONS, MAX_WRITTEN_PAGES};
 ghost use Rattle.mt_steps.specs.Asks.{HasSearched};
 ghost use Rattle.mt_steps.specs.Overlays.{AreAtHand};
@@ -10,7 +10,7 @@ ghost use Rattle.mt_model.specs.Model.{IsWithin};
 ghost use Rattle.mt_log.specs.Words.{used, area_size};
 ghost use Rattle.mt_plock.specs.Holding.{lock_of};
 ghost use Rattle.mt_space.specs.Changes.{after, IsUntouched};
-ghost use Rattle.mt_steps.specs.Plans.{own_needs, record_bytes as bytes_put, InPages, IsPlanned, TakesPages};
+ghost use Rattle.mt_steps.specs.Plans.{own_needs, record_bytes, InPages, IsPlanned, TakesPages};
 ghost use Rattle.mt_op.specs.World.{looked};
 ghost use Rattle.mt_op.specs.Operations.{IsOneOf, IsOneWithin, HasBudget, only_reads, claimed};
 ghost use Rattle.mt_op.specs.Holds.{IsAsked, IsUnseen, FindsRoom};
@@ -25,10 +25,10 @@ use mt_base::{Mode, OpNo, PageNo, Refusal};
 use mt_disk::Device;
 use mt_index::Search;
 use mt_model::{Op, Reply};
-use mt_plock::{PageGuard, PageLock};
+use mt_plock::{PageGuard, PageLock, holds};
 use mt_space::pages::MAP;
 use mt_space::{Changes, Pages};
-use mt_steps::{Act, plan};
+use mt_steps::{Act, bytes_put, plan};
 use std::alloc::Global;
 
 impl<D: Device> Operations<D> {
@@ -152,13 +152,13 @@ impl<D: Device> Operations<D> {
     // passed by. `None` also if the operation puts no record, or was led to a page.
     fn room_for(&self, scope: &OpScope) -> Option<PageNo>
         requires few { length self.now.rooms ≤ MAX_PAGES }
-        requires short { bytes_put scope.now.op < 2 ^ 16 }
+        requires short { record_bytes scope.now.op < 2 ^ 16 }
         ensures { FindsRoom self.now.rooms self.now.locks scope.now result }
     {
-        if scope.room.is_some() {
+        let bytes = bytes_put(&scope.op);
+        if scope.room.is_some() || bytes == 0 {
             return None;
         }
-        let bytes = record_bytes(&scope.op)?;
         let mut from = 0;
         while let Some(page) = self.rooms.with_room_from(from, bytes) {
             if self.locks.is_unlocked(page) {
@@ -221,25 +221,4 @@ fn first_unlocked(op: OpNo, changes: &Changes, guards: &[PageGuard]) -> Option<P
         }
     }
     None
-}
-
-// Whether one of the guards is of this lock.
-fn holds(guards: &[PageGuard], lock: &PageLock) -> bool
-    ensures { IsTrue result ↔ Contains guards.now lock.now }
-{
-    guards.iter().any(|guard| guard.lock() == *lock)
-}
-
-// The bytes of the record that an operation puts, if it puts one.
-fn record_bytes(op: &Op) -> Option<u16>
-    ensures { MatchOption result (0 < bytes_put op.now → 2 ^ 16 ≤ bytes_put op.now)
-        (λ bytes. (0 < bytes) × (bytes ≡ bytes_put op.now)) }
-{
-    match op {
-        Op::Insert(_, key, value) | Op::Update(_, key, value) => {
-            let lengths = key.as_slice().len().saturating_add(value.as_slice().len());
-            u16::try_from(lengths.saturating_add(4)).ok()
-        }
-        _ => None,
-    }
 }

@@ -1,5 +1,5 @@
 // A page lock, and the guard: the value that an operation has for each of its page locks.
-ghost use Rattle.std.specs.Prelude.{◌≡◌};
+ghost use Rattle.std.specs.Prelude.{◌≡◌, ◌↔◌, IsTrue, Contains};
 
 use mt_base::{Mode, OpNo, PageNo};
 use std::marker::Model;
@@ -74,4 +74,11 @@ impl PageGuard {
         let PageGuard { op, page, mode } = self;
         PageLock { op, page, mode }
     }
+}
+
+/// Whether one of the guards is of this lock.
+pub fn holds(guards: &[PageGuard], lock: &PageLock) -> bool
+    ensures { IsTrue result ↔ Contains guards.now lock.now }
+{
+    guards.iter().any(|guard| guard.lock() == *lock)
 }

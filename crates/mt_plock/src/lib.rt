@@ -10,5 +10,5 @@
 mod guards;
 mod table;
 
-pub use guards::{Asked, PageGuard, PageLock};
+pub use guards::{Asked, PageGuard, PageLock, holds};
 pub use table::PageLocks;

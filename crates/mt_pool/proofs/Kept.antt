@@ -207,37 +207,6 @@ module _ {D : Type 0} (g : Ghosts D) (opening : ℕ → List ℕ) (s : Store D) 
   pub no_call : ((d : D) (c : List ℕ) → g.left_since d (g.moment d) c → g.may_leave d c) → LeavesOnly g.moment g.left_since s.device s.device (Explains opening s)
   no_call only_now = started g.moment g.left_since s.device (Explains opening s) (λ c left. explains g opening s k c (only_now s.device c left))
 
--- no record is appended yet, and a crash leaves the slots as they are
-pub kept_begin : {D : Type 0} (g : Ghosts D) (opening : ℕ → List ℕ) (s : Store D) → IsOn g s.log s.device → IsSound (pages s.pool) s.log → s.pool.place + 4096 * pages s.pool ≤ area_start s.log → pages s.pool ≤ 4000
-    → IsPool s.pool → Shows s.pool (g.seen s.device) → s.settled ≡ 0 → durable s.log ≡ [] → in_flight s.log ≡ [] → waiting s.log ≡ [] → ((p : ℕ) → waits_for s.pool p ≡ 0)
-    → ((p : ℕ) → p < pages s.pool → view s.pool (g.seen s.device) p ≡ opening p) → ((p : ℕ) → p < pages s.pool → (c : List ℕ) → g.may_leave s.device c → slot s.pool.place c p ≡ opening p)
-    → Names s.ruling s.pool s.log → ((c : List ℕ) → g.may_leave s.device c → IsRuling c s.ruling) → IsKept g opening s
-kept_begin g opening s on sound apart few frames shows settled durable_none flying_none waiting_none waits views slots names rules =
-    let none : appended s.log ≡ [] =
-    ap (λ (l : List Record). l ++ (in_flight s.log ++ waiting s.log)) durable_none ∙ ap (λ (l : List Record). l ++ waiting s.log) flying_none ∙ waiting_none in
-    record {
-      on = on;
-      sound = sound;
-      apart = apart;
-      few = few;
-      frames = frames;
-      shows = shows;
-      settled = settled ∙ sym (ap length durable_none);
-      safe = subst (λ (l : List Record). IsSafe s.pool.place (pages s.pool) opening (carried l) (length (durable s.log)) (g.may_leave s.device)) (sym none) (record {
-        within = omega (arith, ap length durable_none);
-        images = λ p lt has d. absurd (cc);
-        slots = λ p lt not c left. slots p lt c left;
-      });
-      tied = subst (λ (l : List Record). IsTied s.pool (g.seen s.device) opening (carried l)) (sym none) (record {
-        imaged = λ p lt waiting. absurd (let w = waits p in omega arith);
-        within = λ p lt. let w = waits p in omega arith;
-        untouched = λ p lt is. (refl, views p lt);
-      });
-      names = names;
-      rules = rules;
-      unnamed = λ p lt is. ap (λ (l : List Record). some_record (is_of_page p) l) none;
-    }
-
 -- where no frame is to be flushed, each page is in its slot
 pub all_in_slots : (pool : Pool) (seen : List ℕ) → IsPool pool → Shows pool seen → ((f : ℕ) → get_or pool.dirty.items f false ≡ false) → (q : ℕ) → slot pool.place seen q ≡ view pool seen q
 all_in_slots pool seen ok shows clean q = framed_or_not (get_or pool.of_page.items q None) refl

@@ -1,5 +1,5 @@
 -- Marks of pages: those of which an area has images, and those that are in no slot either.
-use Rattle.std.specs.Prelude.{◌≡◌, ◌≢◌, ℕ, ◌<◌, Bool, true, false, ◌||◌, List, [], length, get_or}
+use Rattle.std.specs.Prelude.{◌≡◌, ◌≢◌, ℕ, ◌<◌, Bool, true, false, List, [], length, get_or}
 use Rattle.mt_base.specs.declared.limits.TheConstants.{MASTER_BYTES}
 use Rattle.mt_frame.specs.declared.records.Record.{Record}
 use Rattle.mt_frame.specs.declared.slots.MasterSlot.{MasterSlot}
@@ -8,19 +8,10 @@ use Rattle.mt_pool.specs.Images.{has_image, slot}
 use Rattle.mt_pool.specs.Kept.{carried}
 use Rattle.mt_replay.specs.Stands.{HasArea}
 
--- ---- what passes over records and slots add
-
--- Marked are the pages that were so, and those of which these records carry an image.
-pub record MarksMore (records : List Record) (old new : List Bool) : Type 0 where
-  pub size : length new ≡ length old
-  pub each : (p : ℕ) → p < length old → get_or new p false ≡ (get_or old p false || has_image (carried records) p)
-
 -- What is reported of a page is whether it has no image and other bytes than its slot.
 pub record TellsLost (bytes : List ℕ) (imaged : Bool) (in_slot : List ℕ) (outcome : Bool) : Type 0 where
   pub other : outcome ≡ true → (imaged ≡ false) × (in_slot ≢ bytes)
   pub kept : outcome ≡ false → imaged ≡ false → in_slot ≡ bytes
-
--- ---- marks of all pages
 
 -- Marked are the pages of which these records carry an image.
 pub record MarksImaged (count : ℕ) (records : List Record) (marked : List Bool) : Type 0 where

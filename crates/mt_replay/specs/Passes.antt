@@ -1,5 +1,5 @@
 -- What the passes over records make of pages in memory.
-use Rattle.std.specs.Prelude.{◌≡◌, ◌==◌, if◌then◌else◌, ℕ, ◌+◌, ◌<◌, ◌≤◌, Bool, true, false, not, ◌&&◌, Option, None, Some, List, [], ◌∷◌, ◌++◌, length, map, filter, get_or, Vec}
+use Rattle.std.specs.Prelude.{◌≡◌, ◌==◌, if◌then◌else◌, ℕ, ◌+◌, ◌<◌, ◌≤◌, Bool, true, false, not, ◌&&◌, ◌||◌, Option, None, Some, List, [], ◌∷◌, ◌++◌, length, map, filter, get_or, Vec}
 use Rattle.std.specs.BTreeMap.{get}
 use Rattle.std.specs.BTreeSet.{contains}
 use Rattle.std.specs.Global.{Global}
@@ -10,23 +10,42 @@ use Rattle.mt_base.specs.declared.limits.TheConstants.{PAGE_BYTES}
 use Rattle.mt_area_rules.specs.History.{some_record}
 use Rattle.mt_frame.specs.declared.records.Record.{Record}
 use Rattle.mt_frame.specs.declared.records.Record.TheVariants.{Page, OpEnd, OpDropped, Commit, AbortEnd}
-use Rattle.mt_pool.specs.Images.{page_in}
+use Rattle.mt_pool.specs.Images.{has_image, page_in}
 use Rattle.mt_pool.specs.Kept.{carried}
 use Rattle.mt_space.specs.Changes.{PageBytes}
 use Rattle.mt_steps.specs.Repeated.{Change, Repeated, by, put_back}
+use Rattle.mt_replay.specs.declared.images.Images.{Images}
 use Rattle.mt_replay.specs.declared.repeat.Unfinished.{Unfinished}
 use Rattle.mt_replay.specs.declared.repeat.Repeating.{Repeating}
 use Rattle.mt_replay.specs.declared.repeat.TakingBack.{TakingBack}
 use Rattle.mt_page_rules.specs.Whole.{AreWhole}
+use Rattle.mt_replay.specs.Marking.{MarksImaged}
 use Rattle.mt_replay.specs.Memory.{AreFirst}
 
 -- ---- images
 
--- the first images of the records lie over the pages
-pub record Lays (records : List Record) (old new : List (List ℕ)) : Type 0 where
-  pub whole : AreWhole new
-  pub count : length new ≡ length old
-  pub laid : (p : ℕ) → p < length old → get_or new p [] ≡ page_in (carried records) p (get_or old p [])
+-- whole pages, each with a mark
+pub record HasMarks (x : Images) : Type 0 where
+  pub whole : AreWhole x.pages.items
+  pub size : length x.imaged.items ≡ length x.pages.items
+
+-- The first images of the records lie over the pages, and the pages of which they carry one are marked too.
+pub record Lays (records : List Record) (old new : Images) : Type 0 where
+  pub whole : AreWhole new.pages.items
+  pub count : length new.pages.items ≡ length old.pages.items
+  pub size : length new.imaged.items ≡ length old.imaged.items
+  pub laid : (p : ℕ) → p < length old.pages.items
+      → get_or new.pages.items p [] ≡ page_in (carried records) p (get_or old.pages.items p [])
+  pub imaged : (p : ℕ) → p < length old.imaged.items
+      → get_or new.imaged.items p false ≡ (has_image (carried records) p || get_or old.imaged.items p false)
+
+-- marked are those of so many pages of which the records carry an image, and each of these is its first one
+pub record AreFirstImages (n : ℕ) (records : List Record) (x : Images) : Type 0 where
+  pub whole : AreWhole x.pages.items
+  pub count : length x.pages.items ≡ n
+  pub imaged : MarksImaged n records x.imaged.items
+  pub laid : (p : ℕ) → p < n → has_image (carried records) p ≡ true → (bytes : List ℕ)
+      → get_or x.pages.items p [] ≡ page_in (carried records) p bytes
 
 -- ---- history repeated
 

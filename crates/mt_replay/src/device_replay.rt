@@ -143,11 +143,11 @@ pub fn replay<D: Device>(alloc: Global, device: &mut D) -> Result<Replayed, Refu
     let losers = losers_of(alloc, &batches)?;
     let HeldPages {
         pages,
-        in_slots,
+        found,
         imaged,
     } = held;
     let restored = undone(alloc, pages, &losers)?;
-    let lost = lost_pages(alloc, &in_slots, &restored.pages, &imaged)?;
+    let lost = lost_pages(alloc, &found, &restored.pages, &imaged)?;
     Ok(Replayed {
         ruling,
         figures: figures_of(&batches),

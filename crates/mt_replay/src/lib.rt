@@ -8,7 +8,6 @@
 
 mod device_replay;
 mod figures;
-mod image_marks;
 mod images;
 mod laws;
 mod losers;

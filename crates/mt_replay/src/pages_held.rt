@@ -9,8 +9,7 @@ ghost use Rattle.mt_log.specs.Holds.{AreBatches};
 ghost use Rattle.mt_page_rules.specs.Whole.{AreWhole};
 ghost use Rattle.mt_replay.specs.Reads.{AreLedOn, FindsHeld};
 
-use crate::image_marks::imaged_in;
-use crate::images::lay_images;
+use crate::images::{Images, images_in};
 use crate::page_slots::read_slots;
 use crate::repeat::Repeating;
 use mt_base::Refusal;
@@ -23,28 +22,27 @@ use std::alloc::Global;
 pub(crate) struct HeldPages {
     // the bytes of each page, by its number
     pub(crate) pages: Vec<[u8; 4096]>,
-    // the bytes of its slot, unless it has an image in the area
-    pub(crate) in_slots: Vec<[u8; 4096]>,
-    // whether it has one
+    // the bytes as the area found them: its first image there, or its slot's bytes
+    pub(crate) found: Vec<[u8; 4096]>,
+    // whether it has an image in the area
     pub(crate) imaged: Vec<bool>,
 }
 
-// The pages to which the batches lead from their images, and from these slots of the other pages.
+// The pages to which the batches lead from these.
 fn led_on(
     alloc: Global,
-    slots: &[[u8; 4096]],
+    found: &[[u8; 4096]],
     batches: &[Batch],
 ) -> Result<Vec<[u8; 4096]>, Refusal>
-    requires whole { AreWhole slots.now }
-    requires each { AreBatches (length slots.now) (records_of batches.now) }
+    requires whole { AreWhole found.now }
+    requires each { AreBatches (length found.now) (records_of batches.now) }
     ensures whole { IfOk result (λ pages. AreWhole pages.items) }
-    ensures count { IfOk result (λ pages. length pages.items ≡ length slots.now) }
-    ensures held { IfOk result (λ pages. AreLedOn (joined (records_of batches.now)) slots.now pages.items) }
+    ensures count { IfOk result (λ pages. length pages.items ≡ length found.now) }
+    ensures held { IfOk result (λ pages. AreLedOn (joined (records_of batches.now)) found.now pages.items) }
     ensures only_memory { IfErr result (λ why. why ≡ Refusal.NoMemory) }
 {
-    let mut pages = Vec::with_capacity(alloc, slots.len())?;
-    pages.extend_from_slice(slots)?;
-    lay_images(&mut pages, batches);
+    let mut pages = Vec::with_capacity(alloc, found.len())?;
+    pages.extend_from_slice(found)?;
     let mut repeating = Repeating::over(alloc, pages);
     repeating.repeat_all(batches)?;
     Ok(repeating.take_back(batches)?)
@@ -70,12 +68,14 @@ pub(crate) fn held_pages<D: Device>(
     ensures { FindsHeld D.Device count
         (joined (records_of batches.now)) device.old device.new result }
 {
-    let imaged = imaged_in(alloc, count, batches)?;
-    let in_slots = read_slots(alloc, device, count, &imaged)?;
-    let pages = led_on(alloc, &in_slots, batches)?;
+    let images = images_in(alloc, count, batches)?;
+    let Images { pages, imaged } = images;
+    let mut found = pages;
+    read_slots(device, &mut found, &imaged)?;
+    let pages = led_on(alloc, &found, batches)?;
     Ok(HeldPages {
         pages,
-        in_slots,
+        found,
         imaged,
     })
 }

@@ -12,7 +12,7 @@ ghost use Rattle.mt_space.specs.Changes.{PageBytes};
 ghost use Rattle.mt_steps.specs.Repeated.{changed, dropped, finished, held, logged, repeat, repeated};
 ghost use Rattle.mt_page_rules.specs.Whole.{AreWhole};
 ghost use Rattle.mt_replay.specs.Memory.{AreFirst, Sets};
-ghost use Rattle.mt_replay.specs.Passes.{Backs, Fits, IsBackTo, IsShown, IsWhole, Notes, PutsBack, Repeats, Takes, before_of, change_of};
+ghost use Rattle.mt_replay.specs.Passes.{Backs, Fits, IsShown, IsWhole, Notes, PutsBack, Repeats, Takes, before_of, change_of};
 
 use mt_base::{OpNo, PageNo, Refusal};
 use mt_frame::Record;
@@ -205,7 +205,8 @@ impl<'a> Repeating<'a> {
     }
 
     // The pages held, after all records of the batches: the changes that are unfinished are put back, the last one
-    // first.
+    // first. The records are gone over again for that order. The lists have each operation's changes apart, and in
+    // any bytes two unfinished operations may have changed the same ones.
     pub(crate) fn take_back(self, batches: &[Batch]) -> Result<Vec<[u8; 4096]>, AllocError>
         requires whole { AreWhole self.pages.items }
         requires each { AreBatches (length self.pages.items) (records_of batches.now) }

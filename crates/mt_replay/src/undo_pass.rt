@@ -7,7 +7,6 @@ ghost use Rattle.mt_base.specs.declared.refusal.Refusal.{Refusal};
 ghost use Rattle.mt_frame.specs.Grammar.{IsOperation};
 ghost use Rattle.mt_inverse.specs.Effects.{op_with, reply_with, reply_back as back};
 ghost use Rattle.mt_space.specs.Changes.{PageBytes, AreShort};
-ghost use Rattle.mt_steps.specs.Plans.{record_bytes};
 ghost use Rattle.mt_page_rules.specs.Whole.{AreWhole};
 ghost use Rattle.mt_replay.specs.Memory.{AreFirst, AreGood, Sets, Makes};
 ghost use Rattle.mt_page_rules.specs.Checks.{AreBroken, AreChecked};
@@ -23,13 +22,11 @@ use mt_file::fits;
 use mt_frame::LoggedOp;
 use mt_index::Search;
 use mt_inverse::Effect;
-use mt_model::Op;
 use mt_page_rules::AllPages;
 use mt_pool::slot_at;
-use mt_slots::ROW_HEAD_BYTES;
 use mt_space::pages::{COUNTERS, MAP, RECORDS};
 use mt_space::{Changes, Pages, patch};
-use mt_steps::{Act, SchemaSizes, plan, sizes};
+use mt_steps::{Act, SchemaSizes, bytes_put, plan, sizes};
 use std::alloc::Global;
 
 /// All pages of a device in memory, which break no rule of their formats. Each of them is at hand, so a plan over
@@ -115,19 +112,6 @@ fn is_of(counted: SchemaSizes, done: &LoggedOp) -> bool
     }
 }
 
-// The bytes of the record that an operation puts, 0 if it puts none.
-fn bytes_put(op: &Op) -> usize
-    requires { record_bytes op.now ≤ PAGE_BYTES }
-    ensures { result ≡ record_bytes op.now }
-{
-    match op {
-        Op::Insert(_, key, value) | Op::Update(_, key, value) => ROW_HEAD_BYTES
-            + key.len()
-            + value.len(),
-        _ => 0,
-    }
-}
-
 // Makes edits in one page.
 fn patch_one(pages: &mut Vec<[u8; 4096]>, page: PageNo, edits: &[Edit])
     requires whole { AreWhole pages.old.items }
@@ -185,7 +169,7 @@ impl Restored {
 
     // A page of records that takes a record of so many bytes; `None` if none does, and if there is no record. mt_op
     // keeps a tree of what each page takes. Losers are few, and a tree would have to be noted anew after each of them.
-    fn room_for(&self, bytes: usize) -> Option<PageNo>
+    fn room_for(&self, bytes: u16) -> Option<PageNo>
         ensures { (f : PageBytes) → AreFirst self.now.pages.items f
             → IsRoom (length self.now.pages.items) bytes f result }
     {
@@ -194,7 +178,7 @@ impl Restored {
         }
         for number in 0..self.pages.len() {
             if self.pages[usize::from(MAP)][number] == RECORDS
-                && bytes <= usize::from(fits(&self.pages[number]))
+                && bytes <= fits(&self.pages[number])
             {
                 return Some(PageNo::new(number as u16));
             }

@@ -1,5 +1,6 @@
 -- Records that are images of the marked ones among a device's first pages.
-use Rattle.std.proofs.Common.{◌≡◌, ℕ, ◌+◌, ◌<◌, ◌≤◌, Bool, true, false, cond, ◌||◌, List, [], ◌∷◌, ◌++◌, Option, None, Some, length, get_or, refl, sym, ap, ◌∙◌, subst, arith, below_more}
+use Rattle.std.proofs.Common.{◌≡◌, ℕ, ◌+◌, ◌<◌, ◌≤◌, Bool, true, false, cond, ◌||◌, ◌==◌, List, [], ◌∷◌, ◌++◌, Option, None, Some, length, get_or, refl, sym, ap, ◌∙◌, subst, arith, below_more}
+use Rattle.std.proofs.Math.Bool.{or_assoc}
 use Rattle.std.specs.Prelude.{◌&&◌, not}
 use Rattle.std.specs.List.{AllByRecursion}
 use Rattle.std.proofs.lemmas.Bool.{eq-eqb, ne_eqb}
@@ -14,7 +15,17 @@ use Rattle.mt_pool.specs.Kept.{carried, carried_of}
 use Rattle.mt_pool.specs.Turns.{IsImageOnly}
 use Rattle.mt_pool.proofs.Safe.{has_later, in_more, in_later}
 use Rattle.mt_restart.specs.Turned.{AreImagesOf}
-use Rattle.mt_replay.proofs.Marks.{has_append, or_false}
+
+or_false : (b : Bool) → (b || false) ≡ b
+or_false true = refl
+or_false false = refl
+
+-- a page has an image in two lists if it has one in either
+has_append : (xs ys : List Carried) (p : ℕ) → has_image (xs ++ ys) p ≡ (has_image xs p || has_image ys p)
+has_append [] ys p = refl
+has_append (None ∷ xs) ys p = has_append xs ys p
+has_append (Some i ∷ xs) ys p =
+    ap (λ (b : Bool). (i.0 == p) || b) (has_append xs ys p) ∙ sym (or_assoc (i.0 == p) (has_image xs p) (has_image ys p))
 
 -- Each of the marked ones of the first n pages has one image, and no other page has one.
 pub record AreImagesBelow (n : ℕ) (pages : List (List ℕ)) (marked : List Bool) (images : List Record) : Type 0 where

@@ -4,7 +4,7 @@ mod Sizes
 mod Slots
 mod Elsewhere
 mod Read
-mod Ruled
+pub mod Ruled
 mod NextArea
 mod Staying
 mod Renewed

@@ -2,8 +2,9 @@
 use Rattle.std.proofs.Common.{◌≡◌, inl, inr, ⊎_elim, ◌<◌, ℕ, List, subst, arith}
 use Rattle.mt_frame.specs.Laws.{OneSlot}
 use Rattle.mt_frame.specs.declared.slots.MasterSlot.{MasterSlot}
-use Rattle.mt_log.specs.Masters.{IsBefore, IsClosedAt, IsOpenAt, IsRuling, Rules}
-use Rattle.mt_log.proofs.Ruling.{not_closed, one_open}
+use Rattle.mt_log.specs.Masters.{IsBefore, IsClosedAt, IsOpenAt, IsRuling, IsUnformatted, Rules}
+use Rattle.mt_log.proofs.Ruling.{not_closed, one_open, ruled}
+use Rattle.mt_restart.specs.Recovered.{AreRestored}
 
 module _ (one : OneSlot) (c : List ℕ) where
   not_both : (at other : ℕ) (s t : MasterSlot) → Rules c at other s → Rules c other at t → ⊥
@@ -23,3 +24,7 @@ module _ (one : OneSlot) (c : List ℕ) where
   one_rules s t (inr r) (inr q) = one_open one c 4096 s t r.own q.own
   one_rules s t (inl r) (inr q) = absurd (not_both 0 4096 s t r q)
   one_rules s t (inr r) (inl q) = absurd (not_both 4096 0 s t r q)
+
+-- bytes of which a restart makes pages are formatted
+pub not_unformatted : (c : List ℕ) (items : List (List ℕ)) → AreRestored c items → IsUnformatted c → ⊥
+not_unformatted c items x = ruled c x.slot x.replayed.repeated.area.rules

@@ -2,11 +2,16 @@
 use Rattle.std.specs.Prelude.{◌≡◌, ◌≢◌, ◌⊎◌, ◌<◌, ℕ, List, Result, Ok, Err, get_or}
 use Rattle.mt_base.specs.declared.refusal.Refusal.{Refusal}
 use Rattle.mt_base.specs.declared.refusal.Refusal.TheVariants.{DeviceFailed, LogFull, NoMemory}
+use Rattle.mt_core.specs.Seen.{core_ruling}
+use Rattle.mt_core.specs.declared.parts.Core.{Core}
 use Rattle.mt_disk.specs.declared.device.Device.{Ghosts}
 use Rattle.mt_format.specs.Formats.{IsFormattedAs}
 use Rattle.mt_format.specs.declared.schema.Schema.{Schema}
+use Rattle.mt_frame.specs.declared.slots.MasterSlot.{MasterSlot}
 use Rattle.mt_index.specs.Checks.{bytes_of}
 use Rattle.mt_live.specs.Machine.{start}
+use Rattle.mt_log.specs.Masters.{IsRuling}
+use Rattle.mt_log.specs.NextSlot.{next_slot}
 use Rattle.mt_model.specs.Model.{Base, IsBase}
 use Rattle.mt_replay.specs.Stands.{CanRestart}
 use Rattle.mt_restart.specs.Recovered.{AreRestored, IsCauseToStop, SaysUnformatted}
@@ -36,10 +41,22 @@ pub record BeginsOnRestored {D : Type 0} {g : Ghosts D} (c : List ℕ) (k : Kern
   pub counters : k.counters ≡ get_or (bytes_of items 2) 1 0
   pub opened : (b : Base) → Holds (bytes_of items) b → IsBase b → IsOpened k.relations k.counters b k
 
+-- the slot that rules is the next one after the one that ruled these bytes
+abbrev pub HasTurnedOver : {D : Type 0} → List ℕ → Core D → Type 0
+HasTurnedOver c k = (slot : MasterSlot) → IsRuling c slot → core_ruling k ≡ next_slot slot
+
 -- the device, in the kernel or handed back
 abbrev pub device_of : {D : Type 0} → {g : Ghosts D} → Result (Kernel D g) (Refusal × D) → D
 device_of (Ok kernel) = (kernel_device kernel)
 device_of (Err gone) = gone.1
+
+-- Why these bytes are refused, beside the cause: those that are not formatted are reported so, what a kernel left is
+-- refused for want of memory, a failure or a full log alone, and as it was formatted, for no full log.
+pub record IsRefusedRightly (c : List ℕ) (why : Refusal) : Type 0 where
+  pub unformatted : SaysUnformatted c why
+  pub left : (relations counters : ℕ) (b : Base) → CanRestart relations counters c b
+      → (why ≡ NoMemory) ⊎ ((why ≡ DeviceFailed) ⊎ (why ≡ LogFull))
+  pub formatted : (s : Schema) → IsFormattedAs s c → why ≢ LogFull
 
 -- Why no kernel begins on a device, and the device that is handed back. What a kernel left is refused for want of
 -- memory, a failure or a full log alone; and as it was formatted, for no full log. Unless the device failed, its bytes

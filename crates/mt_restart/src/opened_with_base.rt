@@ -1,22 +1,23 @@
 // A kernel over a device that was used before, as `open` gives it, with the base on which it begins. mt_shared calls
 // it: a mark is made about a base.
-ghost use Rattle.std.specs.Prelude.{◌≡◌, ◌<◌, ℕ, List, IfOk, IfErr, MatchResult};
+ghost use Rattle.std.specs.Prelude.{◌≡◌, ◌<◌, ℕ, List, false, IfOk, IfErr, MatchResult};
 ghost use Rattle.mt_base.specs.declared.refusal.Refusal.{Refusal};
 ghost use Rattle.mt_disk.specs.Disk.{LeavesOnly};
 ghost use Rattle.mt_model.specs.Model.{Base as ModelBase};
 ghost use Rattle.mt_model.specs.Views.{base_of};
 ghost use Rattle.mt_replay.specs.Stands.{CanRestart};
 ghost use Rattle.mt_steps.specs.Listed.{IsSame};
-ghost use Rattle.mt_txn.specs.Shown.{kernel_device, kernel_frames};
+ghost use Rattle.mt_txn.specs.Shown.{is_failed, kernel_device, kernel_frames};
 ghost use Rattle.mt_restart.specs.Frames.{IsFrameCount};
 ghost use Rattle.mt_restart.specs.Recovered.{IsCauseToStop, StandsStill};
-ghost use Rattle.mt_restart.specs.Resumed.{IsOpened};
+ghost use Rattle.mt_restart.specs.Resumed.{BeginsOnRestored, HasTurnedOver, IsOpened, IsRefusedRightly};
 
 use crate::inspection::survey_of;
 use crate::opened_kernel::kernel_over;
 use crate::recovery::recover;
 use mt_base::Refusal;
 use mt_disk::Device;
+use mt_frame::slots_are_read_back;
 use mt_model::Base;
 use mt_replay::only_own_pages_matter;
 use mt_txn::Kernel;
@@ -36,10 +37,15 @@ pub fn open_with_base<D: Device + Drop>(
     requires frames { IsFrameCount frames }
     ensures opened { IfOk result (λ opened. IsOpened opened.0.relations opened.0.counters (base_of opened.1)
         opened.0) }
+    // On any bytes it begins on the base that the passes of a restart leave in memory.
+    ensures restored { IfOk result (λ opened. BeginsOnRestored (D.seen device) opened.0) }
+    ensures well { IfOk result (λ opened. is_failed opened.0 ≡ false) }
     // It is the base that the bytes represented.
     ensures base { (relations counters : ℕ) (b : ModelBase) → CanRestart relations counters (D.seen device) b
         → IfOk result (λ opened. IsSame counters (base_of opened.1) b) }
     ensures frames { IfOk result (λ opened. kernel_frames opened.0 ≡ frames) }
+    // The log turns over once.
+    ensures once { IfOk result (λ opened. HasTurnedOver (D.seen device) opened.0.core) }
     // Whenever a crash comes in this call.
     ensures moments { (relations counters : ℕ) (b : ModelBase) → CanRestart relations counters (D.seen device) b
         → MatchResult result
@@ -55,9 +61,11 @@ pub fn open_with_base<D: Device + Drop>(
         → IfErr result (λ gone. (gone.0 ≡ Refusal.DeviceFailed → ⊥) → (c : List ℕ) → D.may_leave gone.1 c
         → CanRestart relations counters c b) }
     ensures cause { IfErr result (λ gone. IsCauseToStop (D.seen device) (D.faults device < D.faults gone.1) gone.0) }
+    ensures refused { IfErr result (λ gone. IsRefusedRightly (D.seen device) gone.0) }
     ensures quiet { MatchResult result (λ opened. D.faults (kernel_device opened.0) ≡ D.faults device)
         (λ gone. (gone.0 ≡ Refusal.DeviceFailed → ⊥) → D.faults gone.1 ≡ D.faults device) }
 {
+    slots_are_read_back();
     only_own_pages_matter();
     let mut device = device;
     let recovered = match recover(alloc, &mut device, frames) {

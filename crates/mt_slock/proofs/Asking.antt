@@ -8,16 +8,14 @@ use Rattle.mt_model.specs.declared.objects.Lock.{Lock}
 use Rattle.mt_model.specs.declared.objects.Object.{Object}
 use Rattle.mt_model.specs.declared.objects.Object.TheVariants.{Relation}
 use Rattle.mt_model.specs.Model.{intents, locks_in}
-use Rattle.mt_model.specs.Locks.{Held, is_lock, with_lock, without_lock, with_locks, without_locks, HoldsEach, Bars, BarsSome, IsFree, IsLeastBar, AreAllFree, IsLeastBarOf}
+use Rattle.mt_model.specs.Locks.{Held, is_lock, with_lock, without_lock, with_locks, without_locks, Bars, BarsSome, IsFree, IsLeastBar, AreAllFree, IsLeastBarOf}
 use Rattle.mt_slock.specs.Answers.{is_fresh_intent, MarksFresh, fresh_in}
-use Rattle.mt_slock.specs.Standings.{Stands, StandsIntent, Stand, Allows, bar_of, oldest_of, is_new, not_alone}
-use Rattle.mt_slock.specs.Views.{held_of, holds_in}
+use Rattle.mt_slock.specs.Standings.{Stands, StandsIntent, Stand}
+use Rattle.mt_slock.specs.Views.{held_of, oldest_of}
 use Rattle.mt_slock.specs.declared.holders.Holder.{Holder}
 use Rattle.mt_slock.specs.declared.standings.Standing.{Standing}
-use Rattle.mt_slock.specs.declared.standings.Standing.TheVariants.{Barred, Own, Shared, Alone}
 use Rattle.mt_slock.specs.declared.standings.Standings.{Standings}
 use Rattle.mt_slock.specs.declared.table.Fresh.{Fresh}
-use Rattle.mt_slock.proofs.Among.{not_both}
 use Rattle.mt_slock.proofs.Tables.{lock_is, with_held}
 
 abbrev pub lock_of : Object → LockMode → Lock
@@ -60,26 +58,20 @@ module _ (held : Held) (t : ℕ) where
       down_right a b v k = omega arith
 
 module _ (es : List (Object × List Holder)) (t : ℕ) where
-  standing_bar : (x : Object) (m : LockMode) (s : Standing) → Stands es t x m s → IsBar (held_of es) t (lock_of x m) (bar_of s)
-  standing_bar x m (Barred u) st = st
-  standing_bar x m Own st = st.0
-  standing_bar x m Shared st = st.0
-  standing_bar x m Alone st = st.0
-
   all_bar : (i : Option ℕ) (x : Object) (m : LockMode) (intent object : Standing) → StandsIntent es t i intent → Stands es t x m object
-      → IsBarOf (held_of es) t (intents i ++ lock_of x m ∷ []) (oldest_of (bar_of intent) (bar_of object))
-  all_bar None x m intent object own st =
-      subst (λ (s : Standing). IsBarOf (held_of es) t (lock_of x m ∷ []) (oldest_of (bar_of s) (bar_of object))) (sym own)
-      (subst (λ (o : Option ℕ). IsBarOf (held_of es) t (lock_of x m ∷ []) o) (alone (bar_of object)) (one_bar (held_of es) t (lock_of x m) (bar_of object) (standing_bar x m object st)))
+      → IsBarOf (held_of es) t (intents i ++ lock_of x m ∷ []) (oldest_of intent.bar object.bar)
+  all_bar None x m intent object none st =
+      subst (λ (o : Option ℕ). IsBarOf (held_of es) t (lock_of x m ∷ []) (oldest_of o object.bar)) (sym none.0)
+      (subst (λ (o : Option ℕ). IsBarOf (held_of es) t (lock_of x m ∷ []) o) (alone object.bar) (one_bar (held_of es) t (lock_of x m) object.bar st.bar))
     where
       alone : (o : Option ℕ) → o ≡ oldest_of None o
       alone None = refl
       alone (Some n) = refl
   all_bar (Some r) x m intent object si st =
-      more_bar (held_of es) t (lock_of (Relation r) Intend) (lock_of x m ∷ []) (bar_of intent) (bar_of object) (standing_bar (Relation r) Intend intent si)
-      (one_bar (held_of es) t (lock_of x m) (bar_of object) (standing_bar x m object st))
+      more_bar (held_of es) t (lock_of (Relation r) Intend) (lock_of x m ∷ []) intent.bar object.bar si.bar
+      (one_bar (held_of es) t (lock_of x m) object.bar st.bar)
 
-  pub standings_bar : (a : Asks) (s : Standings) → Stand es t a s → IsBarOf (held_of es) t (locks_in a) (oldest_of (bar_of s.intent) (bar_of s.object))
+  pub standings_bar : (a : Asks) (s : Standings) → Stand es t a s → IsBarOf (held_of es) t (locks_in a) (oldest_of s.intent.bar s.object.bar)
   standings_bar a s st = all_bar a.intent a.object a.mode s.intent s.object st.intent st.object
 
 -- ---- what is granted
@@ -116,66 +108,30 @@ pub still_held : (held : Held) (t : ℕ) (ls : List Lock) (u : ℕ) (x : Object)
 still_held held t [] u x m h = h
 still_held held t (l ∷ ls) u x m h = still_held (with_lock held t l.object l.mode) t ls u x m (or_left (held u x m) (is_lock t l.object l.mode u x m) h)
 
--- how a lock stands is enough for its grant
-pub allowed : (es : List (Object × List Holder)) (t : ℕ) (x : Object) (m : LockMode) (s : Standing) → Stands es t x m s → IsFree (held_of es) t x m → Allows es t x m s
-allowed es t x m (Barred u) st free = absurd (free u st.bars)
-allowed es t x m Own st free = st.1
-allowed es t x m Shared st free = tt
-allowed es t x m Alone st free = st.1
-
--- and so it does once another was granted
-pub allowed_after : (es new : List (Object × List Holder)) (t : ℕ) (ls : List Lock) (x : Object) (m : LockMode) (s : Standing) (fresh : Bool)
-    → held_of new ≡ with_locks (held_of es) t ls → (fresh ≡ false → new ≡ es) → Stands es t x m s → IsFree (held_of es) t x m → Allows new t x m (cond fresh (not_alone s) s)
-allowed_after es new t ls x m s false is same st free = subst (λ (ns : List (Object × List Holder)). Allows ns t x m s) (sym (same refl)) (allowed es t x m s st free)
-allowed_after es new t ls x m (Barred u) true is same st free = absurd (free u st.bars)
-allowed_after es new t ls x m Own true is same st free = subst (λ (h : Held). h t x m ≡ true) (sym is) (still_held (held_of es) t ls t x m st.1)
-allowed_after es new t ls x m Shared true is same st free = tt
-allowed_after es new t ls x m Alone true is same st free = tt
-
 -- ---- which are fresh
 
-pub new_is_not_held : (es : List (Object × List Holder)) (t : ℕ) (x : Object) (m : LockMode) (s : Standing) → Stands es t x m s → IsFree (held_of es) t x m → is_new s ≡ not (held_of es t x m)
-new_is_not_held es t x m (Barred u) st free = absurd (free u st.bars)
-new_is_not_held es t x m Own st free = sym (ap not st.1)
-new_is_not_held es t x m Shared st free = sym (ap not st.1)
-new_is_not_held es t x m Alone st free = sym (ap (λ o. not (holds_in o t m)) st.1)
+-- what is not fresh is held, and still is once others were granted
+pub held_after : (held : Held) (t : ℕ) (ls : List Lock) (x : Object) (m : LockMode) (fresh : Bool) → fresh ≡ not (held t x m) → fresh ≡ false
+    → with_locks held t ls t x m ≡ true
+held_after held t ls x m fresh is old = still_held held t ls t x m (is_true (held t x m) (sym is ∙ old))
+  where
+    is_true : (b : Bool) → not b ≡ false → b ≡ true
+    is_true true e = refl
+    is_true false e = absurd cc
 
 -- a relation, for an intent
-pub new_intent : (es : List (Object × List Holder)) (t : ℕ) (i : Option ℕ) (s : Standing) → StandsIntent es t i s → AreAllFree (held_of es) t (intents i) → is_new s ≡ is_fresh_intent (held_of es) t i
-new_intent es t None s own free = ap is_new own
-new_intent es t (Some r) s st free = new_is_not_held es t (Relation r) Intend s st (λ u b. free u (inl b))
+fresh_intent : (es : List (Object × List Holder)) (t : ℕ) (i : Option ℕ) (s : Standing) → StandsIntent es t i s → s.fresh ≡ is_fresh_intent (held_of es) t i
+fresh_intent es t None s none = none.1
+fresh_intent es t (Some r) s st = st.fresh
 
-pub all_fresh : (es : List (Object × List Holder)) (t : ℕ) (a : Asks) (s : Standings) (fresh : Fresh) → fresh.intent ≡ is_new s.intent → fresh.object ≡ is_new s.object
-    → Stand es t a s → AreAllFree (held_of es) t (locks_in a) → MarksFresh (held_of es) t a fresh
-all_fresh es t a s fresh fi fo st free = record {
-  intent = fi ∙ new_intent es t a.intent s.intent st.intent (free_intents (held_of es) t a.intent (lock_of a.object a.mode ∷ []) free);
-  object = fo ∙ new_is_not_held es t a.object a.mode s.object st.object (free_last (held_of es) t a.intent (lock_of a.object a.mode) free);
-}
+pub all_fresh : (es : List (Object × List Holder)) (t : ℕ) (a : Asks) (s : Standings) (fresh : Fresh) → fresh.intent ≡ s.intent.fresh → fresh.object ≡ s.object.fresh
+    → Stand es t a s → MarksFresh (held_of es) t a fresh
+all_fresh es t a s fresh fi fo st = record { intent = fi ∙ fresh_intent es t a.intent s.intent st.intent; object = fo ∙ st.object.fresh }
 
 -- one after the other
 pub granted_last : (held : Held) (t : ℕ) (i : Option ℕ) (l : Lock) → with_lock (with_locks held t (intents i)) t l.object l.mode ≡ with_locks held t (intents i ++ l ∷ [])
 granted_last held t None l = refl
 granted_last held t (Some r) l = refl
-
--- where one was new, not all were held
-pub not_all_held : (es : List (Object × List Holder)) (t : ℕ) (a : Asks) (s : Standings) → Stand es t a s → AreAllFree (held_of es) t (locks_in a)
-    → (is_new s.intent ≡ true) ⊎ (is_new s.object ≡ true) → HoldsEach (held_of es) t (locks_in a) → ⊥
-not_all_held es t a s st free new each = elim new [
-  | inl n ↦ first a.intent (new_intent es t a.intent s.intent st.intent (free_intents (held_of es) t a.intent (lock_of a.object a.mode ∷ []) free)) n each
-  | inr n ↦ not_both (held_of es t a.object a.mode) (last a.intent each) (is_false (held_of es t a.object a.mode) (sym (new_is_not_held es t a.object a.mode s.object st.object (free_last (held_of es) t a.intent (lock_of a.object a.mode) free)) ∙ n))
-]
-  where
-    is_false : (b : Bool) → not b ≡ true → b ≡ false
-    is_false true e = absurd cc
-    is_false false e = refl
-
-    last : (i : Option ℕ) → HoldsEach (held_of es) t (intents i ++ lock_of a.object a.mode ∷ []) → held_of es t a.object a.mode ≡ true
-    last None h = h.0
-    last (Some r) h = h.1.0
-
-    first : (i : Option ℕ) → is_new s.intent ≡ is_fresh_intent (held_of es) t i → is_new s.intent ≡ true → HoldsEach (held_of es) t (intents i ++ lock_of a.object a.mode ∷ []) → ⊥
-    first None e n h = not_both (is_new s.intent) n e
-    first (Some r) e n h = not_both (held_of es t (Relation r) Intend) h.0 (is_false (held_of es t (Relation r) Intend) (sym e ∙ n))
 
 -- ---- what takes it back
 

@@ -2,14 +2,15 @@
 use Rattle.std.proofs.Common.{◌≡◌, ◌≢◌, ℕ, ◌==◌, ◌&&◌, ◌||◌, ◌++◌, ◌∷◌, [], Bool, true, false, not, cond, List, refl, ap, sym, ◌∙◌, subst, ◌⊎◌, inl, inr}
 use Rattle.std.proofs.lemmas.Bool.{and_parts, or_cases, not-true, cases_Bool, eqb-true, eqb-false}
 use Rattle.std.proofs.lemmas.List.Folds.{list_any-append}
+use Rattle.std.proofs.lemmas.List.Elements.{All-nil, All-cons}
+use Rattle.std.specs.Prelude.{All}
 use Rattle.mt_base.specs.Modes.{granted_together}
 use Rattle.mt_base.specs.declared.modes.LockMode.{LockMode}
 use Rattle.mt_base.specs.declared.modes.LockMode.TheVariants.{Read, Write, Add, Intend}
 use Rattle.mt_model.specs.declared.objects.Object.{Object}
-use Rattle.mt_model.specs.declared.operations.Op.{Op}
-use Rattle.mt_model.specs.Model.{same_object, object_of, mode_of}
+use Rattle.mt_model.specs.Model.{same_object}
 use Rattle.mt_model.specs.Locks.{Held, no_locks, same_mode, is_lock, with_lock, without_lock, with_locks, without_locks, without_holder, HoldsEach, IsFree, AreTogether}
-use Rattle.mt_model.specs.Laws.{AreFree}
+use Rattle.mt_model.specs.Laws.{AreCompatible}
 use Rattle.mt_model.proofs.Cells.{same-true, same-self}
 use Rattle.mt_model.specs.declared.objects.Lock.{Lock}
 use Rattle.mt_slock.specs.Noted.{front, is_among_locks, with_note, without_last, without_notes, AreNoted, IsKept}
@@ -189,12 +190,22 @@ kept_released held after notes then t e f kept = moved after (without_holder hel
 
 -- ---- the law
 
-pub held_are_free : (held : Held) (t u : ℕ) (f g : Op) → AreTogether held → t ≢ u → held t (object_of f) (mode_of f) ≡ true → held u (object_of g) (mode_of g) ≡ true → AreFree f g
-held_are_free held t u f g together apart hf hg = by (same_object (object_of f) (object_of g)) refl
-  where
-    by : (s : Bool) → same_object (object_of f) (object_of g) ≡ s → AreFree f g
-    by true e = inr (together t u (object_of f) (mode_of f) (mode_of g) apart hf (subst (λ y. held u y (mode_of g) ≡ true) (sym (same-true (object_of f) (object_of g) e)) hg))
-    by false e = inl (λ same. not_both (same_object (object_of f) (object_of g)) (subst (λ y. same_object (object_of f) y ≡ true) same (same-self (object_of f))) e)
+module _ (held : Held) (t u : ℕ) (together : AreTogether held) (apart : t ≢ u) where
+  compatible : (l m : Lock) → held t l.object l.mode ≡ true → held u m.object m.mode ≡ true → AreCompatible l m
+  compatible l m hl hm = by (same_object l.object m.object) refl
+    where
+      by : (s : Bool) → same_object l.object m.object ≡ s → AreCompatible l m
+      by true e = inr (together t u l.object l.mode m.mode apart hl (subst (λ y. held u y m.mode ≡ true) (sym (same-true l.object m.object e)) hm))
+      by false e = inl (λ same. not_both (same_object l.object m.object) (subst (λ y. same_object l.object y ≡ true) same (same-self l.object)) e)
+
+  with_each : (l : Lock) (ms : List Lock) → held t l.object l.mode ≡ true → HoldsEach held u ms → All (AreCompatible l) ms
+  with_each l [] hl each = All-nil (AreCompatible l)
+  with_each l (m ∷ ms) hl each = All-cons (AreCompatible l) m ms (compatible l m hl each.0) (with_each l ms hl each.1)
+
+  pub each_with_each : (ls ms : List Lock) → HoldsEach held t ls → HoldsEach held u ms → All (λ l. All (AreCompatible l) ms) ls
+  each_with_each [] ms first second = All-nil (λ l. All (AreCompatible l) ms)
+  each_with_each (l ∷ ls) ms first second =
+      All-cons (λ l. All (AreCompatible l) ms) l ls (with_each l ms first.0 second) (each_with_each ls ms first.1 second)
 
 -- ---- what a grant of several does, and what takes it back
 

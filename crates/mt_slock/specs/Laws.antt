@@ -1,9 +1,9 @@
 -- What holds of locks that are held together, and of locks that are taken out again: the statements of the laws.
-use Rattle.std.specs.Prelude.{ℕ, ◌≡◌, ◌≢◌, true, List}
+use Rattle.std.specs.Prelude.{ℕ, ◌≡◌, ◌≢◌, List}
 use Rattle.mt_model.specs.declared.objects.Asks.{Asks}
 use Rattle.mt_model.specs.declared.objects.Lock.{Lock}
 use Rattle.mt_model.specs.declared.operations.Op.{Op}
-use Rattle.mt_model.specs.Model.{Base, object_of, mode_of, locks_in}
+use Rattle.mt_model.specs.Model.{Base, locks_in, locks_of}
 use Rattle.mt_model.specs.Locks.{Held, with_locks, without_locks, HoldsEach, AreTogether}
 use Rattle.mt_model.specs.Laws.{DoCommute, StaysIn}
 use Rattle.mt_slock.specs.Answers.{MarksFresh, fresh_in}
@@ -12,7 +12,7 @@ use Rattle.mt_slock.specs.declared.table.Fresh.{Fresh}
 abbrev pub HeldOperationsCommute : Type 0
 HeldOperationsCommute =
     (held : Held) (t u : ℕ) (f g : Op) (b : Base) → AreTogether held → t ≢ u
-    → held t (object_of f) (mode_of f) ≡ true → held u (object_of g) (mode_of g) ≡ true
+    → HoldsEach held t (locks_of f) → HoldsEach held u (locks_of g)
     → StaysIn b f g → StaysIn b g f → DoCommute b f g
 
 -- locks are granted, and those of them that were not held before are taken out: the locks are as they were

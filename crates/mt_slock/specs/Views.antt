@@ -37,9 +37,14 @@ pub record IsOldestBar (hs : List Holder) (t : ℕ) (m : LockMode) (u : ℕ) : T
   pub bars : conflicts t m u mode ≡ true
   pub oldest : (v : ℕ) (n : LockMode) → is_among hs v n ≡ true → conflicts t m v n ≡ true → u ≤ v
 
+-- the oldest of those that are there
 abbrev pub least_of : Option ℕ → ℕ → ℕ
 least_of None b = b
 least_of (Some a) b = min a b
+
+abbrev pub oldest_of : Option ℕ → Option ℕ → Option ℕ
+oldest_of one None = one
+oldest_of one (Some b) = Some (least_of one b)
 
 abbrev pub holds_in : Option (List Holder) → ℕ → LockMode → Bool
 holds_in None t m = false

@@ -63,13 +63,17 @@ impl LockedObjects {
         }
     }
 
-    // How a relation is held, for a transaction that intends to write a row of it; its own if there is none.
+    // How a relation is held, for a transaction that intends to write a row of it, if there is one.
     fn standing_of_intent(&self, txn: TxnNo, intent: Option<RelNo>) -> Standing
         ensures { StandsIntent self.now txn intent result }
     {
         match intent {
             Some(relation) => self.standing(txn, &Object::Relation(relation), LockMode::Intend),
-            None => Standing::Own,
+            None => Standing {
+                bar: None,
+                fresh: false,
+                alone: false,
+            },
         }
     }
 
@@ -77,13 +81,17 @@ impl LockedObjects {
     fn standing(&self, txn: TxnNo, object: &Object, mode: LockMode) -> Standing
         ensures { Stands self.now txn object.now mode result }
     {
-        let Some(holders) = self.holders.get(object) else {
-            return Standing::Alone;
-        };
-        match holders.barring(txn, mode) {
-            Some(other) => Standing::Barred(other),
-            None if holders.has(txn, mode) => Standing::Own,
-            None => Standing::Shared,
+        match self.holders.get(object) {
+            Some(holders) => Standing {
+                bar: holders.barring(txn, mode),
+                fresh: !holders.has(txn, mode),
+                alone: false,
+            },
+            None => Standing {
+                bar: None,
+                fresh: true,
+                alone: true,
+            },
         }
     }
 

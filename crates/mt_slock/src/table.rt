@@ -5,7 +5,7 @@ ghost use Rattle.mt_base.specs.declared.refusal.Refusal.{Refusal};
 ghost use Rattle.mt_model.specs.Model.{same_object, intents, locks_in};
 ghost use Rattle.mt_model.specs.Locks.{no_locks, with_lock, without_lock, with_locks, without_locks, without_holder, IsFree, AreAllFree, AreTogether};
 ghost use Rattle.mt_slock.specs.Answers.{IsAsked, IsRefused, fresh_in};
-ghost use Rattle.mt_slock.specs.Standings.{Allows, Stand, StandsIntent, is_new};
+ghost use Rattle.mt_slock.specs.Standings.{Stand, StandsIntent};
 ghost use Rattle.mt_slock.specs.Views.{held_of};
 ghost use Rattle.mt_slock.specs.declared.table.Asked.TheVariants as asked;
 
@@ -124,7 +124,8 @@ impl LockTable {
         ensures together { AreTogether (held_of self.new) }
     {
         let fresh = standings.fresh();
-        let standing = standings.object_after(fresh.intent);
+        // the relation that was locked may be the object
+        let alone = standings.object.alone && !fresh.intent;
         let Asks {
             intent,
             object,
@@ -133,7 +134,7 @@ impl LockTable {
         // what is passed twice is copied first
         let kept = intent;
         self.grant_intent(txn, intent, standings.intent)?;
-        match self.grant_one(txn, object, mode, standing) {
+        match self.grant_one(txn, object, mode, fresh.object, alone) {
             Ok(()) => Ok(Asked::Granted(fresh)),
             Err(error) => {
                 self.take_out_intent(txn, kept, fresh.intent);
@@ -153,40 +154,47 @@ impl LockTable {
         requires standing { StandsIntent self.old txn intent standing }
         requires together { AreTogether (held_of self.old) }
         ensures granted { OnOk result (held_of self.new ≡ with_locks (held_of self.old) txn (intents intent)) }
-        ensures new { OnErr result (is_new standing ≡ true) }
+        ensures new { OnErr result (standing.fresh ≡ true) }
         ensures err { OnErr result (held_of self.new ≡ held_of self.old) }
-        ensures same { is_new standing ≡ false → self.new ≡ self.old }
+        ensures same { standing.fresh ≡ false → self.new ≡ self.old }
         ensures together { AreTogether (held_of self.new) }
     {
         match intent {
-            Some(relation) => {
-                self.grant_one(txn, Object::Relation(relation), LockMode::Intend, standing)
-            }
+            Some(relation) => self.grant_one(
+                txn,
+                Object::Relation(relation),
+                LockMode::Intend,
+                standing.fresh,
+                standing.alone,
+            ),
             None => Ok(()),
         }
     }
 
-    // One lock, which nobody is in the way of.
+    // One lock, which nobody is in the way of. It is held already unless `fresh` is set, and nobody holds the object if
+    // `alone` is.
     fn grant_one(
         &mut self,
         txn: TxnNo,
         object: Object,
         mode: LockMode,
-        standing: Standing,
+        fresh: bool,
+        alone: bool,
     ) -> Result<(), AllocError>
         requires free { IsFree (held_of self.old) txn object mode }
-        requires standing { Allows self.old txn object mode standing }
+        requires fresh { fresh ≡ false → held_of self.old txn object mode ≡ true }
+        requires alone { alone ≡ true → lookup (same_object object) self.old ≡ None }
         requires together { AreTogether (held_of self.old) }
         ensures granted { OnOk result (held_of self.new ≡ with_lock (held_of self.old) txn object mode) }
-        ensures new { OnErr result (is_new standing ≡ true) }
+        ensures new { OnErr result (fresh ≡ true) }
         ensures err { OnErr result (held_of self.new ≡ held_of self.old) }
-        ensures same { is_new standing ≡ false → self.new ≡ self.old }
+        ensures same { fresh ≡ false → self.new ≡ self.old }
         ensures together { AreTogether (held_of self.new) }
     {
-        match standing {
-            Standing::Barred(_) | Standing::Own => Ok(()),
-            Standing::Shared => self.put(txn, object, mode, false),
-            Standing::Alone => self.put(txn, object, mode, true),
+        if fresh {
+            self.put(txn, object, mode, alone)
+        } else {
+            Ok(())
         }
     }
 

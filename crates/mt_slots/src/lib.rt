@@ -16,5 +16,5 @@ mod record_changes;
 
 pub use contents::{RecordView, get, live, room};
 pub use page_rules::check;
-pub use placement::ROW_HEAD_BYTES;
+pub use placement::row_bytes;
 pub use record_changes::{Insertion, empty, insert, remove, replace};

@@ -1,5 +1,5 @@
 // Where in its page a record's bytes go: below all others, into a gap, or after the others are packed.
-ghost use Rattle.std.specs.Prelude.{◌≡◌, ◌≢◌, ◌+◌, ◌*◌, ◌<◌, ◌≤◌, ℕ, length, IfSome, IfNone};
+ghost use Rattle.std.specs.Prelude.{◌≡◌, ◌≢◌, ◌+◌, ◌*◌, ◌^◌, ◌<◌, ◌≤◌, ℕ, length, IfSome, IfNone};
 ghost use Rattle.mt_base.specs.declared.limits.TheConstants.{PAGE_BYTES};
 ghost use Rattle.mt_base.specs.Ranges.{Wrote};
 ghost use Rattle.mt_slots.specs.Page.{IsShaped, IsFree, Opens, count, offset, size, live_bytes};
@@ -16,12 +16,11 @@ use mt_base::ranges::put;
 use mt_base::{RelNo, TouchedBytes};
 
 /// Bytes of a record before its key and value.
-pub const ROW_HEAD_BYTES: usize = 4;
+pub(crate) const ROW_HEAD_BYTES: usize = 4;
 
-// The bytes that a record of this key and value takes in a page.
-pub(crate) fn row_bytes(key: &[u8], value: &[u8]) -> usize
-    requires key_fits { length key.now < 256 }
-    requires value_fits { length value.now ≤ PAGE_BYTES }
+/// The bytes that a record of this key and value takes in a page.
+pub fn row_bytes(key: &[u8], value: &[u8]) -> usize
+    requires { 4 + length key.now + length value.now < 2 ^ 64 }
     ensures { result ≡ 4 + length key.now + length value.now }
 {
     ROW_HEAD_BYTES + key.len() + value.len()

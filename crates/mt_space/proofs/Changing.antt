@@ -1,5 +1,5 @@
 -- Pages of which one is replaced, and lists of changes.
-use Rattle.std.proofs.Common.{◌≡◌, ◌≢◌, inl, inr, ℕ, List, [], ◌∷◌, ◌++◌, Option, None, Some, refl, sym, ◌∙◌, ap, subst, arith}
+use Rattle.std.proofs.Common.{◌≡◌, ◌≢◌, ◌<◌, inl, inr, ℕ, zero, suc, List, [], ◌∷◌, ◌++◌, length, get_or, Option, None, Some, refl, sym, ◌∙◌, ap, subst, arith}
 use mathlib.Core.Path.{fun_ext}
 use Rattle.std.proofs.lemmas.Bool.{cases_eq}
 use Rattle.std.proofs.lemmas.Bool.Decides.{nat_tests}
@@ -39,6 +39,12 @@ untouched_push (d ∷ cs) c p ne none = (none.0, untouched_push cs c p ne none.1
 pub short_push : (cs : List PageChange) (c : PageChange) (pages : PageBytes) → IsShort (pages c.page) c → IsUntouched cs c.page → AreShort cs pages → AreShort (cs ++ c ∷ []) pages
 short_push [] c pages short none all = (short, tt, tt)
 short_push (d ∷ cs) c pages short none all = (all.0, untouched_push cs c d.page (λ e. none.0 (sym e)) all.1, short_push cs c pages short none.1 all.2)
+
+-- each change is as a log wants it
+pub short_at : (cs : List PageChange) (i : ℕ) (d : PageChange) (pages : PageBytes) → i < length cs → AreShort cs pages → IsShort (pages (get_or cs i d).page) (get_or cs i d)
+short_at [] i d pages lt all = absurd (omega arith)
+short_at (c ∷ cs) zero d pages lt all = all.0
+short_at (c ∷ cs) (suc i) d pages lt all = short_at cs i d pages (omega arith) all.2
 
 -- ---- pages at hand
 

@@ -2,3 +2,4 @@ pub mod Counting
 pub mod Maps
 pub mod Changing
 pub mod MapLemmas
+pub mod Following

@@ -10,10 +10,12 @@ mod map;
 pub mod pages;
 mod patches;
 mod space;
+mod space_map;
 mod views;
 
 pub use changes::{Changes, PageChange};
 pub use map::{first_free, kind_byte};
 pub use patches::patch;
 pub use space::Space;
+pub use space_map::SpaceMap;
 pub use views::Pages;

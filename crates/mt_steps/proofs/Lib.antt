@@ -23,3 +23,6 @@ mod Crowding
 mod Naming
 mod Joined
 pub mod Listed
+mod RecordRows
+pub mod HeldBase
+mod ScanRows

@@ -186,11 +186,6 @@ agrees_kept below old new p bytes pages keeps agrees q b is = elim (cases_eq p q
 
 -- ---- a list of changes, one by one
 
-pub short_at : (cs : List PageChange) (i : ℕ) (d : PageChange) (pages : PageBytes) → i < length cs → AreShort cs pages → IsShort (pages (get_or cs i d).page) (get_or cs i d)
-short_at [] i d pages lt all = absurd (omega arith)
-short_at (c ∷ cs) zero d pages lt all = all.0
-short_at (c ∷ cs) (suc i) d pages lt all = short_at cs i d pages (omega arith) all.2
-
 -- the edits of a page that is at hand lie within it
 pub edits_fit : (at_hand : ℕ → Option (List ℕ)) (c : PageChange) (pages : PageBytes) → ((p : ℕ) (bytes : List ℕ) → at_hand p ≡ Some bytes → length bytes ≡ 4096) → IsSome (at_hand c.page) → Agrees at_hand pages → IsShort (pages c.page) c
     → All (λ (e : Edit). e.start + length e.bytes ≤ 4096) c.edits.items

@@ -1,17 +1,14 @@
 -- An act on rows and counters is what a plan promises.
-use Rattle.std.proofs.Common.{◌≡◌, ◌<◌, ◌⊎◌, Bool, false, ℕ, List, [], Result, Ok, Err, IfOk, Option, None, Some, refl, sym, ◌∙◌, ap, subst}
+use Rattle.std.proofs.Common.{◌≡◌, ◌<◌, ◌⊎◌, Bool, false, ℕ, List, [], Result, Ok, Err, IfOk, Option, subst}
 use Rattle.mt_base.specs.declared.modes.Mode.{Mode}
-use Rattle.mt_base.specs.declared.numbers.RecordName.{RecordName}
-use Rattle.mt_slots.specs.Page.{Row}
 use Rattle.mt_space.specs.declared.changes.PageChange.{PageChange}
 use Rattle.mt_space.specs.Changes.{PageBytes, after, AreShort}
-use Rattle.mt_file.specs.File.{record_in}
 use Rattle.mt_index.specs.Maps.{Map}
 use Rattle.mt_model.specs.declared.operations.Op.{Op}
 use Rattle.mt_model.specs.declared.operations.Reply.{Reply}
 use Rattle.mt_model.specs.Model.{Base}
 use Rattle.mt_steps.specs.Counters.{count_in, AreCounters}
-use Rattle.mt_steps.specs.Held.{Holds, IsThere, AreRows}
+use Rattle.mt_steps.specs.Held.{Holds, AreRows}
 use Rattle.mt_steps.specs.declared.act.Act.{Act}
 use Rattle.mt_steps.specs.declared.act.Act.TheVariants as act
 use Rattle.mt_steps.specs.Acts.{IfLock, IfMade, IfFull, InGood, InRoomy, IsAct}
@@ -19,40 +16,9 @@ use Rattle.mt_steps.specs.Logged.{HasSmallReply, HasSmallValues}
 use Rattle.mt_steps.specs.Asks.{AsksFor}
 use Rattle.mt_steps.specs.Plans.{IsGood, InPages, IsPlanned, IsModest, IsTight, free_pages, own_needs, record_bytes}
 use Rattle.mt_steps.proofs.Entering.{made_weaker}
+use Rattle.mt_steps.proofs.HeldBase.{base_with, counts_with, rows_held}
 use Rattle.mt_steps.proofs.Modest.{modest_nothing, modest_any}
 use Rattle.mt_steps.proofs.Small.{small_reply}
-
--- ---- the base that good pages hold
-
-value_in : Option Row → Option (List ℕ)
-value_in None = None
-value_in (Some row) = Some row.value
-
-row_named : PageBytes → Option RecordName → Option Row
-row_named pages None = None
-row_named pages (Some n) = record_in pages n.page n.slot
-
-base_in : PageBytes → Map → Base
-base_in pages m = record { rows = λ r k. value_in (row_named pages (m r k)); counts = λ c. count_in (pages 2) c }
-
-base_held : (relations total : ℕ) (pages : PageBytes) (m : Map) → AreRows relations total pages m → Holds pages (base_in pages m)
-unfolding base_in value_in row_named
-base_held relations total pages m rows = record {
-  rows = record {
-    found = λ r k v is. found r k v (m r k) refl is;
-    there = λ r k v at. ap (λ (o : Option RecordName). value_in (row_named pages o)) (rows.named.named at.0 at.1 (record { relation = r; key = k; value = v }) at.2) ∙ ap value_in at.2;
-  };
-  counts = λ c lt. refl;
-}
-  where
-    same : (v w : List ℕ) → Some v ≡ Some w → v ≡ w
-    same v w e = cc
-
-    found : (r : ℕ) (k v : List ℕ) (o : Option RecordName) → m r k ≡ o → value_in (row_named pages o) ≡ Some v → IsThere pages r k v
-    found r k v None at is = absurd (cc)
-    found r k v (Some n) at is =
-        let t = rows.named.names r k n at in
-        (n.page, n.slot, t.1 ∙ ap (λ (w : List ℕ). Some (record { relation = r; key = k; value = w })) (same t.0 v (sym (ap value_in t.1) ∙ is)))
 
 small_held : (relations total : ℕ) (pages : PageBytes) (m : Map) (b : Base) → AreRows relations total pages m → Holds pages b → HasSmallValues b
 small_held relations total pages m b rows held r k v is =
@@ -62,8 +28,11 @@ small_held relations total pages m b rows held r k v is =
 -- so no reply has a larger value than any may have
 pub act_small : (relations total : ℕ) (pages pages2 : PageBytes) (m : Map) (op : Op) (reply : Reply) → AreRows relations total pages m → IsAct relations total pages pages2 op reply → HasSmallReply reply
 act_small relations total pages pages2 m op reply rows act =
-    let b = base_in pages m in
-    let held = base_held relations total pages m rows in
+    let b = base_with relations total pages m rows (count_in (pages 2)) in
+    let held : Holds pages b = record {
+      rows = rows_held relations total pages m rows (count_in (pages 2));
+      counts = λ c lt. counts_with relations total pages m rows (count_in (pages 2)) c;
+    } in
     subst HasSmallReply (act.replies b held) (small_reply b op (small_held relations total pages m b rows held))
 
 -- ---- what is promised

@@ -1,10 +1,11 @@
 -- Pages as a device is formatted with them.
-use Rattle.std.specs.Prelude.{◌≡◌, ◌≢◌, ℕ, length, None}
+use Rattle.std.specs.Prelude.{◌≡◌, ◌≢◌, ℕ, [], length, None}
 use Rattle.mt_base.specs.declared.limits.TheConstants.{PAGE_BYTES}
 use Rattle.mt_bucket.specs.Page.{IsBucket}
 use Rattle.mt_space.specs.Changes.{PageBytes}
 use Rattle.mt_space.specs.Kinds.{kind, IsMap}
 use Rattle.mt_index.specs.Pages.{IsDirectory, IsEmpty}
+use Rattle.mt_rows.proofs.Listings.{listed}
 use Rattle.mt_model.specs.Model.{Base}
 use Rattle.mt_steps.specs.Counters.{count_in, AreCounters}
 
@@ -21,4 +22,4 @@ pub record IsFormatted (relations counters total : ℕ) (pages : PageBytes) : Ty
 
 -- the base without rows, with the counters of page 2
 abbrev pub first_base : PageBytes → Base
-first_base pages = record { rows = λ r k. None; counts = count_in (pages 2) }
+first_base pages = record { rows = λ r k. None; counts = count_in (pages 2); listing = listed [] }

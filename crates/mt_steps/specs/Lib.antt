@@ -10,3 +10,4 @@ pub mod Logged
 pub mod Tells
 pub mod Formatted
 pub mod Planners
+pub mod Scans

@@ -16,6 +16,7 @@ mod listed_base;
 mod logged_operation;
 mod operation_plan;
 mod overlay;
+mod scan_plan;
 mod update_plan;
 
 pub use act::Act;
@@ -24,4 +25,5 @@ pub use counters::{COUNTER_BYTES, COUNTERS_HEAD_BYTES, SchemaSizes, add, check, 
 pub use laws::formatted_pages_are_good;
 pub use listed_base::{base_without_rows, list_rows};
 pub use logged_operation::logged;
-pub use operation_plan::{pages_for, pages_to_undo, plan};
+pub use operation_plan::{bytes_put, pages_for, pages_to_undo, plan};
+pub use scan_plan::{Scanned, scan};

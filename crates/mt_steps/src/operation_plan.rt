@@ -1,5 +1,5 @@
-// The plan of an operation of any kind, and how many free pages it and its inverse may take.
-ghost use Rattle.std.specs.Prelude.{◌≡◌, ◌⊎◌, ◌<◌, ◌≤◌, ℕ, [], length, false, None, Some, IfOk};
+// The plan of an operation of any kind, the bytes of its record, and how many free pages it and its inverse may take.
+ghost use Rattle.std.specs.Prelude.{◌≡◌, ◌⊎◌, ◌^◌, ◌<◌, ◌≤◌, ℕ, [], length, false, None, Some, IfOk};
 ghost use Rattle.mt_base.specs.declared.limits.TheConstants.{MAX_RELATIONS, MAX_WRITTEN_PAGES};
 ghost use Rattle.mt_base.specs.declared.modes.Mode.TheVariants.{Read as ToRead};
 ghost use Rattle.mt_model.specs.Model.{IsWithin, inverse_of};
@@ -24,6 +24,7 @@ use mt_base::limits::{
 };
 use mt_index::Search;
 use mt_model::Op;
+use mt_slots::row_bytes;
 use mt_space::Pages;
 use std::alloc::{AllocError, Global};
 
@@ -104,6 +105,19 @@ pub fn plan<V: Pages>(
         Op::Delete(relation, key) => delete(alloc, views, *relation, key.as_slice(), search),
         Op::Add(counter, step) => add_to(alloc, views, *counter, *step),
         Op::Read(counter) => Ok(read_from(alloc, views, *counter)),
+    }
+}
+
+/// The bytes of the record that an operation puts, 0 if it puts none.
+pub fn bytes_put(op: &Op) -> u16
+    requires { record_bytes op.now < 2 ^ 16 }
+    ensures { result ≡ record_bytes op.now }
+{
+    match op {
+        Op::Insert(_, key, value) | Op::Update(_, key, value) => {
+            row_bytes(key.as_slice(), value.as_slice()) as u16
+        }
+        _ => 0,
     }
 }
 

@@ -32,7 +32,7 @@ module _ {D : Type 0} where
   -- the transaction is open then, or nothing has changed
   pub record AnswersBegin (k : KernelSeen D) (result : Result ℕ Refusal) (n : KernelSeen D) : Type 0 where
     pub refused : IsRefusedFor (begin_cause (has_failed_in k) k.core) result
-    pub early : (why : Refusal) → begin_cause (has_failed_in k) k.core ≡ Some why → result ≡ Err why
+    pub early : IsRefusedAtOnce (begin_cause (has_failed_in k) k.core) k result n
     pub opened : IfOk result (λ txn. SetsState k.core n.core txn (Some Open))
     pub err : OnErr result (n.core ≡ k.core)
 

@@ -1,9 +1,10 @@
 // The begin of a transaction: its tests, and then the core's begin.
-ghost use Rattle.std.specs.Prelude.{◌≡◌, ◌≢◌, ◌+◌, ◌^◌, IfOk, IfErr, OnOk, OnErr, None, Some, Err};
+ghost use Rattle.std.specs.Prelude.{◌≡◌, ◌≢◌, ◌+◌, ◌^◌, IfOk, IfErr, OnOk, OnErr, None, Some};
 ghost use Rattle.mt_base.specs.declared.refusal.Refusal.{Refusal};
 ghost use Rattle.mt_live.specs.Machine.{State, begun};
 ghost use Rattle.mt_model.specs.Model.{Base};
 ghost use Rattle.mt_live.specs.declared.transactions.TxnState.TheVariants.{Open};
+ghost use Rattle.mt_txn.specs.Causes.{IsRefusedAtOnce};
 ghost use Rattle.mt_txn.specs.Shown.{FailsForGood, SameSchema, Shows, StaysRestarting, kernel_device};
 ghost use Rattle.mt_txn.specs.Shown.{LeavesFound};
 ghost use Rattle.mt_txn.specs.Words.{kernel_begin_cause, StateIsSet, CommitsStay, RunningStays};
@@ -23,7 +24,7 @@ impl<D: Device> Kernel<D> {
     pub fn begin(&mut self, session: u32) -> Result<TxnNo, Refusal>
         ensures number { IfOk result (λ txn. txn ≡ self.old.core.live.begun + 1) }
         ensures may { OnOk result (kernel_begin_cause self.old ≡ None) }
-        ensures early { (why : Refusal) → kernel_begin_cause self.old ≡ Some why → result ≡ Err why }
+        ensures early { IsRefusedAtOnce (kernel_begin_cause self.old) self.old result self.new }
         ensures cause { IfErr result (λ why. why ≢ Refusal.NoMemory
             → kernel_begin_cause self.old ≡ Some why) }
         ensures begun { (first : Base) (s : State) → Shows first s self.old

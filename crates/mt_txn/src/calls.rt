@@ -2,7 +2,8 @@
 ghost use Rattle.std.specs.Prelude.{◌≡◌, ◌+◌, ◌*◌, None};
 ghost use Rattle.mt_live.specs.Machine.{State};
 ghost use Rattle.mt_model.specs.Model.{Base};
-ghost use Rattle.mt_core.specs.Work.{CallRuns};
+ghost use Rattle.mt_core.specs.Seen.{core_last};
+ghost use Rattle.mt_core.specs.Work.{CallRuns, DrawsNumber};
 ghost use Rattle.mt_pool.specs.Views.{pages};
 ghost use Rattle.mt_txn.specs.Causes.{IsRefusedAtOnce};
 ghost use Rattle.mt_txn.specs.Events.{HasCalled, IsAnsweredBy};
@@ -27,6 +28,7 @@ impl<D: Device> Kernel<D> {
     /// would leave the counter's bounds. Then 10 if too few pages are free and not claimed, 11 if the log has
     /// too few bytes left. If a younger transaction is in the way, it answers [`Called::Wait`]. Refusal 1 is for
     /// want of memory, at the point if it is wanted. In each of these cases nothing of the call is kept.
+    /// An operation that is started has the number after that of the last one.
     pub fn call(&mut self, txn: TxnNo, op: &Op) -> Result<Called, Refusal>
         ensures early { IsRefusedAtOnce (kernel_call_cause self.old txn op.now) self.old result self.new }
         ensures answer { kernel_call_cause self.old txn op.now ≡ None
@@ -34,6 +36,7 @@ impl<D: Device> Kernel<D> {
         ensures states { StatesStay self.old self.new }
         ensures runs { CallRuns txn (2 * pages (kernel_pool self.old) + 9) (kernel_running self.old)
             (kernel_running self.new) result }
+        ensures numbers { DrawsNumber (core_last self.old.core) (kernel_running self.old) self.new.core result }
         ensures commits { CommitsStay self.old self.new }
         ensures store { kernel_store self.new ≡ kernel_store self.old }
         ensures called { (first : Base) (s : State) → Shows first s self.old

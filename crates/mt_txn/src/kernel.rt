@@ -11,6 +11,7 @@ ghost use Rattle.mt_model.specs.declared.operations.Op.{Op};
 ghost use Rattle.mt_base.specs.Limits.{IsRelationCount};
 ghost use Rattle.mt_frame.specs.declared.slots.MasterSlot.{MasterSlot};
 ghost use Rattle.mt_core.specs.Consistent.{IsFresh};
+ghost use Rattle.mt_core.specs.Seen.{core_last};
 ghost use Rattle.mt_txn.specs.Well.{IsWell, Opens, RestartsFrom};
 ghost use Rattle.mt_op.specs.Operations.{operation_log};
 
@@ -74,6 +75,7 @@ impl<D: Device> Kernel<D> {
         ensures schema { (result.relations ≡ relations) × (result.counters ≡ counters) }
         ensures fails { is_failed result ≡ has_failed (operation_log operations) }
         ensures operations { result.core.operations ≡ operations }
+        ensures numbers { core_last result.core ≡ 0 }
     {
         Kernel {
             core: Core::new(alloc, operations, escrow),

@@ -2,6 +2,7 @@
 // mt_restart calls it in a rotation, in which the book and the numbers go on.
 ghost use Rattle.std.specs.Prelude.{◌≡◌, ◌<◌, ◌↔◌, ℕ, List, IsTrue, length};
 ghost use Rattle.mt_core.specs.Consistent.{IsFresh};
+ghost use Rattle.mt_core.specs.Seen.{core_last, rest_last};
 ghost use Rattle.mt_log.specs.Words.{has_failed};
 ghost use Rattle.mt_model.specs.History.{after};
 ghost use Rattle.mt_model.specs.Model.{Base};
@@ -52,6 +53,7 @@ impl<D: Device> Kernel<D> {
         ensures fails { is_failed result ≡ has_failed (operation_log operations) }
         ensures operations { result.core.operations ≡ operations }
         ensures book { result.core.book ≡ rest.rest.book }
+        ensures numbers { core_last result.core ≡ rest_last rest.rest }
     {
         let KernelRest {
             rest,

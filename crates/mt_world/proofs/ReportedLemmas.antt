@@ -1,7 +1,7 @@
 -- What the answers tell of a transaction that is open or commits is what the state has of it.
 use Rattle.std.proofs.Common.{◌≡◌, ◌≢◌, ◌<◌, ◌≤◌, ◌==◌, ℕ, Bool, true, false, not, cond, zero, suc, List, [], ◌∷◌, ◌++◌, map, take, Option, Some, None, is_some, ⊎_elim, refl, ap, ap₂, sym, subst, ◌∙◌, append_assoc, append-nil, arith}
 use Rattle.std.specs.Prelude.{All, AllPairs, ◌||◌, ⊤}
-use Rattle.std.proofs.lemmas.Bool.{cases_eq, cases_lt, eqb-true, ne_eqb}
+use Rattle.std.proofs.lemmas.Bool.{cases_eq, cases_lt, eqb-true, ne_eqb, and_parts}
 use Rattle.std.proofs.lemmas.List.{map-append}
 use Rattle.std.proofs.lemmas.List.Elements.{All-head, All-tail, filter-append}
 use Rattle.mt_core.proofs.Lists.{pairs_head, pairs_tail}
@@ -18,7 +18,6 @@ use Rattle.mt_live.specs.Sound.{Each}
 use Rattle.mt_live.specs.Undoing.{cut_back, is_effect, last_effect, only, others}
 use Rattle.mt_live.specs.declared.transactions.TxnState.{TxnState}
 use Rattle.mt_live.specs.declared.transactions.TxnState.TheVariants.{Open, Committing, Aborting}
-use Rattle.mt_model.proofs.Cells.{and_parts}
 use Rattle.mt_model.specs.History.{Call}
 use Rattle.mt_model.specs.Model.{Base, inverse_of, reply_of}
 use Rattle.mt_model.specs.declared.history.Committed.{Committed}

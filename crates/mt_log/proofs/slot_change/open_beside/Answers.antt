@@ -1,52 +1,53 @@
-use Rattle.std.proofs.Common.{rules, ◌≡◌, ◌+◌, ◌∙◌, length, take, drop, ap, arith}
+use Rattle.std.proofs.Common.{◌≡◌, ◌+◌, inl, inr, List, ℕ, OnOk, length, take, drop, ap, sym, subst, arith}
 use Rattle.std.proofs.lemmas.Result.{on_ok_weaker}
+use Rattle.mt_disk.specs.Disk.{Torn}
 use Rattle.mt_disk.proofs.Frame.{follows_within}
 use Rattle.mt_frame.specs.SlotText.{slot_text}
-use Rattle.mt_log.specs.Masters.{IsClosedAt, Rules}
-use Rattle.mt_log.proofs.Ruling.{behind_size}
+use Rattle.mt_log.specs.Masters.{IsClosedAt, IsRuling, Rules}
 use Rattle.mt_log.specs.NextSlot.{next_slot}
+use Rattle.mt_log.proofs.Ruling.{behind_size}
 use Rattle.mt_log.proofs.Turns.{behind_gate, behind_turns, next_rules, one_rules, slots_below, then_turns, write_turns}
 use Rattle.mt_log.proofs.slot_change.open_beside.Goals as goal
-use Rattle.mt_log.proofs.slot_change.open_beside.Goals.{After-write_durably}
+use Rattle.mt_log.proofs.slot_change.open_beside.Goals.{After-write_master}
 
 -- the text of the next slot
-text_is : (g : _) (c : After-write_durably g) → c.encode_slot-text.result ≡ slot_text (next_slot c.args.ruling.now)
-text_is g c = c.encode_slot-text.ensures ∙ ap slot_text c.slot_after.ensures
+text_is : (g : _) (c : After-write_master g) → slot_text c.slot_after.result ≡ slot_text (next_slot c.args.ruling.now)
+text_is g c = ap slot_text c.slot_after.ensures
 
--- behind it
-before_gate : (g : _) (c : After-write_durably g) → Rules (g.D.Device.seen c.write_durably.new.device) c.args.other c.args.at c.args.ruling.now × IsClosedAt (g.D.Device.seen c.write_durably.new.device) c.args.at
-before_gate g c =
-    let seen = g.D.Device.seen in
-    behind_gate c.args.at c.args.other c.requires.slots c.args.ruling.now c.requires.epoch c.encode_slot-text.result (text_is g c) (seen c.args.device.now) (seen c.write_durably.new.device) c.requires.rules c.requires.closed c.write_durably.ensures.rest
+-- once it stands after the gate
+before_gate : (g : _) (c : After-write_master g) (mid : List ℕ) → Torn (c.args.at + 1) (length (drop 1 (slot_text c.slot_after.result))) (g.D.Device.seen c.args.device.now) mid
+    → Rules mid c.args.other c.args.at c.args.ruling.now × IsClosedAt mid c.args.at
+before_gate g c mid torn =
+    behind_gate c.args.at c.args.other c.requires.slots c.args.ruling.now c.requires.epoch (slot_text c.slot_after.result) (text_is g c) (g.D.Device.seen c.args.device.now) mid c.requires.rules c.requires.closed torn
 
-pub returns-in_err-write_durably : goal.returns-in_err-write_durably
-returns-in_err-write_durably g c = record {
-  rules = search rules;
-  durable = search rules;
-  moments = let D = g.D.Device in
-      behind_turns c.args.at c.args.other c.requires.slots c.args.ruling.now c.requires.epoch c.encode_slot-text.result (text_is g (goal.at.returns-in_err-write_durably g c).After-write_durably) D c.args.device.now c.write_durably.new.device c.requires.durable c.requires.rules c.requires.closed c.write_durably.ensures.moments;
-  elsewhere = search rules;
-  rest = search rules;
-  cause = search rules;
-}
+pub write_master-requires-clause-below : goal.write_master-requires-clause-below
+write_master-requires-clause-below g c = slots_below c.args.at c.args.other c.requires.slots
 
 pub returns : goal.returns
-returns g c = record {
-  rules = let seen = g.D.Device.seen in let after = (goal.at.returns g c).After-write_durably in
-      on_ok_weaker c.write_durably-2.result
-      (next_rules c.args.at c.args.other c.requires.slots c.args.ruling.now c.requires.epoch c.encode_slot-text.result (text_is g after) (seen c.write_durably.new.device) (seen c.write_durably-2.new.device) (before_gate g after) c.in_ok-write_durably.ensures.written.has)
-      c.write_durably-2.ensures.written;
-  durable = search rules;
-  moments = let m = g.D.Device.moment in let l = g.D.Device.left_since in let may = g.D.Device.may_leave in let seen = g.D.Device.seen in
-      let at = c.args.at in let other = c.args.other in let ruling = c.args.ruling.now in let text = c.encode_slot-text.result in
-      let d = c.args.device.now in let mid = c.write_durably.new.device in let new = c.write_durably-2.new.device in
-      let after = (goal.at.returns g c).After-write_durably in
-      then_turns g.D.Device ruling d mid new
-      (behind_turns at other c.requires.slots ruling c.requires.epoch text (text_is g after) g.D.Device d mid c.requires.durable c.requires.rules c.requires.closed c.write_durably.ensures.moments)
-      (follows_within (at + 1) (length (take 16 (drop 1 text))) 0 8192 (may d) (may mid) (omega arith) (let below = slots_below at other c.requires.slots in let n = behind_size text (next_slot ruling) (text_is g after) in omega (arith, below, n)) c.write_durably.ensures.elsewhere)
-      (write_turns g.D.Device ruling at 1 mid new (let below = slots_below at other c.requires.slots in omega (arith, below)) c.in_ok-write_durably.ensures.durable
-      (λ k torn. one_rules at other c.requires.slots ruling c.requires.epoch text (text_is g after) (seen mid) k (before_gate g after) c.in_ok-write_durably.ensures.written.has torn) c.write_durably-2.ensures.moments);
-  elsewhere = search rules;
-  rest = search rules;
-  cause = search rules;
-}
+returns g c =
+    let D = g.D.Device in let seen = D.seen in let may = D.may_leave in
+    let at = c.args.at in let other = c.args.other in let ruling = c.args.ruling.now in let slots = c.requires.slots in
+    let d = c.args.device.now in let new = c.write_master.new.device in
+    let after = (goal.at.returns g c).After-write_master in
+    let text = slot_text c.slot_after.result in let is = text_is g after in
+    let below = slots_below at other slots in
+    let w = c.write_master.ensures in
+    record {
+      rules = elim w.steps [
+        | inl x ↦ subst (λ r. OnOk r (IsRuling (seen new) (next_slot ruling))) (sym x.1) tt
+        | inr x ↦ on_ok_weaker c.write_master.result
+            (next_rules at other slots ruling c.requires.epoch text is (seen x.0) (seen new) (before_gate g after (seen x.0) x.2.rest) x.2.written.has) x.3.written
+      ];
+      durable = w.durable;
+      moments = elim w.steps [
+        | inl x ↦ behind_turns at other slots ruling c.requires.epoch text is D d new c.requires.durable c.requires.rules c.requires.closed x.2.moments
+        | inr x ↦ then_turns D ruling d x.0 new
+            (behind_turns at other slots ruling c.requires.epoch text is D d x.0 c.requires.durable c.requires.rules c.requires.closed x.2.moments)
+            (follows_within (at + 1) (length (take 16 (drop 1 text))) 0 8192 (may d) (may x.0) (omega arith) (let n = behind_size text (next_slot ruling) is in omega (arith, below, n)) x.2.elsewhere)
+            (write_turns D ruling at 1 x.0 new (omega (arith, below)) x.2.durable
+            (λ k torn. one_rules at other slots ruling c.requires.epoch text is (seen x.0) k (before_gate g after (seen x.0) x.2.rest) x.2.written.has torn) x.3.moments)
+      ];
+      elsewhere = w.elsewhere;
+      rest = w.rest;
+      cause = w.cause;
+    }

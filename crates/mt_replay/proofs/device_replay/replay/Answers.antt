@@ -120,6 +120,6 @@ returns-clause-marked g c =
       area = subst (λ (x : List ℕ). HasArea x ruling (records_of batches)) c.ruling_slot.ensures.seen c.in_ok-batches.ensures.found;
       count = count ∙ h.count;
       imaged_are = subst (λ (bs : List Batch). MarksImaged ruling.pages (joined (records_of bs)) held.imaged.items) c.deref.ensures.value h.imaged;
-      lost_are = lost_at items c.deref-5.result.now held.in_slots.items c.deref-4.result.now held.imaged.items c.deref-6.result.now c.in_ok-lost.lost.items (D.seen c.read_area.new.device) (D.seen c.args.device.now) ruling.pages
+      lost_are = lost_at items c.deref-5.result.now held.found.items c.deref-4.result.now held.imaged.items c.deref-6.result.now c.in_ok-lost.lost.items (D.seen c.read_area.new.device) (D.seen c.args.device.now) ruling.pages
           c.deref-5.ensures.value c.deref-4.ensures.value c.deref-6.ensures.value same (count ∙ h.count) h.slots c.in_ok-lost.ensures;
     }

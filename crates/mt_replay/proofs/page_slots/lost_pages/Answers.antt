@@ -11,11 +11,11 @@ loop-page-preserved c =
     let page = c.loop-page.page in
     let pages = c.args.pages.now in
     let imaged = c.args.imaged.now in
-    let slots = c.args.slots.now in
+    let found = c.args.found.now in
     record {
       size = length_more lost c.push.new.self.items c.is_lost.result page was.size c.in_ok-push.ensures.items;
-      each = each_more (λ (p : ℕ) (b : Bool). TellsLost (get_or pages p []) (get_or imaged p false) (get_or slots p []) b) lost c.push.new.self.items c.is_lost.result false page was.size c.in_ok-push.ensures.items was.each c.is_lost.ensures;
+      each = each_more (λ (p : ℕ) (b : Bool). TellsLost (get_or pages p []) (get_or imaged p false) (get_or found p []) b) lost c.push.new.self.items c.is_lost.result false page was.size c.in_ok-push.ensures.items was.each c.is_lost.ensures;
     }
 
 pub returns : goal.returns
-returns c = λ x are. lost_of c.args.pages.now c.args.slots.now c.args.imaged.now c.loop-page.lost.items x c.loop-page.page (let end = c.loop-page-test.false in omega arith) c.loop-page.invariant.size c.loop-page.invariant.each are
+returns c = λ x are. lost_of c.args.pages.now c.args.found.now c.args.imaged.now c.loop-page.lost.items x c.loop-page.page (let end = c.loop-page-test.false in omega arith) c.loop-page.invariant.size c.loop-page.invariant.each are

@@ -1,4 +1,4 @@
-use Rattle.std.proofs.Common.{◌≡◌, ◌∙◌, ℕ, ap, length, sym, subst}
+use Rattle.std.proofs.Common.{◌≡◌, ◌<◌, ◌∙◌, ℕ, ap, inl, length, refl, sym, subst}
 use Rattle.mt_base.specs.declared.refusal.Refusal.{Refusal}
 use Rattle.mt_disk.specs.Disk.{LeavesOnly}
 use Rattle.mt_index.specs.Checks.{bytes_of}
@@ -6,6 +6,8 @@ use Rattle.mt_model.specs.Views.{base_of}
 use Rattle.mt_restart.proofs.Based.{base_of_good}
 use Rattle.mt_restart.proofs.Counted.{begins_on}
 use Rattle.mt_restart.proofs.Refusals.{not_refused, refused_so}
+use Rattle.mt_restart.proofs.Ruled.{not_unformatted}
+use Rattle.mt_restart.proofs.Unlost.{never_full}
 use Rattle.mt_restart.specs.Recovered.{StandsStill}
 use Rattle.mt_steps.specs.Listed.{IsSame}
 use Rattle.mt_restart.proofs.opened_with_base.open_with_base.Goals as goal
@@ -68,3 +70,38 @@ returns-in-Err-survey_of-clause-settled g c = λ relations counters b can not.
 
 pub returns-in-Err-survey_of-clause-quiet : goal.returns-in-Err-survey_of-clause-quiet
 returns-in-Err-survey_of-clause-quiet g c = λ not. c.recover.ensures.quiet (not_refused c.recover.result c.in-Ok.recovered Refusal.DeviceFailed c.in-Ok.is)
+
+pub returns-clause-restored : goal.returns-clause-restored
+returns-clause-restored g c =
+    let items = c.in-Ok.recovered.restored.pages.items in let x = c.in-Ok.ensures in
+    let checked = x.recovered.checked in
+    let based = base_of_good checked.relations checked.counters (length items) (bytes_of items) checked.good in
+    let begins = c.kernel_over.ensures.opened based.0 based.1 based.2 in
+    record {
+      items = items;
+      restored = x.restored;
+      relations = begins.relations_are ∙ x.recovered.beside.relations;
+      counters = begins.counters_are ∙ x.recovered.beside.counters;
+      opened = λ b holds bounds. let o = c.kernel_over.ensures.opened b holds bounds in record { relations_are = refl; counters_are = refl; shows = o.shows; restarts = o.restarts };
+    }
+
+pub returns-clause-once : goal.returns-clause-once
+returns-clause-once g c = λ slot rules. c.kernel_over.ensures.ruling ∙ c.in-Ok.ensures.next slot rules
+
+pub returns-in-Err-clause-refused : goal.returns-in-Err-clause-refused
+returns-in-Err-clause-refused g c =
+    let D = g.D.Device in let d = c.args.device in let e = c.in-Err.ensures in
+    record {
+      unformatted = e.unformatted;
+      left = e.no_other_refusal;
+      formatted = λ s formatted. never_full c.slots_are_read_back.ensures s (D.seen d) (D.faults d < D.faults c.recover.new.device) c.in-Err.refusal formatted e.cause;
+    }
+
+pub returns-in-Err-survey_of-clause-refused : goal.returns-in-Err-survey_of-clause-refused
+returns-in-Err-survey_of-clause-refused g c =
+    let memory = c.in-Err-survey_of.ensures.only_memory in
+    record {
+      unformatted = λ none. absurd (not_unformatted (g.D.Device.seen c.args.device) c.in-Ok.recovered.restored.pages.items c.in-Ok.ensures.restored none);
+      left = λ relations counters b can. inl memory;
+      formatted = λ s formatted full. let wrong = sym memory ∙ full in absurd cc;
+    }

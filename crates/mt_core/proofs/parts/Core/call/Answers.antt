@@ -23,6 +23,7 @@ use Rattle.mt_core.proofs.Members.{states_kept}
 use Rattle.std.specs.Option.{option_map}
 use Rattle.std.proofs.Common.{length, arith}
 use Rattle.mt_core.proofs.Restarts.{kept_num, num, quiet_store, stays_same, with_room_num}
+use Rattle.mt_core.specs.Work.{DrawsNumber}
 use Rattle.mt_core.proofs.parts.Core.call.Goals as goal
 
 pub lock-requires-clause-safe : goal.lock-requires-clause-safe
@@ -86,3 +87,7 @@ returns-clause-restartable g c = λ origin base later safe_k safe_n r. let k = c
     stays_same g.D.Device origin k n base later safe_k safe_n (quiet_store g.D.Device origin k n l.store) (record { book = ap (λ v. v.items) l.book; commits = l.same_commits }) (ap (λ (x : Lives). x.standing) l.live ∙ e.standing)
     (λ t. ap (λ (x : Lives). num x.members t) l.live ∙ kept_num k.live.members c.room.new.self.members c.args.txn (option_map with_room (member_of k.live.members c.args.txn)) e.member (with_room_num (member_of k.live.members c.args.txn)) t)
     (let few = r.few in let count = e.count in let same = ap (λ (x : Lives). length x.members) l.live in omega (arith, few, count, same)) r
+
+pub returns-clause-numbers : goal.returns-clause-numbers
+returns-clause-numbers g c = let k = c.args.self.now in
+    subst (λ (rs : List OpScope). DrawsNumber k.last rs c.lock.new.self c.lock.result) c.reserve.ensures.items c.lock.ensures.numbered

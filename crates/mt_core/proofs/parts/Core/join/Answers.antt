@@ -13,4 +13,5 @@ returns g c = record {
       );
   operations = refl;
   book = refl;
+  numbers = refl;
 }

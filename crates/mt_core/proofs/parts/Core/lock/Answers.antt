@@ -8,6 +8,7 @@ use Rattle.mt_slock.specs.Views.{held_of}
 use Rattle.mt_slock.specs.declared.table.Asked.TheVariants.{Granted, Wait}
 use Rattle.mt_core.proofs.Locked.{locked_from, relocked_in, restored_out}
 use Rattle.mt_core.specs.Consistent.{log_kept}
+use Rattle.mt_core.specs.declared.parts.Core.{Core}
 use Rattle.mt_core.proofs.Refusing.{refused_call}
 use Rattle.mt_core.proofs.parts.Core.lock.Goals as goal
 
@@ -26,6 +27,7 @@ returns-in-Wait g c = record {
       (asked.0, asked.1);
   live = search rules;
   runs = search rules;
+  numbered = search rules;
   same_commits = search rules;
   store = search rules;
   book = search rules;
@@ -41,6 +43,7 @@ returns-in-Ok g c = record {
       (asked.0, c.in-Ok.ensures.may origin base k.locks (locked_from g.D.Device origin base k (record k { locks = c.ask.new.self }) c.args.txn c.args.op safe may asked.0 asked.1));
   live = search rules;
   runs = search rules;
+  numbered = c.in-Ok.ensures.numbered;
   same_commits = search rules;
   store = search rules;
   book = search rules;
@@ -57,6 +60,7 @@ returns-in-Err g c = record {
       refused_call g.D.Device origin k (log_kept k) c.args.txn c.args.op c.args.split c.in-Err.why asked.0 (c.in-Err.ensures.cause origin base k.locks (locked_from g.D.Device origin base k (record k { locks = c.ask.new.self }) c.args.txn c.args.op safe may asked.0 asked.1));
   live = search rules;
   runs = search rules;
+  numbered = ap (λ (x : Core _). x.last) c.in-Err.ensures.err.same;
   same_commits = search rules;
   store = search rules;
   book = search rules;

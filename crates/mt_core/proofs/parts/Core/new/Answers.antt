@@ -24,4 +24,5 @@ returns g c = record {
       starts g.D.Device origin k (subst (λ (b : Base). IsConsistent g.D.Device origin b k) (sym area.begun) safe.consistent) (subst IsBase (sym area.begun) bounds)
       (area.begun ∙ ap (after origin.first) (sym area.none)) (c.new-5.ensures.items ∙ sym area.none) c.new-4.ensures.items members standing c.requires.fresh.images;
   operations = refl;
+  numbers = refl;
 }

@@ -42,6 +42,7 @@ returns-then-not-takes g c = record {
   };
   live = search rules;
   runs = search rules;
+  numbered = search rules;
   same_commits = search rules;
   store = search rules;
   book = search rules;
@@ -62,6 +63,7 @@ returns-in-Err-begin_op g c = record {
   };
   live = search rules;
   runs = search rules;
+  numbered = search rules;
   same_commits = search rules;
   store = search rules;
   book = search rules;
@@ -115,6 +117,7 @@ returns-in-Ok-begin_op g c = record {
     e.work ∙ ap (λ n. 2 * n + 9) (ap (λ o. pages o.pool) c.claim.ensures.store),
     c.push_reserved.ensures.items,
   );
+  numbered = let e = c.in-Ok-begin_op.ensures in (refl, (c.in-Ok-begin_op.scope, c.push_reserved.ensures.items, e.named.1 ∙ c.new.ensures));
   same_commits = search rules;
   store = search rules;
   book = search rules;
@@ -135,6 +138,7 @@ returns-in-Err g c = record {
   err = search rules;
   live = search rules;
   runs = search rules;
+  numbered = search rules;
   same_commits = search rules;
   store = search rules;
   book = search rules;

@@ -4,7 +4,7 @@ use Rattle.mt_core.proofs.Resting.{rests_in}
 use Rattle.mt_core.proofs.Surveyed.{nobody_locks}
 use Rattle.mt_log.specs.Words.{area_size, durable, used}
 use Rattle.mt_op.proofs.Surveyed.{read_rests, read_right}
-use Rattle.mt_op.specs.declared.space_map.SpaceMap.{SpaceMap}
+use Rattle.mt_space.specs.declared.space_map.SpaceMap.{SpaceMap}
 use Rattle.mt_space.specs.Rooms.{reserved_of}
 use Rattle.mt_core.proofs.Lasting.{lasts_same}
 use Rattle.mt_core.proofs.Restarts.{rests_same}

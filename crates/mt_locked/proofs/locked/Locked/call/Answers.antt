@@ -1,7 +1,7 @@
 use Rattle.std.proofs.Common.{◌∙◌, ap}
 use Rattle.mt_model.specs.Views.{base_of}
 use Rattle.mt_locked.proofs.Keeping.{calls_one}
-use Rattle.mt_locked.proofs.Standings.{asked, at_once, goes_on}
+use Rattle.mt_locked.proofs.Standings.{asked, at_once, calls_to, goes_on}
 use Rattle.mt_locked.specs.Seen.{LockedSeen}
 use Rattle.mt_locked.proofs.locked.Locked.call.Goals as goal
 
@@ -16,7 +16,13 @@ pub returns-clause-kernel : goal.returns-clause-kernel
 returns-clause-kernel g c =
     let D = g.D.Device in let e = c.call.ensures in
     asked c.self.inside.standing c.in-Stands.kernel c.call.new.self c.self.inside.end.view.list _ _ _ c.in-Stands.is c.self.view_is
-    (record { early = at_once _ _ _ _ e.early; answer = e.answer; states = e.states; commits = e.commits })
+    (record {
+      answers = record { early = at_once _ _ _ _ e.early; answer = e.answer; states = e.states; commits = e.commits };
+      runs = e.runs;
+      numbers = e.numbers;
+      store = e.store;
+      state = λ first s shows. calls_to first s c.args.txn c.args.op.now c.call.result c.call.new.self (e.called first s shows);
+    })
 
 pub returns-clause-book : goal.returns-clause-book
 returns-clause-book g c =

@@ -15,7 +15,7 @@ pub returns-clause-kernel : goal.returns-clause-kernel
 returns-clause-kernel g c =
     let D = g.D.Device in let e = c.flush_step.ensures in
     asked c.self.inside.standing c.in-Stands.kernel c.flush_step.new.self c.self.inside.end.view.list _ _ _ c.in-Stands.is c.self.view_is
-    (record { why = e.cause; log = e.log })
+    (record { answers = record { why = e.cause; log = e.log }; written = e.flushes.written; waits = e.flushes.held_up; nothing = e.flushes.nothing; rest = e.rest; once = e.once })
 
 pub returns-clause-book : goal.returns-clause-book
 returns-clause-book g c =

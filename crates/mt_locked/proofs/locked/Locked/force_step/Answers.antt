@@ -24,4 +24,4 @@ pub returns-clause-kernel : goal.returns-clause-kernel
 returns-clause-kernel g c =
     let D = g.D.Device in let e = c.force_step.ensures in
     asked c.self.inside.standing c.in-Stands.kernel c.force_step.new.self c.self.inside.end.view.list _ _ _ c.in-Stands.is c.self.view_is
-    (record { why = e.cause; forced = e.log; unappended = e.keeps.appended })
+    (record { answers = record { why = e.cause; forced = e.log; unappended = e.keeps.appended }; pool = e.keeps.pool; running = e.keeps.running; states = e.keeps.states; once = e.once })

@@ -2,8 +2,10 @@ use Rattle.std.proofs.Common.{◌≡◌, ◌∙◌, ap, subst, sym}
 use Rattle.mt_mark.specs.Held.{Held}
 use Rattle.mt_mark.specs.Rule.{IsConfirmed, dones}
 use Rattle.mt_locked.specs.Seen.{LockedSeen}
-use Rattle.mt_locked.specs.Standings.{KeepsHistory, book_in}
+use Rattle.mt_locked.specs.Standings.{KeepsHistory, book_in, seen_in}
+use Rattle.mt_locked.specs.Turns.{IsTooEarlyIn}
 use Rattle.mt_locked.proofs.Books.{dones-length}
+use Rattle.mt_locked.proofs.Uses.{too_early}
 use Rattle.mt_locked.proofs.locked.Locked.rotate.Goals as goal
 
 pub invariant_of-self : goal.invariant_of-self
@@ -53,3 +55,12 @@ returns-else-ne-clause-book g c =
     let list = c.self.inside.end.view.list in let new = c.replace_with-outcome.new.dest in
     let kept = c.replace_with-outcome.ensures.keeps b (dones list) (dones-length list ∙ sym s.stands) i.4 in
     ap (λ (x : Held). book_in new (dones x.view.list)) s.same ∙ (kept.1 ∙ ap (λ (l : LockedSeen _). l.book) c.self.view_is)
+
+pub returns-else-ne-clause-early : goal.returns-else-ne-clause-early
+returns-else-ne-clause-early g c = λ is.
+    let D = g.D.Device in let i = c.self.invariant in let s = c.check-entered.ensures in
+    let list = c.self.inside.end.view.list in let standing = c.self.inside.standing in let new = c.replace_with-outcome.new.dest in
+    let early = c.replace_with-outcome.ensures.early is in (
+      (λ j. seen_in (early.0 j) (ap (λ (x : Held). x.view.list) s.same j)) ∙ c.self.view_is,
+      subst (λ (l : LockedSeen _). IsTooEarlyIn l) c.self.view_is (too_early c.check-entered.result standing list s.stands early.1),
+    )

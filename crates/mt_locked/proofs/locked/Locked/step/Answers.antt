@@ -16,7 +16,16 @@ pub returns-clause-kernel : goal.returns-clause-kernel
 returns-clause-kernel g c =
     let D = g.D.Device in let e = c.step.ensures in
     asked c.self.inside.standing c.in-Stands.kernel c.step.new.self c.self.inside.end.view.list _ _ _ c.in-Stands.is c.self.view_is
-    (record { may = e.may; early = at_once _ _ _ _ e.early; why = e.cause; stepped = e.stepped })
+    (record {
+      answers = record { may = e.may; early = at_once _ _ _ _ e.early; why = e.cause; stepped = e.stepped };
+      work = e.moves.work;
+      others = e.moves.others;
+      writes = e.leaves.writes;
+      durable = e.leaves.durable;
+      states = e.leaves.states;
+      commits = e.leaves.commits;
+      once = e.once;
+    })
 
 pub returns-clause-book : goal.returns-clause-book
 returns-clause-book g c =

@@ -2,7 +2,7 @@ use Rattle.std.proofs.Common.{◌≡◌, set, ◌∙◌, ap, to_z-of_z, SFits, w
 use Rattle.mt_model.specs.Model.{added}
 use Rattle.mt_model.specs.Tables.{count_at}
 use Rattle.mt_model.specs.Views.{base_from}
-use Rattle.mt_model.proofs.CounterLemmas.{base-set}
+use Rattle.mt_model.proofs.TableLemmas.{base-set}
 use Rattle.mt_model.proofs.tables.Base.add.Goals as goal
 
 pub returns-then-add-clause-base : goal.returns-then-add-clause-base

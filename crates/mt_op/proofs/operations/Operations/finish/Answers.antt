@@ -21,7 +21,7 @@ use Rattle.mt_op.specs.Work.{work_of}
 use Rattle.mt_op.specs.Stepping.{GoesAhead}
 use Rattle.mt_op.specs.declared.operations.Operations.{Operations}
 use Rattle.mt_op.specs.declared.scope.OpScope.{OpScope}
-use Rattle.mt_op.specs.declared.space_map.SpaceMap.{SpaceMap}
+use Rattle.mt_space.specs.declared.space_map.SpaceMap.{SpaceMap}
 use Rattle.mt_op.specs.declared.scope.Stage.TheVariants.{Ready}
 use Rattle.mt_op.proofs.Ahead.{idle_ahead}
 use Rattle.mt_op.proofs.Budget.{ended_budget}

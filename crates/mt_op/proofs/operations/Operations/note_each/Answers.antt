@@ -6,9 +6,9 @@ use Rattle.mt_plock.specs.declared.guards.PageLock.{PageLock}
 use Rattle.mt_space.specs.Changes.{after}
 use Rattle.mt_steps.proofs.Overlaid.{some_is}
 use Rattle.mt_op.specs.World.{looked, changes_in}
-use Rattle.mt_op.specs.Room.{IsRoom}
+use Rattle.mt_file.specs.Rooms.{IsRoom}
 use Rattle.mt_op.specs.declared.operations.Operations.{Operations}
-use Rattle.mt_op.specs.declared.space_map.SpaceMap.{SpaceMap}
+use Rattle.mt_space.specs.declared.space_map.SpaceMap.{SpaceMap}
 use Rattle.mt_op.proofs.Noted.{AreNoted, noted_here, noted_none}
 use Rattle.mt_op.proofs.operations.Operations.note_each.Goals as goal
 use Rattle.mt_op.proofs.operations.Operations.note_each.Goals.{in-Some, in_default}
@@ -40,8 +40,8 @@ loop-guard-preserved g c =
                 subst (λ (xs : List ℕ). AreNoted s (i + 1) c.args.self.now.map.kinds.value xs pages) (sym (rooms ∙ ap (λ (p : ℕ). set old.rooms p room) page))
                 (noted_here s c.args.self.now.map.kinds.value pages i d lt is old.rooms (before.noted pages agrees short) room (subst (λ (p : ℕ). p < length old.rooms) page inside)
                 (subst (λ (p : ℕ). IsRoom (get_or c.args.self.now.map.kinds.value p 0) (after (changes_in s) pages p) room) page (record {
-                  records = λ kind. w.room_after-room.ensures.records pages bytes short (ap (λ (m : SpaceMap). get_or m.kinds.value c.lock-page.result.page 0) before.map ∙ kind);
-                  others = λ kind. w.room_after-room.ensures.others (λ e. kind (ap (λ (m : SpaceMap). get_or m.kinds.value c.lock-page.result.page 0) (sym before.map) ∙ e));
+                  records = λ kind. w.room_after-room.ensures.records pages bytes short (ap (λ (bs : List ℕ). get_or bs c.lock-page.result.page 0) w.deref.ensures ∙ ap (λ (m : SpaceMap). get_or m.kinds.value c.lock-page.result.page 0) before.map ∙ kind);
+                  others = λ kind. w.room_after-room.ensures.others (λ e. kind (ap (λ (m : SpaceMap). get_or m.kinds.value c.lock-page.result.page 0) (sym before.map) ∙ ap (λ (bs : List ℕ). get_or bs c.lock-page.result.page 0) (sym w.deref.ensures) ∙ e));
                 })));
           }
       | in_default w ↦
@@ -59,4 +59,4 @@ loop-guard-preserved g c =
 pub room_after-room-requires-clause-pages : goal.room_after-room-requires-clause-pages
 room_after-room-requires-clause-pages g c = ∥∥₁_map c.requires.pages (λ (pages, agrees, short, shaped).
     let p = c.lock-page.result.page in
-    (pages, agrees p c.in-Some.before.now c.in-Some.ensures.some, short, λ kind. shaped p (ap (λ (m : SpaceMap). get_or m.kinds.value p 0) (sym c.loop-guard.invariant.map) ∙ kind)))
+    (pages, agrees p c.in-Some.before.now c.in-Some.ensures.some, short, λ kind. shaped p (ap (λ (m : SpaceMap). get_or m.kinds.value p 0) (sym c.loop-guard.invariant.map) ∙ ap (λ (bs : List ℕ). get_or bs p 0) (sym c.deref.ensures) ∙ kind)))

@@ -4,7 +4,7 @@ use Rattle.std.specs.Prelude.{Ok, Err}
 use Rattle.std.proofs.lemmas.Result.{err_from_is_err_and}
 use Rattle.mt_space.specs.Rooms.{reserved_of}
 use Rattle.mt_steps.specs.Plans.{own_needs}
-use Rattle.mt_op.specs.declared.space_map.SpaceMap.{SpaceMap}
+use Rattle.mt_space.specs.declared.space_map.SpaceMap.{SpaceMap}
 use Rattle.mt_op.specs.declared.scope.Stage.TheVariants.{Planning}
 use Rattle.mt_op.specs.Operations.{world}
 use Rattle.mt_op.specs.Stepping.{MakesStep, PlansOn}

@@ -8,7 +8,7 @@ use Rattle.mt_op.proofs.Surveyed.{counters_page, fixed_inside, read_held, read_i
 use Rattle.mt_op.specs.Operations.{IsRight, world}
 use Rattle.mt_op.specs.Surveyed.{IsIdle}
 use Rattle.mt_op.specs.World.{held_in}
-use Rattle.mt_op.specs.declared.space_map.SpaceMap.{SpaceMap}
+use Rattle.mt_space.specs.declared.space_map.SpaceMap.{SpaceMap}
 use Rattle.mt_pool.specs.Views.{pages}
 use Rattle.mt_pool.specs.declared.pool.Pool.{Pool}
 use Rattle.mt_space.specs.Changes.{PageBytes}

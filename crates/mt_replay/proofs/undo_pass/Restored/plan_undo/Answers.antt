@@ -23,7 +23,7 @@ pub bytes_put-requires : goal.bytes_put-requires
 bytes_put-requires c =
     let d = c.args.done.now in
     let is : c.in_ok-inverse.inverse ≡ undo_of d = inverse_is d _ _ c.in_ok-inverse.inverse c.effect_of-effect.ensures.op c.effect_of-effect.ensures.reply c.in_ok-inverse.ensures in
-    subst (λ (op : Op). record_bytes op ≤ 4096) (sym is) (undo_short d c.requires)
+    subst (λ (op : Op). record_bytes op < 65536) (sym is) (let short = undo_short d c.requires in omega (arith, short))
 
 pub plan-requires-clause-good : goal.plan-requires-clause-good
 plan-requires-clause-good c =

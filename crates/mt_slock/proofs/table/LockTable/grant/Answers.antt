@@ -1,10 +1,8 @@
-use Rattle.std.proofs.Common.{cond, [], ◌∷◌, sym, ap, ◌∙◌, subst}
+use Rattle.std.proofs.Common.{◌≡◌, true, cond, [], ◌∷◌, sym, ap, ◌∙◌, subst}
 use Rattle.mt_model.specs.Locks.{Held, IsFree, with_lock, without_locks}
 use Rattle.mt_model.specs.Model.{intents}
-use Rattle.mt_slock.specs.Standings.{Allows}
 use Rattle.mt_slock.specs.Views.{held_of}
-use Rattle.mt_slock.specs.declared.standings.Standing.{Standing}
-use Rattle.mt_slock.proofs.Asking.{lock_of, free_intents, free_last, still_free, allowed_after, all_fresh, granted_last, intent_back}
+use Rattle.mt_slock.proofs.Asking.{lock_of, free_intents, free_last, still_free, held_after, granted_last, intent_back}
 use Rattle.mt_slock.proofs.table.LockTable.grant.Goals as goal
 
 pub grant_intent-requires-clause-free : goal.grant_intent-requires-clause-free
@@ -16,12 +14,12 @@ grant_one-requires-clause-free c =
     (still_free (held_of c.args.self.now) c.args.txn (intents c.args.asks.intent) c.args.asks.object c.args.asks.mode
     (free_last (held_of c.args.self.now) c.args.txn c.args.asks.intent (lock_of c.args.asks.object c.args.asks.mode) c.requires.free))
 
-pub grant_one-requires-clause-standing : goal.grant_one-requires-clause-standing
-grant_one-requires-clause-standing c =
-    subst (λ (s : Standing). Allows c.grant_intent.new.self c.args.txn c.args.asks.object c.args.asks.mode s) (sym c.object_after-standing.ensures)
-    (allowed_after c.args.self.now c.grant_intent.new.self c.args.txn (intents c.args.asks.intent) c.args.asks.object c.args.asks.mode c.args.standings.object c.fresh-fresh.result.intent
-    c.in_ok-grant_intent.ensures.granted (λ e. c.grant_intent.ensures.same (sym c.fresh-fresh.ensures.intent ∙ e)) c.requires.standings.object
-    (free_last (held_of c.args.self.now) c.args.txn c.args.asks.intent (lock_of c.args.asks.object c.args.asks.mode) c.requires.free))
+pub grant_one-requires-clause-fresh : goal.grant_one-requires-clause-fresh
+grant_one-requires-clause-fresh c = λ old.
+    let a = c.args.asks in
+    subst (λ (h : Held). h c.args.txn a.object a.mode ≡ true) (sym c.in_ok-grant_intent.ensures.granted)
+    (held_after (held_of c.args.self.now) c.args.txn (intents a.intent) a.object a.mode c.fresh-fresh.result.object
+    (c.fresh-fresh.ensures c.args.self.now c.args.txn a c.requires.standings).object old)
 
 pub returns-in-Ok-clause-asked : goal.returns-in-Ok-clause-asked
 returns-in-Ok-clause-asked c =
@@ -30,7 +28,7 @@ returns-in-Ok-clause-asked c =
       c.in-Ok.ensures.granted
           ∙ (ap (λ (h : Held). with_lock h c.args.txn a.object a.mode) c.in_ok-grant_intent.ensures.granted
           ∙ granted_last (held_of c.args.self.now) c.args.txn a.intent (lock_of a.object a.mode)),
-      all_fresh c.args.self.now c.args.txn a c.args.standings c.fresh-fresh.result c.fresh-fresh.ensures.intent c.fresh-fresh.ensures.object c.requires.standings c.requires.free,
+      c.fresh-fresh.ensures c.args.self.now c.args.txn a c.requires.standings,
     )
 
 pub returns-in-Err-clause-err : goal.returns-in-Err-clause-err
@@ -40,4 +38,4 @@ returns-in-Err-clause-err c =
     c.take_out_intent.ensures.taken
     ∙ (ap (λ (h : Held). without_locks h c.args.txn (cond fi (intents a.intent) [])) (c.in-Err.ensures.err ∙ c.in_ok-grant_intent.ensures.granted)
     ∙ intent_back (held_of c.args.self.now) c.args.txn a.intent fi
-    (all_fresh c.args.self.now c.args.txn a c.args.standings c.fresh-fresh.result c.fresh-fresh.ensures.intent c.fresh-fresh.ensures.object c.requires.standings c.requires.free).intent)
+    (c.fresh-fresh.ensures c.args.self.now c.args.txn a c.requires.standings).intent)

@@ -7,7 +7,8 @@ use Rattle.std.proofs.lemmas.List.Elements.{All-get_or}
 use Rattle.mt_space.specs.declared.changes.PageChange.{PageChange}
 use Rattle.mt_space.specs.Changes.{Agrees, IsShort, after}
 use Rattle.mt_steps.specs.Overlays.{shown, shown_whole, drawn, AreCopies}
-use Rattle.mt_steps.proofs.Overlaid.{IsMade, short_at, edits_fit, agrees_more, drawn_more, below_some, shown_some}
+use Rattle.mt_space.proofs.Changing.{short_at}
+use Rattle.mt_steps.proofs.Overlaid.{IsMade, edits_fit, agrees_more, drawn_more, below_some, shown_some}
 use Rattle.mt_steps.proofs.overlay.Overlay.apply.Goals as goal
 
 pub make-requires-clause-fit : goal.make-requires-clause-fit

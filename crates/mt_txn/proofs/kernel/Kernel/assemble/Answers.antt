@@ -47,4 +47,5 @@ returns g c = record {
   schema = (refl, refl);
   fails = ap (λ (o : Operations g.row.D.Denot). has_failed o.store.log) c.new.ensures.operations;
   operations = c.new.ensures.operations;
+  numbers = c.new.ensures.numbers;
 }

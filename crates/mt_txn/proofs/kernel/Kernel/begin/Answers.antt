@@ -3,9 +3,10 @@ use mathlib.Core.Logic.{∥∥₁_map}
 use Rattle.mt_live.specs.Machine.{begun}
 use Rattle.mt_txn.proofs.Showing.{sound_of, on_ok, well_or}
 use Rattle.mt_txn.proofs.Restarting.{no_call, or_goes, restarts_on}
-use Rattle.std.proofs.Common.{◌∙◌, List, ap, arith, length, sym}
+use Rattle.std.proofs.Common.{◌≡◌, ◌∙◌, ℕ, List, Result, OnErr, ap, arith, length, subst, sym}
+use Rattle.mt_base.specs.declared.refusal.Refusal.{Refusal}
 use Rattle.mt_model.specs.declared.history.Committed.{Committed}
-use Rattle.mt_txn.proofs.Beginning.{begun_at_once}
+use Rattle.mt_txn.proofs.Beginning.{begun_at_once, same_parts}
 use Rattle.mt_live.specs.declared.live.Live.{Live}
 use Rattle.mt_txn.proofs.kernel.Kernel.begin.Goals as goal
 
@@ -43,9 +44,10 @@ returns-clause-moments g c = λ first r schema. let D = g.D.Device in let k = c.
     no_call D k.relations k.counters first g.met.D.Device.only_now k.core _ c.begin.ensures.device r schema
 
 pub returns-clause-early : goal.returns-clause-early
-returns-clause-early g c =
+returns-clause-early g c = λ why is.
     let k = c.args.self.now in
     let few = c.if-lives-ge-MAX_LIVE.false in let count = c.count-lives.ensures in let lives = ap (λ (l : Live). length l.members) c.live.ensures in
     let room = c.if-book-lives-ge-MAX_COMMITS.false in let booked = ap (λ (book : List Committed). length book) c.book.ensures in
     let below = c.if-begun-ge-MAX_BEGUN.false in let begun = c.begun.ensures.begun in let last = ap (λ (l : Live). l.begun) c.live-else-book-lives-ge-MAX_COMMITS.ensures in
-    begun_at_once _ k.core c.begin.result (sym c.has_failed.ensures ∙ c.if-has_failed.false) (omega (arith, few, count, lives)) (omega (arith, room, booked, count, lives)) (omega (arith, below, begun, last)) c.begin.ensures.full
+    let refused = begun_at_once _ k.core c.begin.result (sym c.has_failed.ensures ∙ c.if-has_failed.false) (omega (arith, few, count, lives)) (omega (arith, room, booked, count, lives)) (omega (arith, below, begun, last)) c.begin.ensures.full why is in
+    (refused, same_parts k _ (subst (λ (r : Result ℕ Refusal). OnErr r (c.begin.new.self ≡ k.core)) refused c.begin.ensures.err) refl refl refl refl)

@@ -59,4 +59,5 @@ returns g c = record {
   fails = ap (λ (o : Operations g.row.D.Denot). has_failed o.store.log) c.join.ensures.operations;
   operations = c.join.ensures.operations;
   book = c.join.ensures.book;
+  numbers = c.join.ensures.numbers;
 }

@@ -1,0 +1,110 @@
+-- What a call did to the kernel under the lock: what was answered, and what stays of it. k before, n after the call.
+use Rattle.std.specs.Prelude.{ℕ, ◌≡◌, ◌≢◌, ◌+◌, ◌*◌, ◌≤◌, IfOk, OnErr, OnOk, Result, Ok, Err, length}
+use Rattle.mt_base.specs.declared.refusal.Refusal.{Refusal}
+use Rattle.mt_core.specs.Consistent.{OnlyOperations, SameCommits, SameRunning, SameStates, SameUncommitted}
+use Rattle.mt_core.specs.Seen.{core_device, core_last, core_log, core_pool, core_store}
+use Rattle.mt_core.specs.Work.{CallRuns, DrawsNumber, KeepsOthers, steps_in, undo_steps}
+use Rattle.mt_core.specs.declared.calls.Called.{Called}
+use Rattle.mt_core.specs.declared.calls.Called.TheVariants as call
+use Rattle.mt_disk.specs.declared.device.Device.{Ghosts}
+use Rattle.mt_live.specs.Machine.{State, begun, called}
+use Rattle.mt_log.specs.Words.{appended, durable}
+use Rattle.mt_model.specs.Model.{Base}
+use Rattle.mt_model.specs.declared.operations.Op.{Op}
+use Rattle.mt_pool.specs.Views.{AreClean, Cleans, IsWaiting, pages}
+use Rattle.mt_pool.specs.declared.flushes.Flushed.{Flushed}
+use Rattle.mt_pool.specs.declared.flushes.Flushed.TheVariants as flushed
+use Rattle.mt_txn.specs.Answered.{AnswersAbort, AnswersAbortStep, AnswersBegin, AnswersCall, AnswersCommit, AnswersFlush, AnswersForce, AnswersStep}
+use Rattle.mt_txn.specs.Seen.{KernelSeen, ShowsSeen}
+use Rattle.mt_txn.specs.Work.{LowersAbort, LowersSteps}
+use Rattle.mt_txn.specs.Writes.{WritesOnePage}
+use Rattle.mt_txn.specs.declared.answers.AbortStepped.{AbortStepped}
+use Rattle.mt_txn.specs.declared.answers.AbortStepped.TheVariants.{Ended}
+use Rattle.mt_txn.specs.declared.answers.KernelForced.{KernelForced}
+use Rattle.mt_txn.specs.declared.answers.Stepped.{Stepped}
+
+-- what a call that answered this left: only one that is started changes the state
+abbrev pub CallsTo : (State → Type 0) → State → ℕ → Op → Result Called Refusal → Type 0
+CallsTo Is s t op (Ok call.Started) = Is (called s t op)
+CallsTo Is s t op (Ok (call.Wait holder)) = Is s
+CallsTo Is s t op (Err why) = Is s
+
+module _ {D : Type 0} (g : Ghosts D) where
+  -- the device was called once at most; and not at all
+  abbrev pub IsCalledOnce : KernelSeen D → KernelSeen D → Type 0
+  IsCalledOnce k n = g.moment (core_device n.core) ≤ g.moment (core_device k.core) + 1
+
+  abbrev pub SameDevice : KernelSeen D → KernelSeen D → Type 0
+  SameDevice k n = core_device n.core ≡ core_device k.core
+
+  -- whatever state it was in
+  abbrev pub StaysSeen : KernelSeen D → KernelSeen D → Type 0
+  StaysSeen k n = (first : Base) (s : State) → ShowsSeen g first s k → ShowsSeen g first s n
+
+  -- a transaction of this session was begun, under the next number
+  pub record DidBegin (k : KernelSeen D) (session : ℕ) (result : Result ℕ Refusal) (n : KernelSeen D) : Type 0 where
+    pub answers : AnswersBegin k result n
+    pub number : IfOk result (λ txn. txn ≡ k.core.live.begun + 1)
+    pub state : (first : Base) (s : State) → ShowsSeen g first s k
+        → OnOk result (ShowsSeen g first (begun s session) n)
+    pub device : SameDevice k n
+
+  pub record DidCommit (k : KernelSeen D) (t : ℕ) (result : Result ℕ Refusal) (n : KernelSeen D) : Type 0 where
+    pub answers : AnswersCommit k t result n
+    pub state : StaysSeen k n
+    pub device : SameDevice k n
+
+  pub record DidAbort (k : KernelSeen D) (t : ℕ) (result : Result (Unit {0}) Refusal) (n : KernelSeen D) : Type 0 where
+    pub answers : AnswersAbort k t result n
+    pub state : StaysSeen k n
+    pub device : SameDevice k n
+
+  -- an operation that is started has made no step
+  pub record DidCall (k : KernelSeen D) (t : ℕ) (op : Op) (result : Result Called Refusal)
+      (n : KernelSeen D) : Type 0 where
+    pub answers : AnswersCall g k t op result n
+    pub runs : CallRuns t (2 * pages (core_pool k.core) + 9) k.core.running.items n.core.running.items result
+    pub numbers : DrawsNumber (core_last k.core) k.core.running.items n.core result
+    pub store : core_store n.core ≡ core_store k.core
+    pub state : (first : Base) (s : State) → ShowsSeen g first s k → CallsTo (λ z. ShowsSeen g first z n) s t op result
+
+  -- One page is written at most, no other operation goes on, and nothing becomes durable.
+  pub record DidStep (k : KernelSeen D) (t : ℕ) (result : Result Stepped Refusal) (n : KernelSeen D) : Type 0 where
+    pub answers : AnswersStep g k t result n
+    pub work : LowersSteps (pages (core_pool k.core)) result (steps_in k.core.running.items t)
+        (steps_in n.core.running.items t)
+    pub others : KeepsOthers t k.core.running.items n.core.running.items
+    pub writes : WritesOnePage (appended (core_log k.core)) (appended (core_log n.core)) result
+    pub durable : durable (core_log n.core) ≡ durable (core_log k.core)
+    pub states : SameStates k.core n.core
+    pub commits : SameCommits k.core n.core
+    pub once : IsCalledOnce k n
+
+  pub record DidAbortStep (k : KernelSeen D) (t : ℕ) (result : Result AbortStepped Refusal)
+      (n : KernelSeen D) : Type 0 where
+    pub answers : AnswersAbortStep g k t result n
+    pub work : LowersAbort (pages (core_pool k.core)) result (undo_steps k.core t) (undo_steps n.core t)
+    pub others : KeepsOthers t k.core.running.items n.core.running.items
+    pub durable : durable (core_log n.core) ≡ durable (core_log k.core)
+    pub states : IfOk result (λ stepped. stepped ≢ Ended → SameStates k.core n.core)
+    pub err : OnErr result (SameStates k.core n.core)
+    pub commits : SameCommits k.core n.core
+    pub once : IsCalledOnce k n
+
+  -- Pages stay, and so does what is under way.
+  pub record DidForce (k : KernelSeen D) (result : Result KernelForced Refusal) (n : KernelSeen D) : Type 0 where
+    pub answers : AnswersForce g k result n
+    pub pool : core_pool n.core ≡ core_pool k.core
+    pub running : SameRunning k.core n.core
+    pub states : SameUncommitted k.core n.core
+    pub once : IsCalledOnce k n
+
+  -- A page is clean then; or each waits for records that are not durable; or all are clean. All else stays as it is.
+  pub record DidFlush (k : KernelSeen D) (result : Result Flushed Refusal) (n : KernelSeen D) : Type 0 where
+    pub answers : AnswersFlush g k result n
+    pub written : (p : ℕ) → result ≡ Ok (flushed.Page p)
+        → Cleans (core_pool k.core) (core_pool n.core) (length (durable (core_log k.core))) p
+    pub waits : result ≡ Ok flushed.Force → IsWaiting (core_pool k.core) (length (durable (core_log k.core)))
+    pub nothing : result ≡ Ok flushed.Clean → AreClean (core_pool n.core)
+    pub rest : OnlyOperations k.core n.core
+    pub once : IsCalledOnce k n

@@ -52,6 +52,12 @@ def remember_sums(rt):
     rt.rtlib.Crate.stamp = functools.cache(rt.rtlib.Crate.stamp)
 
 
+def hold_own_folder(rt):
+    """Has a command hold its crate's folder alone, and not those of the crates below, which stand by now. So several run in one clone."""
+    hold = rt.rtlib.lock
+    rt.rtlib.lock = lambda crates: hold(crates[-1:])
+
+
 def crates(rt, top):
     """Returns the repository's crates by their names."""
     rt.rtlib.guarded()

@@ -15,7 +15,7 @@ use Rattle.mt_model.specs.History.{Call, run}
 use Rattle.mt_model.specs.Locks.{AreAllFree, BarsSome, Held}
 use Rattle.mt_model.specs.Model.{Base, locks_of, reply_of}
 use Rattle.mt_model.specs.declared.operations.Op.{Op}
-use Rattle.mt_model.specs.declared.operations.Op.TheVariants.{Get, Insert, Update, Delete, Add, Read}
+use Rattle.mt_model.specs.declared.operations.Op.TheVariants.{Get, Insert, Update, Delete, Add, Read, Scan}
 use Rattle.mt_model.specs.declared.operations.Reply.{Reply}
 use Rattle.mt_op.specs.Work.{work_of}
 use Rattle.mt_pool.specs.Views.{pages}
@@ -57,6 +57,7 @@ name_sound relations counters (Update r k v) = unless_other (nat_lt r relations)
 name_sound relations counters (Delete r k) = unless_other (nat_lt r relations) refusal.NoSuchRelation refusal.DeviceFailed (λ e. cc)
 name_sound relations counters (Add c d) = unless_other (nat_lt c counters) refusal.NoSuchCounter refusal.DeviceFailed (λ e. cc)
 name_sound relations counters (Read c) = unless_other (nat_lt c counters) refusal.NoSuchCounter refusal.DeviceFailed (λ e. cc)
+name_sound relations counters (Scan r) = unless_other (nat_lt r relations) refusal.NoSuchRelation refusal.DeviceFailed (λ e. cc)
 
 size_sound : (op : Op) → size_cause op ≡ Some refusal.DeviceFailed → ⊥
 size_sound (Get r k) = unless_other (is_key k) refusal.BadLength refusal.DeviceFailed (λ e. cc)
@@ -65,6 +66,7 @@ size_sound (Update r k v) = unless_other (is_key k && is_value v) refusal.BadLen
 size_sound (Delete r k) = unless_other (is_key k) refusal.BadLength refusal.DeviceFailed (λ e. cc)
 size_sound (Add c d) = unless_other (is_step d) refusal.BadStep refusal.DeviceFailed (λ e. cc)
 size_sound (Read c) = λ e. cc
+size_sound (Scan r) = λ e. cc
 
 fault_sound : (relations counters : ℕ) (op : Op) → first_of (name_cause relations counters op) (size_cause op) ≡ Some refusal.DeviceFailed → ⊥
 fault_sound relations counters op = two_other (name_cause relations counters op) (size_cause op) refusal.DeviceFailed (name_sound relations counters op) (size_sound op)
@@ -97,6 +99,7 @@ adds_only k t (Insert r x v) never = absurd (never tt)
 adds_only k t (Update r x v) never = absurd (never tt)
 adds_only k t (Delete r x) never = absurd (never tt)
 adds_only k t (Read c) never = absurd (never tt)
+adds_only k t (Scan r) never = absurd (never tt)
 
 module _ {D : Type 0} (g : Ghosts D) (k : Core D) (t : ℕ) (op : Op) where
   abbrev IsRefusedIn : Refusal → Type 0

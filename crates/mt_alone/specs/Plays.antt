@@ -4,7 +4,7 @@ use Rattle.mt_base.specs.declared.refusal.Refusal.{Refusal}
 use Rattle.mt_base.specs.declared.refusal.Refusal.TheVariants as refusal
 use Rattle.mt_model.specs.declared.history.Committed.{Committed}
 use Rattle.mt_model.specs.declared.operations.Op.{Op}
-use Rattle.mt_model.specs.declared.operations.Op.TheVariants.{Get, Insert, Update, Delete, Add, Read}
+use Rattle.mt_model.specs.declared.operations.Op.TheVariants.{Get, Insert, Update, Delete, Add, Read, Scan}
 use Rattle.mt_model.specs.Model.{Base, reply_of}
 use Rattle.mt_model.specs.History.{Call, run}
 use Rattle.mt_txn.specs.Causes.{first_of, name_cause, size_cause}
@@ -74,6 +74,7 @@ is_add (Insert r k v) = false
 is_add (Update r k v) = false
 is_add (Delete r k) = false
 is_add (Read c) = false
+is_add (Scan r) = false
 
 -- What may be wanting to a begin: memory, room in the book, bytes of the log. To an operation: memory, numbers,
 -- pages, bytes of the log, and to an add the leave of escrow. To a commit: memory.

@@ -31,8 +31,8 @@ pub enum RunFault {
     Refused(Refusal),
 }
 
-/// Writes an answer as one line, after which this transaction is open. Unless there is one, the writer is flushed: so
-/// the lines of a transaction go out at its end. If the writer fails, it has written a beginning of the line.
+/// Writes an answer with its line's end, after which this transaction is open. Unless there is one, the writer is
+/// flushed: so the lines of a transaction go out at its end. If the writer fails, it has written a beginning of them.
 fn tell<W: Write>(writer: &mut W, answer: &Answer, live: Option<TxnNo>) -> Result<(), Unheard>
     ensures all { OnOk result (Appends (W.contents writer.old) (W.contents writer.new)
         (answer_text answer.now ++ 10 ∷ [])) }
@@ -163,9 +163,8 @@ pub(crate) fn end_live<D: Device, W: Write>(
     }
 }
 
-/// Runs a script by itself on a kernel in which no transaction is active, and writes the answer of each
-/// line as one line. A transaction that is open at the script's end is aborted, with the line
-/// `aborted`.
+/// Runs a script by itself on a kernel in which no transaction is active, and writes the answer of each line. A
+/// transaction that is open at the script's end is aborted, with the line `aborted`.
 ///
 /// The writer is flushed after each line after which no transaction is open, and so once a commit is durable and before
 /// the next line. What is answered within a transaction may wait in it until then, and after refusal 1 from then on.

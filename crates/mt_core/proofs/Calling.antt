@@ -17,7 +17,7 @@ use Rattle.mt_log.specs.Words.{appended, used, area_size}
 use Rattle.mt_model.specs.declared.counters.Count.{Count}
 use Rattle.mt_model.specs.declared.objects.Object.{Object}
 use Rattle.mt_model.specs.declared.operations.Op.{Op}
-use Rattle.mt_model.specs.declared.operations.Op.TheVariants.{Get, Insert, Update, Delete, Add, Read}
+use Rattle.mt_model.specs.declared.operations.Op.TheVariants.{Get, Insert, Update, Delete, Add, Read, Scan}
 use Rattle.mt_model.specs.Tables.{count_at}
 use Rattle.mt_model.specs.Model.{Base}
 use Rattle.mt_op.proofs.Budget.{area_small}
@@ -89,6 +89,7 @@ needs_few (Update r k v) split = omega arith
 needs_few (Delete r k) split = omega arith
 needs_few (Add c d) split = omega arith
 needs_few (Read c) split = omega arith
+needs_few (Scan r) split = omega arith
 
 module _ {D : Type 0} (g : Ghosts D) (origin : Origin) (base : Base) where
   -- a transaction that is open has a number that was given

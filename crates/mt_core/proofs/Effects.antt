@@ -9,9 +9,9 @@ use Rattle.std.proofs.lemmas.List.Elements.{All-head, All-tail, All-cons, All-fi
 use Rattle.mt_live.specs.Entries.{Entry, calls, kept}
 use Rattle.mt_live.specs.Undoing.{only, others, is_effect, last_of, last_effect, cut_back}
 use Rattle.mt_model.specs.declared.operations.Op.{Op}
-use Rattle.mt_model.specs.declared.operations.Op.TheVariants.{Get, Insert, Update, Delete, Add, Read}
+use Rattle.mt_model.specs.declared.operations.Op.TheVariants.{Get, Insert, Update, Delete, Add, Read, Scan}
 use Rattle.mt_model.specs.declared.operations.Reply.{Reply}
-use Rattle.mt_model.specs.declared.operations.Reply.TheVariants.{Found, Missing, Exists, Done, Was, Value, OutOfBounds}
+use Rattle.mt_model.specs.declared.operations.Reply.TheVariants.{Found, Missing, Exists, Done, Was, Value, Rows, OutOfBounds}
 use Rattle.mt_model.specs.Model.{inverse_of}
 use Rattle.mt_steps.specs.Plans.{own_needs, undo_pages}
 use Rattle.mt_core.specs.Runs.{undo_bytes, weighed, call_weighed}
@@ -97,6 +97,7 @@ inverse_pages (Insert r k v) Missing i is = absurd cc
 inverse_pages (Insert r k v) Exists i is = absurd cc
 inverse_pages (Insert r k v) (Was x) i is = absurd cc
 inverse_pages (Insert r k v) (Value x) i is = absurd cc
+inverse_pages (Insert r k v) (Rows xs) i is = absurd cc
 inverse_pages (Insert r k v) OutOfBounds i is = absurd cc
 inverse_pages (Update r k v) (Was x) i is = let same : Update r k x ≡ i = cc in subst (λ (o : Op). own_needs o false ≡ 1) same refl
 inverse_pages (Update r k v) (Found x) i is = absurd cc
@@ -104,6 +105,7 @@ inverse_pages (Update r k v) Missing i is = absurd cc
 inverse_pages (Update r k v) Exists i is = absurd cc
 inverse_pages (Update r k v) Done i is = absurd cc
 inverse_pages (Update r k v) (Value x) i is = absurd cc
+inverse_pages (Update r k v) (Rows xs) i is = absurd cc
 inverse_pages (Update r k v) OutOfBounds i is = absurd cc
 inverse_pages (Delete r k) (Was x) i is = let same : Insert r k x ≡ i = cc in subst (λ (o : Op). own_needs o false ≡ 2) same refl
 inverse_pages (Delete r k) (Found x) i is = absurd cc
@@ -111,6 +113,7 @@ inverse_pages (Delete r k) Missing i is = absurd cc
 inverse_pages (Delete r k) Exists i is = absurd cc
 inverse_pages (Delete r k) Done i is = absurd cc
 inverse_pages (Delete r k) (Value x) i is = absurd cc
+inverse_pages (Delete r k) (Rows xs) i is = absurd cc
 inverse_pages (Delete r k) OutOfBounds i is = absurd cc
 inverse_pages (Add c d) Done i is = let same : Add c (neg_ℤ d) ≡ i = cc in subst (λ (o : Op). own_needs o false ≡ 0) same refl
 inverse_pages (Add c d) (Found x) i is = absurd cc
@@ -118,8 +121,10 @@ inverse_pages (Add c d) Missing i is = absurd cc
 inverse_pages (Add c d) Exists i is = absurd cc
 inverse_pages (Add c d) (Was x) i is = absurd cc
 inverse_pages (Add c d) (Value x) i is = absurd cc
+inverse_pages (Add c d) (Rows xs) i is = absurd cc
 inverse_pages (Add c d) OutOfBounds i is = absurd cc
 inverse_pages (Read c) reply i is = absurd cc
+inverse_pages (Scan r) reply i is = absurd cc
 
 -- what has an inverse writes
 pub inverse_bytes : (op : Op) (reply : Reply) (i : Op) → inverse_of op reply ≡ Some i → undo_bytes op ≡ 106496
@@ -129,6 +134,7 @@ inverse_bytes (Update r k v) reply i is = refl
 inverse_bytes (Delete r k) reply i is = refl
 inverse_bytes (Add c d) reply i is = refl
 inverse_bytes (Read c) reply i is = absurd cc
+inverse_bytes (Scan r) reply i is = absurd cc
 
 -- and so does its inverse
 pub inverse_writes : (op : Op) (reply : Reply) (i : Op) → inverse_of op reply ≡ Some i → undo_bytes i ≡ 106496

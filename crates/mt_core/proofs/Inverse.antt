@@ -22,7 +22,7 @@ use Rattle.mt_model.specs.Model.{Base, inverse_of, IsWithin}
 use Rattle.mt_model.specs.Pending.{TakesOut}
 use Rattle.mt_model.specs.declared.pending_add.Pending.{Pending}
 use Rattle.mt_model.specs.declared.operations.Op.{Op}
-use Rattle.mt_model.specs.declared.operations.Op.TheVariants.{Get, Insert, Update, Delete, Add, Read}
+use Rattle.mt_model.specs.declared.operations.Op.TheVariants.{Get, Insert, Update, Delete, Add, Read, Scan}
 use Rattle.mt_model.specs.declared.operations.Reply.{Reply}
 use Rattle.mt_model.specs.declared.operations.Reply.TheVariants.{Done, Was}
 use Rattle.mt_op.specs.Operations.{world}
@@ -50,6 +50,7 @@ within_steps relations counters (Update r k v) within = tt
 within_steps relations counters (Delete r k) within = tt
 within_steps relations counters (Add c d) within = within.1
 within_steps relations counters (Read c) within = tt
+within_steps relations counters (Scan r) within = tt
 
 step_back : (d : ℤ) → IsStep d → IsStep (neg_ℤ d)
 step_back d (inl up) = inr (omega (arith, ints, up.1), omega (arith, ints, up.0))
@@ -126,6 +127,7 @@ Returns t (Insert r k v) old new = new ≡ old
 Returns t (Update r k v) old new = new ≡ old
 Returns t (Delete r k) old new = new ≡ old
 Returns t (Read c) old new = new ≡ old
+Returns t (Scan r) old new = new ≡ old
 
 some_returned : (t : ℕ) (old new : List Pending) (op : Op) (reply : Reply) → IfSome (inverse_of op reply) (λ i. Returns t i old new → GivesBack t op old new)
 some_returned t old new (Insert r k v) Done = λ returned. returned

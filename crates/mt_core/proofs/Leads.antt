@@ -5,9 +5,9 @@ use Rattle.mt_frame.specs.declared.records.LoggedOp.TheVariants as logged
 use Rattle.mt_frame.specs.declared.records.Record.{Record}
 use Rattle.mt_frame.specs.declared.records.Record.TheVariants.{OpEnd}
 use Rattle.mt_model.specs.declared.operations.Op.{Op}
-use Rattle.mt_model.specs.declared.operations.Op.TheVariants.{Get, Insert, Update, Delete, Add, Read}
+use Rattle.mt_model.specs.declared.operations.Op.TheVariants.{Get, Insert, Update, Delete, Add, Read, Scan}
 use Rattle.mt_model.specs.declared.operations.Reply.{Reply}
-use Rattle.mt_model.specs.declared.operations.Reply.TheVariants.{Found, Missing, Exists, Done, Was, Value, OutOfBounds}
+use Rattle.mt_model.specs.declared.operations.Reply.TheVariants.{Found, Missing, Exists, Done, Was, Value, Rows, OutOfBounds}
 use Rattle.mt_model.specs.History.{Call, run, IsActed}
 use Rattle.mt_model.specs.Model.{Base, reply_of, base_after, inverse_of}
 use Rattle.mt_model.proofs.Appends.{run-append, acted_append}
@@ -34,6 +34,7 @@ logged_is (Insert r k v) (Exists) done is = absurd cc
 logged_is (Insert r k v) (Done) done is = let e : logged.Insert r k v ≡ done = some_is (logged.Insert r k v) done is in (sym (ap op_of e), sym (ap reply_in e))
 logged_is (Insert r k v) (Was x) done is = absurd cc
 logged_is (Insert r k v) (Value n) done is = absurd cc
+logged_is (Insert r k v) (Rows xs) done is = absurd cc
 logged_is (Insert r k v) (OutOfBounds) done is = absurd cc
 logged_is (Update r k v) (Found x) done is = absurd cc
 logged_is (Update r k v) (Missing) done is = absurd cc
@@ -41,6 +42,7 @@ logged_is (Update r k v) (Exists) done is = absurd cc
 logged_is (Update r k v) (Done) done is = absurd cc
 logged_is (Update r k v) (Was x) done is = let e : logged.Update r k v x ≡ done = some_is (logged.Update r k v x) done is in (sym (ap op_of e), sym (ap reply_in e))
 logged_is (Update r k v) (Value n) done is = absurd cc
+logged_is (Update r k v) (Rows xs) done is = absurd cc
 logged_is (Update r k v) (OutOfBounds) done is = absurd cc
 logged_is (Delete r k) (Found x) done is = absurd cc
 logged_is (Delete r k) (Missing) done is = absurd cc
@@ -48,6 +50,7 @@ logged_is (Delete r k) (Exists) done is = absurd cc
 logged_is (Delete r k) (Done) done is = absurd cc
 logged_is (Delete r k) (Was x) done is = let e : logged.Delete r k x ≡ done = some_is (logged.Delete r k x) done is in (sym (ap op_of e), sym (ap reply_in e))
 logged_is (Delete r k) (Value n) done is = absurd cc
+logged_is (Delete r k) (Rows xs) done is = absurd cc
 logged_is (Delete r k) (OutOfBounds) done is = absurd cc
 logged_is (Add c d) (Found x) done is = absurd cc
 logged_is (Add c d) (Missing) done is = absurd cc
@@ -55,6 +58,7 @@ logged_is (Add c d) (Exists) done is = absurd cc
 logged_is (Add c d) (Done) done is = let e : logged.Add c d ≡ done = some_is (logged.Add c d) done is in (sym (ap op_of e), sym (ap reply_in e))
 logged_is (Add c d) (Was x) done is = absurd cc
 logged_is (Add c d) (Value n) done is = absurd cc
+logged_is (Add c d) (Rows xs) done is = absurd cc
 logged_is (Add c d) (OutOfBounds) done is = absurd cc
 logged_is (Get r k) (Found x) done is = absurd cc
 logged_is (Get r k) (Missing) done is = absurd cc
@@ -62,6 +66,7 @@ logged_is (Get r k) (Exists) done is = absurd cc
 logged_is (Get r k) (Done) done is = absurd cc
 logged_is (Get r k) (Was x) done is = absurd cc
 logged_is (Get r k) (Value n) done is = absurd cc
+logged_is (Get r k) (Rows xs) done is = absurd cc
 logged_is (Get r k) (OutOfBounds) done is = absurd cc
 logged_is (Read c) (Found x) done is = absurd cc
 logged_is (Read c) (Missing) done is = absurd cc
@@ -69,7 +74,16 @@ logged_is (Read c) (Exists) done is = absurd cc
 logged_is (Read c) (Done) done is = absurd cc
 logged_is (Read c) (Was x) done is = absurd cc
 logged_is (Read c) (Value n) done is = absurd cc
+logged_is (Read c) (Rows xs) done is = absurd cc
 logged_is (Read c) (OutOfBounds) done is = absurd cc
+logged_is (Scan r) (Found x) done is = absurd cc
+logged_is (Scan r) (Missing) done is = absurd cc
+logged_is (Scan r) (Exists) done is = absurd cc
+logged_is (Scan r) (Done) done is = absurd cc
+logged_is (Scan r) (Was x) done is = absurd cc
+logged_is (Scan r) (Value n) done is = absurd cc
+logged_is (Scan r) (Rows xs) done is = absurd cc
+logged_is (Scan r) (OutOfBounds) done is = absurd cc
 
 pub calls_append : (xs ys : List Record) → calls_in (xs ++ ys) ≡ calls_in xs ++ calls_in ys
 calls_append [] ys = refl

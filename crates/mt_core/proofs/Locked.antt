@@ -16,7 +16,7 @@ use Rattle.mt_model.specs.Tables.{count_at}
 use Rattle.mt_model.specs.declared.counters.Count.{Count}
 use Rattle.mt_model.specs.declared.objects.Object.{Object}
 use Rattle.mt_model.specs.declared.operations.Op.{Op}
-use Rattle.mt_model.specs.declared.operations.Op.TheVariants.{Get, Insert, Update, Delete, Add, Read}
+use Rattle.mt_model.specs.declared.operations.Op.TheVariants.{Get, Insert, Update, Delete, Add, Read, Scan}
 use Rattle.mt_slock.specs.Answers.{MarksFresh, fresh_in}
 use Rattle.mt_slock.specs.Views.{held_of}
 use Rattle.mt_slock.specs.declared.holders.Holder.{Holder}
@@ -34,6 +34,7 @@ admitted_of relations counters m e t (Insert r k v) within same asked = tt
 admitted_of relations counters m e t (Update r k v) within same asked = tt
 admitted_of relations counters m e t (Delete r k) within same asked = tt
 admitted_of relations counters m e t (Read c) within same asked = tt
+admitted_of relations counters m e t (Scan r) within same asked = tt
 
 module _ {D : Type 0} (g : Ghosts D) (origin : Origin) (base : Base) where
   pub granted_from : (was : List (Object × List Holder)) (k n : Core D) (t : ℕ) (op : Op) → IsLocked g origin base was k t op → n.escrow.pending ≡ k.escrow.pending ++ add_before t op [] → n.escrow.committed ≡ k.escrow.committed → IsAskedFor k.escrow t op

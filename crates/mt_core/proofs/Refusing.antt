@@ -15,7 +15,7 @@ use Rattle.mt_live.specs.Members.{Member}
 use Rattle.mt_model.specs.Locks.{AreAllFree}
 use Rattle.mt_model.specs.Model.{asks_of, locks_of}
 use Rattle.mt_model.specs.declared.operations.Op.{Op}
-use Rattle.mt_model.specs.declared.operations.Op.TheVariants.{Get, Insert, Update, Delete, Add, Read}
+use Rattle.mt_model.specs.declared.operations.Op.TheVariants.{Get, Insert, Update, Delete, Add, Read, Scan}
 use Rattle.mt_slock.specs.Answers.{IsRefused}
 use Rattle.mt_slock.specs.Views.{held_of}
 use Rattle.std.specs.Prelude.{Option, Some, None}
@@ -37,6 +37,7 @@ Steps-prop (Update r k v) = hlevel props
 Steps-prop (Delete r k) = hlevel props
 Steps-prop (Add c d) = Step-prop d
 Steps-prop (Read c) = hlevel props
+Steps-prop (Scan r) = hlevel props
 
 module _ {D : Type 0} (g : Ghosts D) (origin : Origin) (k : Core D) (kept t : ℕ) (op : Op) (split : Bool) where
   -- escrow admitted it

@@ -16,7 +16,7 @@ use Rattle.mt_live.specs.Members.{Member, fresh, with_call, cut_at, has_inverse}
 use Rattle.mt_model.specs.History.{Call}
 use Rattle.mt_model.specs.Model.{inverse_of}
 use Rattle.mt_model.specs.declared.operations.Op.{Op}
-use Rattle.mt_model.specs.declared.operations.Op.TheVariants.{Get, Insert, Update, Delete, Add, Read}
+use Rattle.mt_model.specs.declared.operations.Op.TheVariants.{Get, Insert, Update, Delete, Add, Read, Scan}
 use Rattle.mt_model.specs.declared.operations.Reply.{Reply}
 use Rattle.mt_model.specs.declared.operations.Reply.TheVariants.{Done, Was}
 use Rattle.mt_op.specs.Records.{end_with}
@@ -32,6 +32,7 @@ logged_effect (Update r k v) (Was old) is = refl
 logged_effect (Delete r k) (Was old) is = refl
 logged_effect (Add c d) Done is = refl
 logged_effect (Read c) reply is = absurd cc
+logged_effect (Scan r) reply is = absurd cc
 logged_effect _ _ is = absurd cc
 
 -- ---- records

@@ -23,7 +23,7 @@ use Rattle.mt_log.specs.Words.{appended, used, area_size}
 use Rattle.mt_model.specs.declared.history.Committed.{Committed}
 use Rattle.mt_model.specs.declared.operations.Reply.{Reply}
 use Rattle.mt_model.specs.declared.operations.Op.{Op}
-use Rattle.mt_model.specs.declared.operations.Op.TheVariants.{Get, Insert, Update, Delete, Add, Read}
+use Rattle.mt_model.specs.declared.operations.Op.TheVariants.{Get, Insert, Update, Delete, Add, Read, Scan}
 use Rattle.mt_model.specs.declared.objects.Object.{Object}
 use Rattle.mt_model.specs.History.{after, Call}
 use Rattle.mt_model.specs.Locks.{with_locks, AreAllFree}
@@ -378,6 +378,7 @@ IsAskedFor e t (Insert r k v) = Unit {0}
 IsAskedFor e t (Update r k v) = Unit {0}
 IsAskedFor e t (Delete r k) = Unit {0}
 IsAskedFor e t (Read c) = Unit {0}
+IsAskedFor e t (Scan r) = Unit {0}
 
 -- whose operation under way has a number, if one has
 abbrev pub IsOwnerOf : List OpScope → ℕ → Option ℕ → Type 0

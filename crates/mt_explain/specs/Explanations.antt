@@ -6,7 +6,7 @@ use Rattle.mt_frame.specs.declared.records.LoggedOp.{LoggedOp}
 use Rattle.mt_frame.specs.declared.records.Record.{Record}
 use Rattle.mt_frame.specs.declared.records.Record.TheVariants.{Page, OpEnd, OpDropped, Commit, AbortEnd}
 use Rattle.mt_model.specs.declared.operations.Op.{Op}
-use Rattle.mt_model.specs.declared.operations.Op.TheVariants.{Get, Insert, Update, Delete, Add, Read}
+use Rattle.mt_model.specs.declared.operations.Op.TheVariants.{Get, Insert, Update, Delete, Add, Read, Scan}
 use Rattle.mt_log.specs.Batch.{joined}
 use Rattle.mt_log.specs.Found.{records_of}
 use Rattle.mt_log.specs.declared.batch.Batch.{Batch}
@@ -46,6 +46,7 @@ op_line (Update r k v) = valued_line (codes "update ") r k v
 op_line (Delete r k) = keyed_line (codes "delete ") r k
 op_line (Add c d) = added_line c d
 op_line (Read c) = codes "read " ++ (decimal c ++ 10 ∷ [])
+op_line (Scan r) = codes "scan " ++ (decimal r ++ 10 ∷ [])
 
 abbrev pub done_line : LoggedOp → List ℕ
 done_line done = op_line (op_of done)

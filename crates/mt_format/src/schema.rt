@@ -88,20 +88,6 @@ impl Schema {
         })
     }
 
-    /// How many pages there are.
-    pub fn pages(&self) -> u16
-        ensures { result ≡ pages_in self.now }
-    {
-        self.pages
-    }
-
-    /// How many MiB a log area has.
-    pub fn area_mib(&self) -> u8
-        ensures { result ≡ mib_in self.now }
-    {
-        self.area_mib
-    }
-
     /// How many relations there are.
     pub fn relations(&self) -> u16
         ensures { result ≡ relations_in self.now }

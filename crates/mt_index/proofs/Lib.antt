@@ -18,7 +18,7 @@ pub mod Searching
 pub mod Chaining
 pub mod OnePage
 mod Listing
-pub mod Gathering
+pub mod Bucketwise
 mod Marks
 mod Settled
 mod Sounds

@@ -1,21 +1,22 @@
 -- What the gathering of a relation's names answers.
-use Rattle.std.specs.Prelude.{ℕ, ◌≡◌, ◌<◌, ◌≤◌, ◌^◌, ◌⊎◌, ◌++◌, ◌↔◌, List, Option, Some, Contains}
+use Rattle.std.specs.Prelude.{ℕ, zero, suc, ◌≡◌, ◌<◌, ◌≤◌, ◌^◌, ◌⊎◌, ◌++◌, ◌↔◌, List, [], Option, Some, Contains, cond, ltb}
 use Rattle.std.specs.List.{filter_map}
 use Rattle.mt_base.specs.declared.modes.Mode.{Mode}
 use Rattle.mt_base.specs.declared.modes.Mode.TheVariants.{Read}
 use Rattle.mt_base.specs.declared.numbers.RecordName.{RecordName}
 use Rattle.mt_bucket.specs.Entries.{Entry, look, name_under}
 use Rattle.mt_bucket.specs.Page.{depth_of}
-use Rattle.mt_space.specs.Changes.{PageBytes}
+use Rattle.mt_space.specs.Changes.{PageBytes, Agrees}
 use Rattle.mt_space.specs.Kinds.{kind}
 use Rattle.mt_index.specs.Answers.{InMaps, Asks}
-use Rattle.mt_index.specs.Index.{Linked, entries_of}
+use Rattle.mt_index.specs.Index.{Linked, entries_of, named}
 use Rattle.mt_index.specs.Maps.{Map, Once}
-use Rattle.mt_index.specs.Pages.{node_of}
+use Rattle.mt_index.specs.Pages.{node_of, state_of, AreMap}
 use Rattle.mt_index.specs.declared.answers.Gathered.{Gathered}
 use Rattle.mt_index.specs.declared.answers.Gathered.TheVariants as gathered
 use Rattle.mt_index.specs.declared.answers.Names.{Names}
 use Rattle.mt_index.specs.declared.answers.Names.TheVariants as answer
+use Rattle.mt_index.specs.declared.record_names.Gathering.{Gathering}
 
 -- the directory and the pages of buckets are read
 abbrev pub IsInIndex : PageBytes → ℕ → Mode → Type 0
@@ -25,8 +26,8 @@ abbrev pub NamesNeed : Names → (ℕ → Mode → Type 0) → Type 0
 NamesNeed (answer.Need p mode) P = P p mode
 NamesNeed _ P = Unit {0}
 
-abbrev pub IfNamed : Names → (List RecordName → Type 0) → Type 0
-IfNamed (answer.Named names) P = P names.items
+abbrev pub IfNamed : Names → Type 0 → Type 0
+IfNamed answer.Named P = P
 IfNamed _ P = Unit {0}
 
 abbrev pub NamesEndless : Names → Type 0 → Type 0
@@ -48,6 +49,25 @@ pub record AreNamesOnce (r : ℕ) (m : Map) (names : List RecordName) : Type 0 w
   pub map : (q : ℕ) (k : List ℕ) → look q k entries ≡ m q k
   pub same : names ≡ names_in r entries
 
+-- ---- bucket after bucket
+
+-- the entries of the bucket that pointer i names, if it is the bucket's first one
+abbrev pub bucket_entries : PageBytes → (ℕ → List ℕ) → ℕ → List Entry
+bucket_entries pages chain i =
+    cond (ltb i (2 ^ depth_of (pages (named (state_of pages) i))))
+    (entries_of (λ n. node_of (pages n)) (chain (named (state_of pages) i))) []
+
+-- those of all buckets that the first i pointers name, each bucket's once
+abbrev pub entries_before : PageBytes → (ℕ → List ℕ) → ℕ → List Entry
+entries_before pages chain zero = []
+entries_before pages chain (suc i) = entries_before pages chain i ++ bucket_entries pages chain i
+
+-- these are the names of the relation in the buckets that the pointers before its own one name
+abbrev pub IsGatheredTo : (ℕ → Option (List ℕ)) → ℕ → ℕ → Gathering → Type 0
+IsGatheredTo at_hand total r gathering =
+    (pages : PageBytes) → Agrees at_hand pages → (m : Map) → (a : AreMap total pages m)
+    → gathering.names.items ≡ names_in r (entries_before pages a.index.tree.chain gathering.pointer)
+
 -- ---- one bucket
 
 -- the names in the pages from b on are there after the old ones
@@ -60,6 +80,15 @@ HasChain b r old new pages =
 abbrev pub HasBucket : ℕ → ℕ → ℕ → List RecordName → List RecordName → PageBytes → Type 0
 HasBucket b i r old new pages =
     ((2 ^ depth_of (pages b) ≤ i) × (new ≡ old)) ⊎ ((i < 2 ^ depth_of (pages b)) × HasChain b r old new pages)
+
+-- these are the old ones, and maybe more after them
+abbrev pub GrowsTo : List RecordName → List RecordName → Type 0
+GrowsTo old new = (more : List RecordName) × (new ≡ old ++ more)
+
+-- it holds unless all pages of a bucket were gathered
+abbrev pub UnlessWhole : Gathered → Type 0 → Type 0
+UnlessWhole gathered.Whole P = Unit {0}
+UnlessWhole _ P = P
 
 -- a page is needed, or this holds of all pages that are a map
 abbrev pub Gathers : (ℕ → Option (List ℕ)) → ℕ → (PageBytes → Type 0) → Gathered → Type 0

@@ -63,12 +63,12 @@ pub enum Add {
 }
 
 /// What the gathering of a relation's names answers.
-#[derive(Debug, Drop)]
+#[derive(Clone, Copy, Debug)]
 pub enum Names {
     /// This page is needed first, in this mode.
     Need(PageNo, Mode),
-    /// The names of the relation's records.
-    Named(Vec<RecordName>),
+    /// All names of the relation's records are gathered.
+    Named,
     /// The pages are no index: a chain comes back to itself.
     Endless,
 }

@@ -32,4 +32,4 @@ pub use laws::{
     other_changes_keep_the_map,
 };
 pub use lookup::plan_find;
-pub use record_names::plan_names;
+pub use record_names::{Gathering, plan_names};

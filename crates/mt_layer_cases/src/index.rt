@@ -5,7 +5,7 @@ ghost use Rattle.std.specs.Prelude.{◌≡◌, ◌≤◌, length};
 use mt_base::ranges::{put, u16_at};
 use mt_base::{Edit, PageNo, RecordName, RelNo};
 use mt_bucket::{count, depth, empty, next};
-use mt_index::{Add, Names, depth as bits, plan_add, plan_names};
+use mt_index::{Add, Gathering, Names, depth as bits, plan_add, plan_names};
 use mt_space::{Changes, PageChange, Pages};
 use std::alloc::{AllocError, Global};
 use std::test::Fail;
@@ -152,9 +152,11 @@ fn without_splits_it_chains_at_once(rt: HostRuntime) -> Result<(), Fail> {
 
 /// How many records a relation has, and the slot of the first, or 0 if it has none.
 fn records_of(alloc: Global, copies: &Copies, relation: u16) -> Result<(usize, u16), AllocError> {
-    let Names::Named(names) = plan_names(alloc, copies, RelNo::new(relation))? else {
+    let mut gathering = Gathering::new(alloc);
+    let Names::Named = plan_names(copies, RelNo::new(relation), &mut gathering)? else {
         return Ok((100, 0));
     };
+    let names = gathering.names();
     let slot = names.first().map_or(0, |name| name.slot);
     Ok((names.len(), slot))
 }

@@ -6,7 +6,7 @@ use Rattle.std.proofs.lemmas.List.Elements.{filter-append}
 use Rattle.mt_base.specs.declared.modes.LockMode.TheVariants as mode
 use Rattle.mt_model.specs.declared.counters.Count.{Count}
 use Rattle.mt_model.specs.declared.operations.Op.{Op}
-use Rattle.mt_model.specs.declared.operations.Op.TheVariants.{Get, Insert, Update, Delete, Add, Read}
+use Rattle.mt_model.specs.declared.operations.Op.TheVariants.{Get, Insert, Update, Delete, Add, Read, Scan}
 use Rattle.mt_model.specs.declared.operations.Reply.{Reply}
 use Rattle.mt_model.specs.declared.operations.Reply.TheVariants.{Done}
 use Rattle.mt_model.specs.declared.pending_add.Pending.{Pending}
@@ -36,6 +36,7 @@ adds-append (e ∷ es) fs = ap (add_before e.txn e.op) (adds-append es fs) ∙ g
     go t (Update r k v) ps qs = refl
     go t (Delete r k) ps qs = refl
     go t (Read n) ps qs = refl
+    go t (Scan r) ps qs = refl
 
 pub pending_of-append : (t : ℕ) (ps qs : List Pending) → pending_of t (ps ++ qs) ≡ pending_of t ps ++ pending_of t qs
 pending_of-append t ps qs = filter-append (λ (p : Pending). p.txn == t) ps qs
@@ -51,6 +52,7 @@ of_before u t (Insert r k v) ps = sym (same_cond (t == u) (pending_of u ps))
 of_before u t (Update r k v) ps = sym (same_cond (t == u) (pending_of u ps))
 of_before u t (Delete r k) ps = sym (same_cond (t == u) (pending_of u ps))
 of_before u t (Read n) ps = sym (same_cond (t == u) (pending_of u ps))
+of_before u t (Scan r) ps = sym (same_cond (t == u) (pending_of u ps))
 
 pub eq_flip : (a b : ℕ) (x y : Bool) → (a == b) ≡ x → (b == a) ≡ y → x ≡ y
 eq_flip a b true true p q = refl
@@ -156,6 +158,7 @@ add_has_inverse (Insert k l v) r m is h = absurd cc
 add_has_inverse (Update k l v) r m is h = absurd cc
 add_has_inverse (Delete k l) r m is h = absurd cc
 add_has_inverse (Read n) r m is h = absurd cc
+add_has_inverse (Scan q) r m is h = absurd cc
 
 not_add : (t : ℕ) (op : Op) (ps : List Pending) → (mode_of op ≡ mode.Add → ⊥) → add_before t op ps ≡ ps
 not_add t (Add n d) ps h = absurd (h refl)
@@ -164,6 +167,7 @@ not_add t (Insert k l v) ps h = refl
 not_add t (Update k l v) ps h = refl
 not_add t (Delete k l) ps h = refl
 not_add t (Read n) ps h = refl
+not_add t (Scan r) ps h = refl
 
 idle_cond : (t : ℕ) (e : Entry) (es : List Entry) (b : Bool) → (e.txn == t) ≡ b → IsIdle t e → IsDone e → pending_of t (adds es) ≡ [] → pending_of t (add_before e.txn e.op (adds es)) ≡ []
 idle_cond t e es true is i d h =
@@ -194,6 +198,7 @@ taken_of t (Insert r k v) ps qs h = no_add_taken t (Insert r k v) ps qs refl h
 taken_of t (Update r k v) ps qs h = no_add_taken t (Update r k v) ps qs refl h
 taken_of t (Delete r k) ps qs h = no_add_taken t (Delete r k) ps qs refl h
 taken_of t (Read n) ps qs h = no_add_taken t (Read n) ps qs refl h
+taken_of t (Scan r) ps qs h = no_add_taken t (Scan r) ps qs refl h
 
 pub undone_tied : (t : ℕ) (front : List Entry) (e : Entry) (rest : List Entry) (ps qs : List Pending) (run' : List Pending) → e.txn ≡ t
     → pending_of t (adds rest) ≡ [] → Taken t e.op ps qs → (u : ℕ) (b : Bool) → (u == t) ≡ b → (b ≡ true → run' ≡ [])
@@ -270,3 +275,4 @@ room_called m ps t (Insert r k v) room admitted c = room_still m ps room c
 room_called m ps t (Update r k v) room admitted c = room_still m ps room c
 room_called m ps t (Delete r k) room admitted c = room_still m ps room c
 room_called m ps t (Read n) room admitted c = room_still m ps room c
+room_called m ps t (Scan r) room admitted c = room_still m ps room c

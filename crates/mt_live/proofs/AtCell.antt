@@ -4,12 +4,14 @@ use Rattle.std.proofs.lemmas.Int.{ints}
 use Rattle.mt_base.specs.declared.modes.LockMode.TheVariants as mode
 use Rattle.mt_model.specs.declared.counters.Count.{Count}
 use Rattle.mt_model.specs.declared.operations.Op.{Op}
-use Rattle.mt_model.specs.declared.operations.Op.TheVariants.{Get, Insert, Update, Delete, Add, Read}
+use Rattle.mt_model.specs.declared.operations.Op.TheVariants.{Get, Insert, Update, Delete, Add, Read, Scan}
 use Rattle.mt_model.specs.declared.operations.Reply.{Reply}
 use Rattle.mt_model.specs.declared.operations.Reply.TheVariants.{Done, OutOfBounds}
 use Rattle.mt_model.specs.Model.{stays, moved, mode_of}
 use Rattle.mt_model.specs.Escrow.{total, lowest, highest, HasRoom}
-use Rattle.mt_model.proofs.Cells.{Cell, next, says}
+use Rattle.mt_model.proofs.Cells.{Cell, next}
+use Rattle.mt_model.proofs.Split.{Fits}
+use Rattle.mt_model.specs.declared.objects.Object.{Object}
 use Rattle.mt_model.proofs.Steps.{stays_with_room, room_moved, moved-moved, moved_none}
 use Rattle.mt_model.proofs.Sums.{below_is, above_is}
 use Rattle.mt_model.proofs.Commuting.{read_leaves}
@@ -25,6 +27,7 @@ with_step (Insert r k v) ds = ds
 with_step (Update r k v) ds = ds
 with_step (Delete r k) ds = ds
 with_step (Read c) ds = ds
+with_step (Scan r) ds = ds
 
 abbrev pub steps : List Entry → List ℤ
 steps [] = []
@@ -35,21 +38,22 @@ moved_cell c z = record { row = c.row; count = moved c.count z }
 
 -- ---- adds
 
-add_step : (op : Op) (r : Reply) (c : Cell) (es : List Entry) → mode_of op ≡ mode.Add → r ≡ Done → HasRoom c.count (with_step op (steps es))
-    → ((x : Cell) → HasRoom x.count (steps es) → AreCellActed x es) → (says op c ≡ r) × AreCellActed (next op c) es
-add_step (Add n d) r c es is done room rec =
+add_step : (o : Object) (op : Op) (r : Reply) (c : Cell) (es : List Entry) → mode_of op ≡ mode.Add → r ≡ Done → HasRoom c.count (with_step op (steps es))
+    → ((x : Cell) → HasRoom x.count (steps es) → AreCellActed o x es) → Fits op r o c × AreCellActed o (next op c) es
+add_step o (Add n d) r c es is done room rec =
     let t : stays c.count d ≡ true = stays_with_room c.count d (steps es) room in
-    let z : AreCellActed (moved_cell c d) es = rec (moved_cell c d) (room_moved c.count d (steps es) room) in
+    let z : AreCellActed o (moved_cell c d) es = rec (moved_cell c d) (room_moved c.count d (steps es) room) in
     (rw (t, done) refl, rw t z)
-add_step (Get r k) _ c es is done room rec = absurd cc
-add_step (Insert r k v) _ c es is done room rec = absurd cc
-add_step (Update r k v) _ c es is done room rec = absurd cc
-add_step (Delete r k) _ c es is done room rec = absurd cc
-add_step (Read n) _ c es is done room rec = absurd cc
+add_step o (Get r k) _ c es is done room rec = absurd cc
+add_step o (Insert r k v) _ c es is done room rec = absurd cc
+add_step o (Update r k v) _ c es is done room rec = absurd cc
+add_step o (Delete r k) _ c es is done room rec = absurd cc
+add_step o (Read n) _ c es is done room rec = absurd cc
+add_step o (Scan r) _ c es is done room rec = absurd cc
 
-pub adds_acted : (c : Cell) (es : List Entry) → Each (λ e. mode_of e.op ≡ mode.Add) es → Each IsDone es → HasRoom c.count (steps es) → AreCellActed c es
-adds_acted c [] a d h = tt
-adds_acted c (e ∷ es) a d h = add_step e.op e.reply c es a.0 (d.0 a.0) h (λ x room. adds_acted x es a.1 d.1 room)
+pub adds_acted : (o : Object) (c : Cell) (es : List Entry) → Each (λ e. mode_of e.op ≡ mode.Add) es → Each IsDone es → HasRoom c.count (steps es) → AreCellActed o c es
+adds_acted o c [] a d h = tt
+adds_acted o c (e ∷ es) a d h = add_step o e.op e.reply c es a.0 (d.0 a.0) h (λ x room. adds_acted o x es a.1 d.1 room)
 
 cond_done : (t : Bool) → cond t Done OutOfBounds ≡ Done → t ≡ true
 cond_done true h = refl
@@ -63,22 +67,23 @@ moved_cell-moved c y z =
     record_of : Cell → ℤ → Cell
     record_of x w = record { row = x.row; count = record { low = x.count.low; high = x.count.high; number = w } }
 
-count_step : (op : Op) (r : Reply) (c : Cell) (z : ℤ) (ds : List ℤ) → z ≡ total ds → says op c ≡ r → (mode_of op ≡ mode.Add → r ≡ Done)
+count_step : (o : Object) (op : Op) (r : Reply) (c : Cell) (z : ℤ) (ds : List ℤ) → z ≡ total ds → Fits op r o c → (mode_of op ≡ mode.Add → r ≡ Done)
     → moved (next op c).count z ≡ moved c.count (total (with_step op ds))
-count_step (Add n d) r c z ds e s done =
+count_step o (Add n d) r c z ds e s done =
     let t : stays c.count d ≡ true = cond_done (stays c.count d) (s ∙ done refl) in
     rw (t, e) (moved-moved c.count d (total ds))
-count_step (Get r k) _ c z ds e s done = rw e
-count_step (Insert r k v) _ c z ds e s done = rw e
-count_step (Update r k v) _ c z ds e s done = rw e
-count_step (Delete r k) _ c z ds e s done = rw e
-count_step (Read n) _ c z ds e s done = rw e
+count_step o (Get r k) _ c z ds e s done = rw e
+count_step o (Insert r k v) _ c z ds e s done = rw e
+count_step o (Update r k v) _ c z ds e s done = rw e
+count_step o (Delete r k) _ c z ds e s done = rw e
+count_step o (Read n) _ c z ds e s done = rw e
+count_step o (Scan r) _ c z ds e s done = rw e
 
 -- the counter after a run is moved by the sum of its steps
-pub count_run : (c : Cell) (es : List Entry) → AreCellActed c es → Each IsDone es → (cell_runs c es).count ≡ moved c.count (total (steps es))
-count_run c [] a d = moved_none c.count
-count_run c (e ∷ es) a d =
-    count_run (next e.op c) es a.1 d.1 ∙ count_step e.op e.reply c (total (steps es)) (steps es) refl a.0 d.0
+pub count_run : (o : Object) (c : Cell) (es : List Entry) → AreCellActed o c es → Each IsDone es → (cell_runs c es).count ≡ moved c.count (total (steps es))
+count_run o c [] a d = moved_none c.count
+count_run o c (e ∷ es) a d =
+    count_run o (next e.op c) es a.1 d.1 ∙ count_step o e.op e.reply c (total (steps es)) (steps es) refl a.0 d.0
 
 add_keeps_row : (op : Op) (c : Cell) → mode_of op ≡ mode.Add → (next op c).row ≡ c.row
 add_keeps_row (Add n d) c a = refl
@@ -87,13 +92,14 @@ add_keeps_row (Insert r k v) c a = absurd cc
 add_keeps_row (Update r k v) c a = absurd cc
 add_keeps_row (Delete r k) c a = absurd cc
 add_keeps_row (Read n) c a = absurd cc
+add_keeps_row (Scan r) c a = absurd cc
 
 adds_row : (c : Cell) (es : List Entry) → Each (λ e. mode_of e.op ≡ mode.Add) es → (cell_runs c es).row ≡ c.row
 adds_row c [] a = refl
 adds_row c (e ∷ es) a = adds_row (next e.op c) es a.1 ∙ add_keeps_row e.op c a.0
 
-pub adds_run : (c : Cell) (es : List Entry) → Each (λ e. mode_of e.op ≡ mode.Add) es → AreCellActed c es → Each IsDone es → cell_runs c es ≡ moved_cell c (total (steps es))
-adds_run c es a ac d = let p = adds_row c es a in let q = count_run c es ac d in λ i. record { row = p i; count = q i }
+pub adds_run : (o : Object) (c : Cell) (es : List Entry) → Each (λ e. mode_of e.op ≡ mode.Add) es → AreCellActed o c es → Each IsDone es → cell_runs c es ≡ moved_cell c (total (steps es))
+adds_run o c es a ac d = let p = adds_row c es a in let q = count_run o c es ac d in λ i. record { row = p i; count = q i }
 
 -- ---- reads
 
@@ -101,15 +107,15 @@ pub reads_run : (c : Cell) (es : List Entry) → Each (λ e. mode_of e.op ≡ mo
 reads_run c [] r = refl
 reads_run c (e ∷ es) r = reads_run (next e.op c) es r.1 ∙ read_leaves e.op c r.0
 
-cond_cons_acted : (t : Bool) (e : Entry) (es : List Entry) (c : Cell) → says e.op c ≡ e.reply → next e.op c ≡ c → AreCellActed c es → AreCellActed c (cond t (e ∷ es) es)
-cond_cons_acted true e es c s n a = (s, subst (λ x. AreCellActed x es) (sym n) a)
-cond_cons_acted false e es c s n a = a
+cond_cons_acted : (t : Bool) (o : Object) (e : Entry) (es : List Entry) (c : Cell) → Fits e.op e.reply o c → next e.op c ≡ c → AreCellActed o c es → AreCellActed o c (cond t (e ∷ es) es)
+cond_cons_acted true o e es c s n a = (s, subst (λ x. AreCellActed o x es) (sym n) a)
+cond_cons_acted false o e es c s n a = a
 
-pub reads_acted : (p : Entry → Bool) (c : Cell) (es : List Entry) → Each (λ e. mode_of e.op ≡ mode.Read) es → AreCellActed c es → AreCellActed c (filter p es)
-reads_acted p c [] r a = tt
-reads_acted p c (e ∷ es) r a =
-    cond_cons_acted (p e) e (filter p es) c a.0 (read_leaves e.op c r.0)
-    (reads_acted p c es r.1 (subst (λ x. AreCellActed x es) (read_leaves e.op c r.0) a.1))
+pub reads_acted : (p : Entry → Bool) (o : Object) (c : Cell) (es : List Entry) → Each (λ e. mode_of e.op ≡ mode.Read) es → AreCellActed o c es → AreCellActed o c (filter p es)
+reads_acted p o c [] r a = tt
+reads_acted p o c (e ∷ es) r a =
+    cond_cons_acted (p e) o e (filter p es) c a.0 (read_leaves e.op c r.0)
+    (reads_acted p o c es r.1 (subst (λ x. AreCellActed o x es) (read_leaves e.op c r.0) a.1))
 
 -- ---- one owner
 
@@ -134,6 +140,7 @@ with_less (Insert r k v) ds es h = (h, h)
 with_less (Update r k v) ds es h = (h, h)
 with_less (Delete r k) ds es h = (h, h)
 with_less (Read n) ds es h = (h, h)
+with_less (Scan r) ds es h = (h, h)
 
 cond_less : (t : Bool) (e : Entry) (ds es : List Entry) → (lowest (steps es) ≤ℤ lowest (steps ds)) × (highest (steps ds) ≤ℤ highest (steps es))
     → (lowest (steps (e ∷ es)) ≤ℤ lowest (steps (cond t (e ∷ ds) ds))) × (highest (steps (cond t (e ∷ ds) ds)) ≤ℤ highest (steps (e ∷ es)))
@@ -151,14 +158,14 @@ room_part n p es h =
 
 -- ---- whichever transactions are struck out
 
-pub strikes : (c : Cell) (es : List Entry) → AllAgree es → Each IsDone es → HasRoom c.count (steps es) → AreCellActed c es → (p : ℕ → Bool) → AreCellActed c (kept p es)
-strikes c es ag d room a p = go (shape es ag)
+pub strikes : (o : Object) (c : Cell) (es : List Entry) → AllAgree es → Each IsDone es → HasRoom c.count (steps es) → AreCellActed o c es → (p : ℕ → Bool) → AreCellActed o c (kept p es)
+strikes o c es ag d room a p = go (shape es ag)
   where
-    whole : (u : ℕ) → Each (λ e. e.txn ≡ u) es → (b : Bool) → p u ≡ b → AreCellActed c (kept p es)
-    whole u h true t = subst (AreCellActed c) (sym (owned_kept p es u h true t)) a
-    whole u h false t = subst (AreCellActed c) (sym (owned_kept p es u h false t)) tt
+    whole : (u : ℕ) → Each (λ e. e.txn ≡ u) es → (b : Bool) → p u ≡ b → AreCellActed o c (kept p es)
+    whole u h true t = subst (AreCellActed o c) (sym (owned_kept p es u h true t)) a
+    whole u h false t = subst (AreCellActed o c) (sym (owned_kept p es u h false t)) tt
 
-    go : Shape es → AreCellActed c (kept p es)
+    go : Shape es → AreCellActed o c (kept p es)
     go (Owned u h) = whole u h (p u) refl
-    go (Reads h) = reads_acted (λ e. p e.txn) c es h a
-    go (Adds h) = adds_acted c (kept p es) (each_filter _ (λ e. p e.txn) es h) (each_filter _ (λ e. p e.txn) es d) (room_part c.count (λ e. p e.txn) es room)
+    go (Reads h) = reads_acted (λ e. p e.txn) o c es h a
+    go (Adds h) = adds_acted o c (kept p es) (each_filter _ (λ e. p e.txn) es h) (each_filter _ (λ e. p e.txn) es d) (room_part c.count (λ e. p e.txn) es room)

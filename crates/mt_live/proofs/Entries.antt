@@ -1,23 +1,23 @@
 -- Entries at one object: the model's lemmas on calls, for entries.
 use Rattle.std.proofs.Common.{◌≡◌, Bool, true, false, cond, List, [], ◌∷◌, ◌++◌, filter, refl, ap, sym, ◌∙◌, subst}
 use Rattle.mt_model.specs.declared.objects.Object.{Object}
-use Rattle.mt_model.specs.Model.{Base, object_of, same_object}
+use Rattle.mt_model.specs.Model.{Base}
 use Rattle.mt_model.specs.History.{Call, run, IsActed}
-use Rattle.mt_model.proofs.Cells.{Cell, cell}
+use Rattle.mt_model.proofs.Cells.{Cell, cell, touches}
 use Rattle.mt_model.proofs.Split as split
 use Rattle.mt_model.proofs.Appends as append
 use Rattle.mt_live.specs.Entries.{Entry, calls, runs, AreActed}
 
--- the entries on one object
+-- the entries that touch one object
 abbrev pub on : Object → List Entry → List Entry
-on x es = filter (λ (e : Entry). same_object (object_of e.op) x) es
+on x es = filter (λ (e : Entry). touches e.op x) es
 
--- the cell that entries on it leave, and that each has the reply that its operation gives there
+-- the cell that entries leave, and that each has a reply that fits there
 abbrev pub cell_runs : Cell → List Entry → Cell
 cell_runs c es = split.cell_run c (calls es)
 
-abbrev pub AreCellActed : Cell → List Entry → Type 0
-AreCellActed c es = split.CellActed c (calls es)
+abbrev pub AreCellActed : Object → Cell → List Entry → Type 0
+AreCellActed x c es = split.CellActed x c (calls es)
 
 calls_choice : (t : Bool) (e : Entry) (es : List Entry) (cs : List Call) → cs ≡ calls es → cond t ((e.op, e.reply) ∷ cs) cs ≡ calls (cond t (e ∷ es) es)
 calls_choice true e es cs h = ap (λ w. (e.op, e.reply) ∷ w) h
@@ -25,7 +25,7 @@ calls_choice false e es cs h = h
 
 pub calls-on : (x : Object) (es : List Entry) → split.on x (calls es) ≡ calls (on x es)
 calls-on x [] = refl
-calls-on x (e ∷ es) = calls_choice (same_object (object_of e.op) x) e (on x es) (split.on x (calls es)) (calls-on x es)
+calls-on x (e ∷ es) = calls_choice (touches e.op x) e (on x es) (split.on x (calls es)) (calls-on x es)
 
 pub calls-append : (es fs : List Entry) → calls (es ++ fs) ≡ calls es ++ calls fs
 calls-append [] fs = refl
@@ -36,11 +36,11 @@ calls-append (e ∷ es) fs = ap (λ w. (e.op, e.reply) ∷ w) (calls-append es f
 pub runs-on : (b : Base) (es : List Entry) (x : Object) → cell (runs b es) x ≡ cell_runs (cell b x) (on x es)
 runs-on b es x = split.run-on b (calls es) x ∙ ap (split.cell_run (cell b x)) (calls-on x es)
 
-pub acted-on : (b : Base) (es : List Entry) (x : Object) → AreActed b es → AreCellActed (cell b x) (on x es)
-acted-on b es x acted = subst (split.CellActed (cell b x)) (calls-on x es) (split.acted-on b (calls es) x acted)
+pub acted-on : (b : Base) (es : List Entry) (x : Object) → AreActed b es → AreCellActed x (cell b x) (on x es)
+acted-on b es x acted = subst (split.CellActed x (cell b x)) (calls-on x es) (split.acted-on b (calls es) x acted)
 
-pub acted_from_each : (b : Base) (es : List Entry) → ((x : Object) → AreCellActed (cell b x) (on x es)) → AreActed b es
-acted_from_each b es each = split.acted_from_each b (calls es) (λ x. subst (split.CellActed (cell b x)) (sym (calls-on x es)) (each x))
+pub acted_from_each : (b : Base) (es : List Entry) → ((x : Object) → AreCellActed x (cell b x) (on x es)) → AreActed b es
+acted_from_each b es each = split.acted_from_each b (calls es) (λ x. subst (split.CellActed x (cell b x)) (sym (calls-on x es)) (each x))
 
 -- ---- one list behind another
 

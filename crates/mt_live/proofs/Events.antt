@@ -1,26 +1,29 @@
 -- What each event leaves of entries that are sound.
-use Rattle.std.proofs.Common.{◌≡◌, ◌≢◌, ℕ, ℤ, pos, ◌+ℤ◌, ◌≤ℤ◌, Bool, true, false, cond, not, ◌==◌, List, [], ◌∷◌, ◌++◌, Some, None, refl, ap, sym, ◌∙◌, subst, arith}
+use Rattle.std.proofs.Common.{◌≡◌, ◌≢◌, ℕ, ℤ, pos, ◌+ℤ◌, ◌≤ℤ◌, Bool, true, false, cond, not, ◌==◌, List, [], ◌∷◌, ◌++◌, Some, None, bytes_eq, refl, ap, sym, ◌∙◌, subst, arith}
 use Rattle.std.proofs.lemmas.Int.{ints}
 use Rattle.std.proofs.lemmas.List.Elements.{filter-append}
+use Rattle.std.proofs.lemmas.Bool.{and_parts}
+use Rattle.std.proofs.lemmas.Bool.Decides.{Decides-eqb}
+use Rattle.mt_base.specs.Modes.{granted_together}
 use Rattle.mt_base.specs.declared.modes.LockMode.TheVariants as mode
 use Rattle.mt_model.specs.declared.counters.Count.{Count}
 use Rattle.mt_model.specs.declared.operations.Op.{Op}
-use Rattle.mt_model.specs.declared.operations.Op.TheVariants.{Get, Insert, Update, Delete, Add, Read}
+use Rattle.mt_model.specs.declared.operations.Op.TheVariants.{Get, Insert, Update, Delete, Add, Read, Scan}
 use Rattle.mt_model.specs.declared.operations.Reply.{Reply}
 use Rattle.mt_model.specs.declared.operations.Reply.TheVariants.{Done, OutOfBounds}
 use Rattle.mt_model.specs.declared.objects.Asks.{Asks}
 use Rattle.mt_model.specs.declared.objects.Object.{Object}
 use Rattle.mt_model.specs.declared.objects.Object.TheVariants.{Key, Counter, Relation}
 use Rattle.mt_model.specs.declared.pending_add.Pending.{Pending}
-use Rattle.mt_model.specs.Model.{Base, object_of, same_object, moved, inverse_of, mode_of, reply_of, base_after}
+use Rattle.mt_model.specs.Model.{Base, object_of, same_object, moved, inverse_of, mode_of, locks_of, reply_of, base_after}
 use Rattle.mt_model.specs.Escrow.{total, lowest, highest, HasRoom}
-use Rattle.mt_model.specs.Locks.{Held, AreTogether}
+use Rattle.mt_model.specs.Locks.{Held, HoldsEach, AreTogether}
 use Rattle.mt_model.specs.Pending.{steps_at}
-use Rattle.mt_model.proofs.Cells.{Cell, cell, next, idle, cell-next, same-true, same-self, same_base}
+use Rattle.mt_model.proofs.Cells.{Cell, cell, next, idle, is_scan, touches, touches-own, cell-next, same-true, same-self, same_base}
 use Rattle.mt_model.proofs.Split.{filter-swap}
 use Rattle.mt_model.proofs.Steps.{stays_with_room}
 use Rattle.mt_model.proofs.Sums.{total_between}
-use Rattle.mt_model.proofs.Undo.{base_effectless, inverse_asks}
+use Rattle.mt_model.proofs.Undo.{base_effectless, inverse_asks, undone_no_scan, inverse_no_scan}
 use Rattle.mt_live.specs.Entries.{Entry, runs, AreActed, kept, struck, IsExplained}
 use Rattle.mt_live.specs.Adds.{add_before, adds}
 use Rattle.mt_live.specs.Sound.{Each, IsLocked, IsDone, IsSound}
@@ -41,14 +44,70 @@ cond_each : {A : Type 0} (P : A → Type 0) (t : Bool) (x : A) (xs : List A) →
 cond_each P true x xs p h = (p refl, h)
 cond_each P false x xs p h = h
 
-agree_with : (held : Held) → AreTogether held → (e : Entry) → IsLocked held e → (x : Object) → object_of e.op ≡ x → (es : List Entry) → Each (IsLocked held) es → Each (Agree e) (on x es)
-agree_with held locks e le x is [] l = tt
-agree_with held locks e le x is (f ∷ es) l =
-    cond_each (Agree e) (same_object (object_of f.op) x) f (on x es)
-    (λ t apart. locks e.txn f.txn x (mode_of e.op) (mode_of f.op) apart
-    (subst (λ y. held e.txn y (mode_of e.op) ≡ true) is (main_lock held e.txn e.op le))
-    (subst (λ y. held f.txn y (mode_of f.op) ≡ true) (same-true (object_of f.op) x t) (main_lock held f.txn f.op l.0)))
-    (agree_with held locks e le x is es l.1)
+scan_reads : (op : Op) → is_scan op ≡ true → mode_of op ≡ mode.Read
+scan_reads (Scan r) is = refl
+scan_reads (Get r k) is = absurd cc
+scan_reads (Insert r k v) is = absurd cc
+scan_reads (Update r k v) is = absurd cc
+scan_reads (Delete r k) is = absurd cc
+scan_reads (Add n d) is = absurd cc
+scan_reads (Read n) is = absurd cc
+
+-- nobody writes in a relation that another transaction holds for read
+barred : (held : Held) → AreTogether held → (t u : ℕ) → t ≢ u → (r s : ℕ) (k : List ℕ) (x : Object) → held t (Relation r) mode.Read ≡ true
+    → touches (Scan r) x ≡ true → same_object (Key s k) x ≡ true → held u (Relation s) mode.Intend ≡ true → ⊥
+barred held locks t u apart r s k (Key q l) reads scanned own intends =
+    let there : r ≡ q = (Decides-eqb r q).0 scanned in
+    let here : s ≡ q = (Decides-eqb s q).0 (and_parts (s == q) (bytes_eq k l) own).0 in
+    let both : granted_together mode.Read mode.Intend ≡ true =
+    locks t u (Relation r) mode.Read mode.Intend apart reads (subst (λ z. held u (Relation z) mode.Intend ≡ true) (here ∙ sym there) intends) in
+    absurd cc
+barred held locks t u apart r s k (Counter c) reads scanned own intends = absurd cc
+barred held locks t u apart r s k (Relation q) reads scanned own intends = absurd cc
+
+-- what touches an object that another's scan touches reads it
+beside_scan : (held : Held) → AreTogether held → (t u : ℕ) → t ≢ u → (scan op : Op) (x : Object) → is_scan scan ≡ true → HoldsEach held t (locks_of scan)
+    → HoldsEach held u (locks_of op) → touches scan x ≡ true → touches op x ≡ true → mode_of op ≡ mode.Read
+beside_scan held locks t u apart (Scan r) (Scan s) x is reads l scanned own = refl
+beside_scan held locks t u apart (Scan r) (Get s k) x is reads l scanned own = refl
+beside_scan held locks t u apart (Scan r) (Read n) x is reads l scanned own = refl
+beside_scan held locks t u apart (Scan r) (Insert s k v) x is reads l scanned own = absurd (barred held locks t u apart r s k x reads.0 scanned own l.0)
+beside_scan held locks t u apart (Scan r) (Update s k v) x is reads l scanned own = absurd (barred held locks t u apart r s k x reads.0 scanned own l.0)
+beside_scan held locks t u apart (Scan r) (Delete s k) x is reads l scanned own = absurd (barred held locks t u apart r s k x reads.0 scanned own l.0)
+beside_scan held locks t u apart (Scan r) (Add n d) (Key s k) is reads l scanned own = absurd cc
+beside_scan held locks t u apart (Scan r) (Add n d) (Counter c) is reads l scanned own = absurd cc
+beside_scan held locks t u apart (Scan r) (Add n d) (Relation s) is reads l scanned own = absurd cc
+beside_scan held locks t u apart (Get r k) op x is reads l scanned own = absurd cc
+beside_scan held locks t u apart (Insert r k v) op x is reads l scanned own = absurd cc
+beside_scan held locks t u apart (Update r k v) op x is reads l scanned own = absurd cc
+beside_scan held locks t u apart (Delete r k) op x is reads l scanned own = absurd cc
+beside_scan held locks t u apart (Add n d) op x is reads l scanned own = absurd cc
+beside_scan held locks t u apart (Read n) op x is reads l scanned own = absurd cc
+
+agree : (held : Held) → AreTogether held → (e f : Entry) (x : Object) → IsLocked held e → IsLocked held f → touches e.op x ≡ true → touches f.op x ≡ true → Agree e f
+agree held locks e f x le lf te tf apart = by (is_scan e.op) refl (is_scan f.op) refl
+  where
+    by : (s : Bool) → is_scan e.op ≡ s → (t : Bool) → is_scan f.op ≡ t → granted_together (mode_of e.op) (mode_of f.op) ≡ true
+    by true scans t is =
+        let reads : mode_of e.op ≡ mode.Read = scan_reads e.op scans in
+        let beside : mode_of f.op ≡ mode.Read = beside_scan held locks e.txn f.txn apart e.op f.op x scans le lf te tf in
+        rw (reads, beside) refl
+    by false single true scans =
+        let reads : mode_of f.op ≡ mode.Read = scan_reads f.op scans in
+        let beside : mode_of e.op ≡ mode.Read = beside_scan held locks f.txn e.txn (λ same. apart (sym same)) f.op e.op x scans lf le tf te in
+        rw (reads, beside) refl
+    by false single false alone =
+        locks e.txn f.txn x (mode_of e.op) (mode_of f.op) apart
+        (subst (λ y. held e.txn y (mode_of e.op) ≡ true) (own e.op x single te) (main_lock held e.txn e.op le))
+        (subst (λ y. held f.txn y (mode_of f.op) ≡ true) (own f.op x alone tf) (main_lock held f.txn f.op lf))
+      where
+        own : (op : Op) (y : Object) → is_scan op ≡ false → touches op y ≡ true → object_of op ≡ y
+        own op y one t = same-true (object_of op) y (sym (touches-own op y one) ∙ t)
+
+agree_with : (held : Held) → AreTogether held → (e : Entry) → IsLocked held e → (x : Object) → touches e.op x ≡ true → (es : List Entry) → Each (IsLocked held) es → Each (Agree e) (on x es)
+agree_with held locks e le x te [] l = tt
+agree_with held locks e le x te (f ∷ es) l =
+    cond_each (Agree e) (touches f.op x) f (on x es) (λ tf. agree held locks e f x le l.0 te tf) (agree_with held locks e le x te es l.1)
 
 cond_agree : (t : Bool) (e : Entry) (es : List Entry) → (t ≡ true → Each (Agree e) es) → AllAgree es → AllAgree (cond t (e ∷ es) es)
 cond_agree true e es h a = (h refl, a)
@@ -57,8 +116,8 @@ cond_agree false e es h a = a
 pub agree_on : (held : Held) → AreTogether held → (x : Object) (es : List Entry) → Each (IsLocked held) es → AllAgree (on x es)
 agree_on held locks x [] l = tt
 agree_on held locks x (e ∷ es) l =
-    cond_agree (same_object (object_of e.op) x) e (on x es)
-    (λ t. agree_with held locks e l.0 x (same-true (object_of e.op) x t) es l.1)
+    cond_agree (touches e.op x) e (on x es)
+    (λ t. agree_with held locks e l.0 x t es l.1)
     (agree_on held locks x es l.1)
 
 -- ---- the steps at one counter
@@ -71,42 +130,44 @@ same_cond : {A : Type 0} (t : Bool) (x : A) → cond t x x ≡ x
 same_cond true x = refl
 same_cond false x = refl
 
-with_at : (c t : ℕ) (op : Op) (ps : List Pending) → cond (same_object (object_of op) (Counter c)) (with_step op (steps_at c ps)) (steps_at c ps) ≡ steps_at c (add_before t op ps)
+with_at : (c t : ℕ) (op : Op) (ps : List Pending) → cond (touches op (Counter c)) (with_step op (steps_at c ps)) (steps_at c ps) ≡ steps_at c (add_before t op ps)
 with_at c t (Add n d) ps = refl
 with_at c t (Get r k) ps = refl
 with_at c t (Insert r k v) ps = refl
 with_at c t (Update r k v) ps = refl
 with_at c t (Delete r k) ps = refl
 with_at c t (Read n) ps = same_cond (n == c) (steps_at c ps)
+with_at c t (Scan r) ps = refl
 
 pub steps-at : (c : ℕ) (es : List Entry) → steps (on (Counter c) es) ≡ steps_on c es
 steps-at c [] = refl
-steps-at c (e ∷ es) = cond_steps (same_object (object_of e.op) (Counter c)) e (on (Counter c) es) (steps_on c es) (steps-at c es) ∙ with_at c e.txn e.op (adds es)
+steps-at c (e ∷ es) = cond_steps (touches e.op (Counter c)) e (on (Counter c) es) (steps_on c es) (steps-at c es) ∙ with_at c e.txn e.op (adds es)
 
-with_none : (r : ℕ) (k : List ℕ) (op : Op) → cond (same_object (object_of op) (Key r k)) (with_step op []) [] ≡ []
+with_none : (r : ℕ) (k : List ℕ) (op : Op) → cond (touches op (Key r k)) (with_step op []) [] ≡ []
 with_none r k (Add n d) = refl
 with_none r k (Get s l) = same_cond (same_object (Key s l) (Key r k)) []
 with_none r k (Insert s l v) = same_cond (same_object (Key s l) (Key r k)) []
 with_none r k (Update s l v) = same_cond (same_object (Key s l) (Key r k)) []
 with_none r k (Delete s l) = same_cond (same_object (Key s l) (Key r k)) []
 with_none r k (Read n) = refl
+with_none r k (Scan s) = same_cond (s == r) []
 
 steps_none : (r : ℕ) (k : List ℕ) (es : List Entry) → steps (on (Key r k) es) ≡ []
 steps_none r k [] = refl
-steps_none r k (e ∷ es) = cond_steps (same_object (object_of e.op) (Key r k)) e (on (Key r k) es) [] (steps_none r k es) ∙ with_none r k e.op
+steps_none r k (e ∷ es) = cond_steps (touches e.op (Key r k)) e (on (Key r k) es) [] (steps_none r k es) ∙ with_none r k e.op
 
--- no operation is on a relation as a whole
-off_relation : (r : ℕ) (op : Op) → same_object (object_of op) (Relation r) ≡ false
-off_relation r (Add n d) = refl
-off_relation r (Get s l) = refl
-off_relation r (Insert s l v) = refl
-off_relation r (Update s l v) = refl
-off_relation r (Delete s l) = refl
-off_relation r (Read n) = refl
+with_none_at : (r : ℕ) (op : Op) → cond (touches op (Relation r)) (with_step op []) [] ≡ []
+with_none_at r (Add n d) = refl
+with_none_at r (Get s l) = refl
+with_none_at r (Insert s l v) = refl
+with_none_at r (Update s l v) = refl
+with_none_at r (Delete s l) = refl
+with_none_at r (Read n) = refl
+with_none_at r (Scan s) = same_cond (s == r) []
 
-none_on_relation : (r : ℕ) (es : List Entry) → on (Relation r) es ≡ []
-none_on_relation r [] = refl
-none_on_relation r (e ∷ es) = ap (λ b. cond b (e ∷ on (Relation r) es) (on (Relation r) es)) (off_relation r e.op) ∙ none_on_relation r es
+steps_none_at : (r : ℕ) (es : List Entry) → steps (on (Relation r) es) ≡ []
+steps_none_at r [] = refl
+steps_none_at r (e ∷ es) = cond_steps (touches e.op (Relation r)) e (on (Relation r) es) [] (steps_none_at r es) ∙ with_none_at r e.op
 
 no_room : HasRoom idle []
 no_room = record { low = omega (arith, ints); high = omega (arith, ints) }
@@ -114,7 +175,7 @@ no_room = record { low = omega (arith, ints); high = omega (arith, ints) }
 pub room_on : (b : Base) (es : List Entry) → ((c : ℕ) → HasRoom (b.counts c) (steps_on c es)) → (x : Object) → HasRoom (cell b x).count (steps (on x es))
 room_on b es h (Key r k) = subst (HasRoom idle) (sym (steps_none r k es)) no_room
 room_on b es h (Counter c) = subst (HasRoom (b.counts c)) (sym (steps-at c es)) (h c)
-room_on b es h (Relation r) = subst (λ fs. HasRoom idle (steps fs)) (sym (none_on_relation r es)) no_room
+room_on b es h (Relation r) = subst (HasRoom idle) (sym (steps_none_at r es)) no_room
 
 room_off : (b : Base) (es : List Entry) → ((x : Object) → HasRoom (cell b x).count (steps (on x es))) → (c : ℕ) → HasRoom (b.counts c) (steps_on c es)
 room_off b es h c = subst (HasRoom (b.counts c)) (steps-at c es) (h (Counter c))
@@ -124,8 +185,8 @@ room_off b es h c = subst (HasRoom (b.counts c)) (steps-at c es) (h (Counter c))
 pub explained : (held : Held) → AreTogether held → (b : Base) (es : List Entry) → IsSound held b es → IsExplained b es (runs b es)
 explained held locks b es s = record {
   whichever = λ set. acted_from_each b (struck set es) (λ x.
-      subst (AreCellActed (cell b x)) (filter-swap (λ e. not (set e.txn)) (λ e. same_object (object_of e.op) x) es)
-      (strikes (cell b x) (on x es) (agree_on held locks x es s.locked) (each_filter _ (λ e. same_object (object_of e.op) x) es s.done)
+      subst (AreCellActed x (cell b x)) (filter-swap (λ e. not (set e.txn)) (λ e. touches e.op x) es)
+      (strikes x (cell b x) (on x es) (agree_on held locks x es s.locked) (each_filter _ (λ e. touches e.op x) es s.done)
       (room_on b es s.room x) (acted-on b es x s.acted) (λ t. not (set t))));
   all = refl;
 }
@@ -146,7 +207,7 @@ each_back P (x ∷ xs) ys h = each_back P xs ys h.1
 
 -- the counters after a run
 pub counts_run : (b : Base) (es : List Entry) (x : Object) → AreActed b es → Each IsDone es → (cell (runs b es) x).count ≡ moved (cell b x).count (total (steps (on x es)))
-counts_run b es x a d = ap (λ (c : Cell). c.count) (runs-on b es x) ∙ count_run (cell b x) (on x es) (acted-on b es x a) (each_filter _ (λ e. same_object (object_of e.op) x) es d)
+counts_run b es x a d = ap (λ (c : Cell). c.count) (runs-on b es x) ∙ count_run x (cell b x) (on x es) (acted-on b es x a) (each_filter _ (λ e. touches e.op x) es d)
 
 -- the sums of one list's steps and then another's
 pub record Joined (all some rest : List ℤ) : Type 0 where
@@ -161,6 +222,7 @@ join_step (Insert k l v) a s r h = h
 join_step (Update k l v) a s r h = h
 join_step (Delete k l) a s r h = h
 join_step (Read n) a s r h = h
+join_step (Scan q) a s r h = h
 
 zero_left : (z : ℤ) → z ≡ pos 0 +ℤ z
 zero_left z = omega (arith, ints)
@@ -184,7 +246,7 @@ room_back n es fs gs h less =
     record { low = omega (arith, ints); high = omega (arith, ints) }
 
 on-append : (x : Object) (es fs : List Entry) → on x (es ++ fs) ≡ on x es ++ on x fs
-on-append x es fs = filter-append (λ e. same_object (object_of e.op) x) es fs
+on-append x es fs = filter-append (λ e. touches e.op x) es fs
 
 room_later : (b : Base) (es fs : List Entry) → AreActed b es → Each IsDone es → ((c : ℕ) → HasRoom (b.counts c) (steps_on c (es ++ fs))) → (c : ℕ) → HasRoom ((runs b es).counts c) (steps_on c fs)
 room_later b es fs a d h = room_off (runs b es) fs (λ x.
@@ -201,6 +263,7 @@ done_of b u (Insert s l v) r h is m = absurd cc
 done_of b u (Update s l v) r h is m = absurd cc
 done_of b u (Delete s l) r h is m = absurd cc
 done_of b u (Read n) r h is m = absurd cc
+done_of b u (Scan q) r h is m = absurd cc
 
 -- an operation ends, under its lock and with escrow's leave: what stands is sound with it, and the base is the next
 pub ended : (held : Held) (b : Base) (es : List Entry) (e : Entry) → IsSound held b es → IsLocked held e
@@ -218,12 +281,12 @@ ended held b es e s lock room says' = (
 
 -- ---- a commit becomes durable
 
-moves_at : (held : Held) → AreTogether held → (b : Base) (es : List Entry) → IsSound held b es → (p : ℕ → Bool) (x : Object) → Moves (cell b x) p (on x es)
+moves_at : (held : Held) → AreTogether held → (b : Base) (es : List Entry) → IsSound held b es → (p : ℕ → Bool) (x : Object) → Moves x (cell b x) p (on x es)
 moves_at held locks b es s p x =
-    moves (cell b x) (on x es) (agree_on held locks x es s.locked) (each_filter _ (λ e. same_object (object_of e.op) x) es s.done) (room_on b es s.room x) (acted-on b es x s.acted) p
+    moves x (cell b x) (on x es) (agree_on held locks x es s.locked) (each_filter _ (λ e. touches e.op x) es s.done) (room_on b es s.room x) (acted-on b es x s.acted) p
 
 kept-on : (p : ℕ → Bool) (x : Object) (es : List Entry) → kept p (on x es) ≡ on x (kept p es)
-kept-on p x es = filter-swap (λ e. p e.txn) (λ e. same_object (object_of e.op) x) es
+kept-on p x es = filter-swap (λ e. p e.txn) (λ e. touches e.op x) es
 
 cell_kept : (b : Base) (p : ℕ → Bool) (x : Object) (es : List Entry) → cell_runs (cell b x) (kept p (on x es)) ≡ cell (runs b (kept p es)) x
 cell_kept b p x es = ap (cell_runs (cell b x)) (kept-on p x es) ∙ sym (runs-on b (kept p es) x)
@@ -233,8 +296,8 @@ commits held locks b es s p = record {
   acted = subst (AreActed b) (kept_is p es) ((explained held locks b es s).whichever (λ t. not (p t)));
   rest = record {
     acted = acted_from_each (runs b (kept p es)) (struck p es) (λ x.
-        subst (λ w. AreCellActed (cell (runs b (kept p es)) x) w) (kept-on (λ t. not (p t)) x es)
-        (subst (λ w. AreCellActed w (struck p (on x es))) (cell_kept b p x es) (moves_at held locks b es s p x).acted));
+        subst (λ w. AreCellActed x (cell (runs b (kept p es)) x) w) (kept-on (λ t. not (p t)) x es)
+        (subst (λ w. AreCellActed x w (struck p (on x es))) (cell_kept b p x es) (moves_at held locks b es s p x).acted));
     locked = each_filter _ (λ e. not (p e.txn)) es s.locked;
     done = each_filter _ (λ e. not (p e.txn)) es s.done;
     room = room_off (runs b (kept p es)) (struck p es) (λ x.
@@ -268,26 +331,26 @@ sound_later held b es fs s = record {
 
 -- ---- an inverse ends
 
-abbrev Undone : Cell → Entry → List Entry → Op → Bool → Type 0
-Undone c e es i t = AreCellActed c es × (cell_runs c es ≡ cond t (next i (cell_runs c (cond t (e ∷ es) es))) (cell_runs c (cond t (e ∷ es) es)))
+abbrev Undone : Object → Cell → Entry → List Entry → Op → Bool → Type 0
+Undone x c e es i t = AreCellActed x c es × (cell_runs c es ≡ cond t (next i (cell_runs c (cond t (e ∷ es) es))) (cell_runs c (cond t (e ∷ es) es)))
 
-undone_cell : (t : Bool) (c : Cell) (e : Entry) (es : List Entry) (i : Op) → AreCellActed c (cond t (e ∷ es) es) → Each IsDone (cond t (e ∷ es) es) → HasRoom c.count (steps (cond t (e ∷ es) es))
-    → (t ≡ true → Each (Agree e) es) → Each (λ f. f.txn ≢ e.txn) es → inverse_of e.op e.reply ≡ Some i → Undone c e es i t
-undone_cell true c e es i a d room ag others h = undoes c e es i (ag refl) d room a others h
-undone_cell false c e es i a d room ag others h = (a, refl)
+undone_cell : (t : Bool) (x : Object) (c : Cell) (e : Entry) (es : List Entry) (i : Op) → AreCellActed x c (cond t (e ∷ es) es) → Each IsDone (cond t (e ∷ es) es) → HasRoom c.count (steps (cond t (e ∷ es) es))
+    → (t ≡ true → Each (Agree e) es) → Each (λ f. f.txn ≢ e.txn) es → inverse_of e.op e.reply ≡ Some i → Undone x c e es i t
+undone_cell true x c e es i a d room ag others h = undoes x c e es i (ag refl) d room a others h
+undone_cell false x c e es i a d room ag others h = (a, refl)
 
 pub record Undoes (held : Held) (b : Base) (es : List Entry) (e : Entry) (fs : List Entry) (i : Op) : Type 0 where
   pub sound : IsSound held b (es ++ fs)
   pub base : runs b (es ++ fs) ≡ base_after (runs b (es ++ e ∷ fs)) i
 
 undone_at : (held : Held) → AreTogether held → (b : Base) (e : Entry) (fs : List Entry) (i : Op) → IsSound held b (e ∷ fs) → Each (λ f. f.txn ≢ e.txn) fs → inverse_of e.op e.reply ≡ Some i
-    → (x : Object) → Undone (cell b x) e (on x fs) i (same_object (object_of e.op) x)
+    → (x : Object) → Undone x (cell b x) e (on x fs) i (touches e.op x)
 undone_at held locks b e fs i s others h x =
-    undone_cell (same_object (object_of e.op) x) (cell b x) e (on x fs) i (acted-on b (e ∷ fs) x s.acted)
-    (each_filter _ (λ f. same_object (object_of f.op) x) (e ∷ fs) s.done)
+    undone_cell (touches e.op x) x (cell b x) e (on x fs) i (acted-on b (e ∷ fs) x s.acted)
+    (each_filter _ (λ f. touches f.op x) (e ∷ fs) s.done)
     (room_on b (e ∷ fs) s.room x)
-    (λ t. agree_with held locks e s.locked.0 x (same-true (object_of e.op) x t) fs s.locked.1)
-    (each_filter _ (λ f. same_object (object_of f.op) x) fs others) h
+    (λ t. agree_with held locks e s.locked.0 x t fs s.locked.1)
+    (each_filter _ (λ f. touches f.op x) fs others) h
 
 cond_lower : (t : Bool) (e : Entry) (fs : List Entry) → (lowest (steps (cond t (e ∷ fs) fs)) ≤ℤ lowest (steps fs)) × (highest (steps fs) ≤ℤ highest (steps (cond t (e ∷ fs) fs)))
 cond_lower true e fs = (with_less e.op (steps fs) (steps fs) (same_least (lowest (steps fs)), same_least (highest (steps fs)))).0
@@ -306,24 +369,31 @@ room_less b es fs gs h less = room_off b (es ++ gs) (λ x.
     subst (λ w. HasRoom (cell b x).count (steps w)) (sym (on-append x es gs))
     (room_back (cell b x).count (on x es) (on x fs) (on x gs) (subst (λ w. HasRoom (cell b x).count (steps w)) (on-append x es fs) (room_on b (es ++ fs) h x)) (less x)))
 
+-- an inverse touches what its operation touched
+touches_same : (op i : Op) (reply : Reply) (x : Object) → inverse_of op reply ≡ Some i → touches op x ≡ touches i x
+touches_same op i reply x h =
+    touches-own op x (undone_no_scan op i reply h)
+    ∙ (ap (λ (a : Asks). same_object a.object x) (sym (inverse_asks op i reply h))
+    ∙ sym (touches-own i x (inverse_no_scan op i reply h)))
+
 pub undone : (held : Held) → AreTogether held → (b : Base) (es : List Entry) (e : Entry) (fs : List Entry) (i : Op) → IsSound held b (es ++ e ∷ fs)
     → Each (λ f. f.txn ≢ e.txn) fs → inverse_of e.op e.reply ≡ Some i → Undoes held b es e fs i
 undone held locks b es e fs i s others h =
     let m = runs b es in
     let later : IsSound held m (e ∷ fs) = sound_later held b es (e ∷ fs) s in
-    let at : (x : Object) → Undone (cell m x) e (on x fs) i (same_object (object_of e.op) x) = undone_at held locks m e fs i later others h in
+    let at : (x : Object) → Undone x (cell m x) e (on x fs) i (touches e.op x) = undone_at held locks m e fs i later others h in
     let back : runs m fs ≡ base_after (runs m (e ∷ fs)) i = same_base (runs m fs) (base_after (runs m (e ∷ fs)) i) (λ x.
     runs-on m fs x
     ∙ ((at x).1
-    ∙ (ap (λ w. cond (same_object (object_of e.op) x) (next i w) w) (sym (runs-on m (e ∷ fs) x))
-    ∙ (ap (λ y. cond (same_object y x) (next i (cell (runs m (e ∷ fs)) x)) (cell (runs m (e ∷ fs)) x)) (sym (ap (λ (a : Asks). a.object) (inverse_asks e.op i e.reply h)))
+    ∙ (ap (λ w. cond (touches e.op x) (next i w) w) (sym (runs-on m (e ∷ fs) x))
+    ∙ (ap (λ t. cond t (next i (cell (runs m (e ∷ fs)) x)) (cell (runs m (e ∷ fs)) x)) (touches_same e.op i e.reply x h)
     ∙ sym (cell-next (runs m (e ∷ fs)) i x))))) in
     record {
       sound = record {
         acted = acted_append b es fs (acted_front b es (e ∷ fs) s.acted) (acted_from_each m fs (λ x. (at x).0));
         locked = each_append _ es fs (each_front _ es (e ∷ fs) s.locked) (each_back _ es (e ∷ fs) s.locked).1;
         done = each_append _ es fs (each_front _ es (e ∷ fs) s.done) (each_back _ es (e ∷ fs) s.done).1;
-        room = room_less b es (e ∷ fs) fs s.room (λ x. cond_lower (same_object (object_of e.op) x) e (on x fs));
+        room = room_less b es (e ∷ fs) fs s.room (λ x. cond_lower (touches e.op x) e (on x fs));
       };
       base = runs-append b es fs ∙ (back ∙ ap (λ w. base_after w i) (sym (runs-append b es (e ∷ fs))));
     }

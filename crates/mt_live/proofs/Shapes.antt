@@ -5,7 +5,6 @@ use Rattle.std.proofs.lemmas.Bool.Decides.{Decides-eqb}
 use Rattle.mt_base.specs.Modes.{granted_together}
 use Rattle.mt_base.specs.declared.modes.LockMode.{LockMode}
 use Rattle.mt_base.specs.declared.modes.LockMode.TheVariants as mode
-use Rattle.mt_model.specs.declared.operations.Op.{Op}
 use Rattle.mt_model.specs.Model.{mode_of}
 use Rattle.mt_model.proofs.Commuting.{no_intent, with_read, with_add, with_write}
 use Rattle.mt_live.specs.Entries.{Entry}

@@ -1,7 +1,7 @@
 -- The adds among entries, and what escrow takes out with one.
 use Rattle.std.specs.Prelude.{ℕ, ◌≡◌, List, [], ◌∷◌, Option, Some, None}
 use Rattle.mt_model.specs.declared.operations.Op.{Op}
-use Rattle.mt_model.specs.declared.operations.Op.TheVariants.{Get, Insert, Update, Delete, Add, Read}
+use Rattle.mt_model.specs.declared.operations.Op.TheVariants.{Get, Insert, Update, Delete, Add, Read, Scan}
 use Rattle.mt_model.specs.declared.pending_add.Pending.{Pending}
 use Rattle.mt_model.specs.Pending.{TakesOut}
 use Rattle.mt_live.specs.Entries.{Entry}
@@ -14,6 +14,7 @@ add_before t (Insert r k v) ps = ps
 add_before t (Update r k v) ps = ps
 add_before t (Delete r k) ps = ps
 add_before t (Read c) ps = ps
+add_before t (Scan r) ps = ps
 
 -- the adds of entries, in their order
 abbrev pub adds : List Entry → List Pending
@@ -33,3 +34,4 @@ GivesBack t (Insert r k v) old new = new ≡ old
 GivesBack t (Update r k v) old new = new ≡ old
 GivesBack t (Delete r k) old new = new ≡ old
 GivesBack t (Read c) old new = new ≡ old
+GivesBack t (Scan r) old new = new ≡ old

@@ -1,8 +1,8 @@
 -- What a kernel must not do: for each mistake a base, the entries that stand and the base that the pages
 -- hold, none of which is explained.
 use Rattle.std.specs.Prelude.{pos, negsuc, List, [], ◌∷◌}
-use Rattle.mt_model.specs.declared.operations.Op.TheVariants.{Get, Insert, Add}
-use Rattle.mt_model.specs.declared.operations.Reply.TheVariants.{Found, Done}
+use Rattle.mt_model.specs.declared.operations.Op.TheVariants.{Get, Insert, Add, Scan}
+use Rattle.mt_model.specs.declared.operations.Reply.TheVariants.{Found, Done, Rows}
 use Rattle.mt_model.specs.Model.{Base}
 use Rattle.mt_live.specs.Entries.{Entry, runs, AreActed, IsExplained}
 use Rattle.mt_live.specs.Witness.{opening}
@@ -57,3 +57,16 @@ read_left_over = record { txn = 1; op = Get 0 (1 ∷ []); reply = Found (2 ∷ [
 -- if the read still stood, no base would explain it
 abbrev pub ReadLeftOverFails : Type 0
 ReadLeftOverFails = (held : Base) → IsExplained opening read_left_over held → ⊥
+
+-- ---- a scan that locks no relation
+
+-- the first transaction inserts a row, and the second scans its relation meanwhile
+abbrev pub phantom : List Entry
+phantom =
+    record { txn = 1; op = Insert 0 (1 ∷ []) (2 ∷ []); reply = Done }
+    ∷ record { txn = 2; op = Scan 0; reply = Rows (record { relation = 0; key = 1 ∷ []; value = 2 ∷ [] } ∷ []) }
+    ∷ []
+
+-- once the first aborts, the second has seen a row that never was
+abbrev pub PhantomFails : Type 0
+PhantomFails = (held : Base) → IsExplained opening phantom held → ⊥

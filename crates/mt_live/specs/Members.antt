@@ -1,5 +1,5 @@
 -- A live transaction as contracts see it.
-use Rattle.std.specs.Prelude.{ℕ, suc, ◌++◌, ◌≡◌, ◌<◌, Bool, true, false, cond, List, [], ◌∷◌, Option, Some, None, take, is_some, length, slice_index_or}
+use Rattle.std.specs.Prelude.{ℕ, suc, ◌++◌, ◌≡◌, ◌<◌, Bool, true, false, cond, List, [], ◌∷◌, Option, Some, None, take, is_some, slice_index_or}
 use Rattle.std.specs.Option.{option_map}
 use Rattle.mt_model.specs.declared.history.Committed.{Committed}
 use Rattle.mt_model.specs.Model.{inverse_of}

@@ -1,6 +1,6 @@
 //! Mistakes that a kernel could make, each a state that is not explained. Each is a function with an
 //! empty body, whose contract is the counterexample.
-ghost use Rattle.mt_live.specs.Counterexamples.{EarlyReleaseFails, PresentNumberFails, OldNumberFails, ReadLeftOverFails};
+ghost use Rattle.mt_live.specs.Counterexamples.{EarlyReleaseFails, PresentNumberFails, OldNumberFails, ReadLeftOverFails, PhantomFails};
 
 /// A lock that is given up before its transaction ends lets another read what an abort takes away.
 pub fn early_release_fails()
@@ -22,4 +22,10 @@ pub fn old_number_fails()
 /// A read that still stood after the write that it saw is undone would be explained by no base.
 pub fn read_left_over_fails()
     ensures { ReadLeftOverFails }
+{}
+
+/// A scan that does not lock its relation may answer a row that an abort takes away. The lock of a key does not keep it
+/// from that, since it is on each row that is there, and the row was not.
+pub fn phantom_fails()
+    ensures { PhantomFails }
 {}

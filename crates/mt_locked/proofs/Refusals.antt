@@ -10,7 +10,7 @@ use Rattle.mt_core.specs.Runs.{state_in}
 use Rattle.mt_core.specs.declared.calls.Called.{Called}
 use Rattle.mt_core.specs.declared.parts.Core.{Core}
 use Rattle.mt_model.specs.declared.operations.Op.{Op}
-use Rattle.mt_model.specs.declared.operations.Op.TheVariants.{Get, Insert, Update, Delete, Add, Read}
+use Rattle.mt_model.specs.declared.operations.Op.TheVariants.{Get, Insert, Update, Delete, Add, Read, Scan}
 use Rattle.mt_txn.specs.Causes.{IsCallRefusal, IsFault, abort_cause, busy_cause, call_cause, commit_cause, count_cause, first_of, is_aborting, is_busy, is_open, name_cause, open_cause, size_cause, step_cause, unless}
 use Rattle.mt_txn.specs.Events.{AnswersIn}
 use Rattle.mt_txn.specs.Seen.{KernelSeen, has_failed_in}
@@ -62,6 +62,7 @@ name_is P relations counters (Update r k v) w relation counter = unless_is P (na
 name_is P relations counters (Delete r k) w relation counter = unless_is P (nat_lt r relations) refusal.NoSuchRelation w relation
 name_is P relations counters (Add c d) w relation counter = unless_is P (nat_lt c counters) refusal.NoSuchCounter w counter
 name_is P relations counters (Read c) w relation counter = unless_is P (nat_lt c counters) refusal.NoSuchCounter w counter
+name_is P relations counters (Scan r) w relation counter = unless_is P (nat_lt r relations) refusal.NoSuchRelation w relation
 
 size_is : (P : Refusal → Type 0) (op : Op) (w : Refusal) → P refusal.BadLength → P refusal.BadStep → size_cause op ≡ Some w → P w
 size_is P (Get r k) w length step = unless_is P _ refusal.BadLength w length
@@ -70,6 +71,7 @@ size_is P (Update r k v) w length step = unless_is P _ refusal.BadLength w lengt
 size_is P (Delete r k) w length step = unless_is P _ refusal.BadLength w length
 size_is P (Add c d) w length step = unless_is P _ refusal.BadStep w step
 size_is P (Read c) w length step = none_is P w
+size_is P (Scan r) w length step = none_is P w
 
 cause_refuses : {D : Type 0} → (relations counters : ℕ) (failed : Bool) (k : Core D) (t : ℕ) (op : Op) (w : Refusal) → call_cause relations counters failed k t op ≡ Some w → IsCallRefusal op w
 cause_refuses relations counters failed k t op w =
@@ -92,6 +94,7 @@ module _ {D : Type 0} (g : Ghosts D) (relations counters : ℕ) (k : Core D) (t 
   adds (Update r q v) x = ∥∥₁_elim x (hlevel props) (λ (origin, base, is, in_it, answered). answered.1 tt)
   adds (Delete r q) x = ∥∥₁_elim x (hlevel props) (λ (origin, base, is, in_it, answered). answered.1 tt)
   adds (Read c) x = ∥∥₁_elim x (hlevel props) (λ (origin, base, is, in_it, answered). answered.1 tt)
+  adds (Scan r) x = ∥∥₁_elim x (hlevel props) (λ (origin, base, is, in_it, answered). answered.1 tt)
 
   answer_refuses : (op : Op) (w : Refusal) → Answers op w → IsCallRefusal op w
   answer_refuses op refusal.NoMemory x = tt

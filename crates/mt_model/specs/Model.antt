@@ -4,7 +4,7 @@ use Rattle.mt_base.specs.Limits.{IsKey, IsValue, IsStep}
 use Rattle.mt_base.specs.declared.modes.LockMode.{LockMode}
 use Rattle.mt_base.specs.declared.modes.LockMode.TheVariants as mode
 pub use Rattle.mt_rows.specs.Rows.{inserted, updated, deleted}
-use Rattle.mt_rows.specs.Listing.{Listing}
+use Rattle.mt_rows.specs.Listing.{Listing, of_relation}
 use Rattle.mt_rows.proofs.Listings.{with_altered}
 use Rattle.mt_model.specs.declared.counters.Count.{Count}
 use Rattle.mt_model.specs.declared.objects.Asks.{Asks}
@@ -12,9 +12,9 @@ use Rattle.mt_model.specs.declared.objects.Lock.{Lock}
 pub use Rattle.mt_model.specs.declared.objects.Object.{Object}
 pub use Rattle.mt_model.specs.declared.objects.Object.TheVariants.{Key, Counter, Relation}
 use Rattle.mt_model.specs.declared.operations.Op.{Op}
-use Rattle.mt_model.specs.declared.operations.Op.TheVariants.{Get, Insert, Update, Delete, Add, Read}
+use Rattle.mt_model.specs.declared.operations.Op.TheVariants.{Get, Insert, Update, Delete, Add, Read, Scan}
 use Rattle.mt_model.specs.declared.operations.Reply.{Reply}
-use Rattle.mt_model.specs.declared.operations.Reply.TheVariants.{Found, Missing, Exists, Done, Was, Value, OutOfBounds}
+use Rattle.mt_model.specs.declared.operations.Reply.TheVariants.{Found, Missing, Exists, Done, Was, Value, Rows, OutOfBounds}
 
 -- the value under each key of each relation, and each counter; the rows in order, which the values say already
 pub record Base : Type 0 where
@@ -40,6 +40,7 @@ IsWithin relations counters (Update r k v) = (r < relations) × IsKey k × IsVal
 IsWithin relations counters (Delete r k) = (r < relations) × IsKey k
 IsWithin relations counters (Add c d) = (c < counters) × IsStep d
 IsWithin relations counters (Read c) = c < counters
+IsWithin relations counters (Scan r) = r < relations
 
 -- what an operation is on
 abbrev pub object_of : Op → Object
@@ -49,6 +50,7 @@ object_of (Update r k v) = Key r k
 object_of (Delete r k) = Key r k
 object_of (Add c d) = Counter c
 object_of (Read c) = Counter c
+object_of (Scan r) = Relation r
 
 abbrev pub same_object : Object → Object → Bool
 same_object (Key r k) (Key s l) = (r == s) && bytes_eq k l
@@ -69,6 +71,7 @@ mode_of (Update r k v) = mode.Write
 mode_of (Delete r k) = mode.Write
 mode_of (Add c d) = mode.Add
 mode_of (Read c) = mode.Read
+mode_of (Scan r) = mode.Read
 
 -- the relation in which it intends to write a row, if it does
 abbrev pub intent_of : Op → Option ℕ
@@ -78,6 +81,7 @@ intent_of (Update r k v) = Some r
 intent_of (Delete r k) = Some r
 intent_of (Add c d) = None
 intent_of (Read c) = None
+intent_of (Scan r) = None
 
 -- what its transaction asks for, all at once
 abbrev pub asks_of : Op → Asks
@@ -130,6 +134,7 @@ reply_of b (Update r k v) = was (b.rows r k)
 reply_of b (Delete r k) = was (b.rows r k)
 reply_of b (Add c d) = cond (stays (b.counts c) d) Done OutOfBounds
 reply_of b (Read c) = Value (b.counts c).number
+reply_of b (Scan r) = Rows (of_relation r b.listing.sorted)
 
 -- the base with what is under one key altered
 abbrev pub alter_row : Base → ℕ → List ℕ → (Option (List ℕ) → Option (List ℕ)) → Base
@@ -154,6 +159,7 @@ base_after b (Update r k v) = alter_row b r k (updated v)
 base_after b (Delete r k) = alter_row b r k deleted
 base_after b (Add c d) = alter_count b c (added d)
 base_after b (Read c) = b
+base_after b (Scan r) = b
 
 -- both at once
 abbrev pub act : Base → Op → Base × Reply

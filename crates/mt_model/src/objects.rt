@@ -65,6 +65,11 @@ impl Op {
                 object: Object::Counter(*counter),
                 mode: LockMode::Read,
             }),
+            Op::Scan(relation) => Ok(Asks {
+                intent: None,
+                object: Object::Relation(*relation),
+                mode: LockMode::Read,
+            }),
         }
     }
 
@@ -84,6 +89,7 @@ impl Op {
             ),
             Op::Add(counter, _) => (None, Object::Counter(counter), LockMode::Add),
             Op::Read(counter) => (None, Object::Counter(counter), LockMode::Read),
+            Op::Scan(relation) => (None, Object::Relation(relation), LockMode::Read),
         };
         Asks {
             intent,

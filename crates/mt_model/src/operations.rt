@@ -2,9 +2,10 @@
 ghost use Rattle.std.specs.Prelude.{◌≡◌, ◌↔◌, IfOk, IsTrue};
 
 use mt_base::{Bytes, CtrNo, RelNo};
+use mt_rows::Rows;
 use std::alloc::AllocError;
 
-/// An operation on a base: on the row of a relation under a key, or on a counter.
+/// An operation on a base: on the row of a relation under a key, on a counter, or on all rows of a relation.
 #[derive(PartialEq, Eq, Debug, Drop)]
 pub enum Op {
     /// Reads the value under a key.
@@ -19,6 +20,8 @@ pub enum Op {
     Add(CtrNo, i64),
     /// Reads a counter's number.
     Read(CtrNo),
+    /// Reads all rows of a relation.
+    Scan(RelNo),
 }
 
 /// What an operation answers.
@@ -36,6 +39,8 @@ pub enum Reply {
     Was(Bytes),
     /// `Read`: the counter's number.
     Value(i64),
+    /// `Scan`: the relation's rows, in order of key bytes.
+    Rows(Rows),
     /// `Add`: the sum would lie outside the counter's bounds, and the counter stays. A kernel with
     /// escrow never ends an operation with this reply, since it refuses such an add first.
     OutOfBounds,
@@ -59,6 +64,7 @@ impl Op {
             Op::Delete(relation, key) => Ok(Op::Delete(*relation, key.try_clone()?)),
             Op::Add(counter, step) => Ok(Op::Add(*counter, *step)),
             Op::Read(counter) => Ok(Op::Read(*counter)),
+            Op::Scan(relation) => Ok(Op::Scan(*relation)),
         }
     }
 
@@ -83,6 +89,7 @@ impl Op {
                 counter == its_counter && step == its_step
             }
             (Op::Read(counter), Op::Read(its_counter)) => counter == its_counter,
+            (Op::Scan(relation), Op::Scan(its_relation)) => relation == its_relation,
             _ => false,
         }
     }
@@ -100,11 +107,12 @@ impl Reply {
             Reply::Done => Ok(Reply::Done),
             Reply::Was(value) => Ok(Reply::Was(value.try_clone()?)),
             Reply::Value(number) => Ok(Reply::Value(*number)),
+            Reply::Rows(rows) => Ok(Reply::Rows(rows.try_clone()?)),
             Reply::OutOfBounds => Ok(Reply::OutOfBounds),
         }
     }
 
-    /// Whether the two are the same reply with the same value or number.
+    /// Whether the two are the same reply with the same value, number or rows.
     pub fn equals(&self, other: &Reply) -> bool
         ensures { IsTrue result ↔ (self.now ≡ other.now) }
     {
@@ -115,6 +123,7 @@ impl Reply {
             (Reply::Done, Reply::Done) => true,
             (Reply::Was(value), Reply::Was(its_value)) => value == its_value,
             (Reply::Value(number), Reply::Value(its_number)) => number == its_number,
+            (Reply::Rows(rows), Reply::Rows(its_rows)) => rows.equals(its_rows),
             (Reply::OutOfBounds, Reply::OutOfBounds) => true,
             _ => false,
         }

@@ -93,8 +93,9 @@ impl Base {
     /// | `Delete` | `Was(old)` | `Missing` |
     ///
     /// `Add` answers `Done`, or `OutOfBounds` if the sum would lie outside the counter's bounds,
-    /// and changes nothing then; `Read` answers `Value` of the counter's number. The operation's
-    /// relation or counter is there, and its key, value or step within the limits.
+    /// and changes nothing then; `Read` answers `Value` of the counter's number, and `Scan` the
+    /// relation's `Rows`. The operation's relation or counter is there, and its key, value or step
+    /// within the limits.
     ///
     /// The only error is [`Refusal::NoMemory`]; the base is then as before.
     pub fn act(&mut self, op: &Op) -> Result<Reply, Refusal>
@@ -113,6 +114,7 @@ impl Base {
             Op::Delete(relation, key) => Ok(self.delete(*relation, key)),
             Op::Add(counter, step) => Ok(self.add(*counter, *step)),
             Op::Read(counter) => Ok(Reply::Value(self.counters.get(*counter).number)),
+            Op::Scan(relation) => self.scan(*relation),
         }
     }
 
@@ -137,6 +139,7 @@ impl Base {
             }
             Op::Add(counter, step) => Ok(self.answer_add(*counter, *step)),
             Op::Read(counter) => Ok(Reply::Value(self.counter(*counter).number)),
+            Op::Scan(relation) => self.scan(*relation),
         }
     }
 
@@ -188,6 +191,16 @@ impl Base {
             Some(value) => Ok(Reply::Found(value.try_clone()?)),
             None => Ok(Reply::Missing),
         }
+    }
+
+    /// The reply to a `Scan`.
+    fn scan(&self, relation: RelNo) -> Result<Reply, Refusal>
+        ensures reply { IfOk result (λ reply.
+            reply ≡ reply_of (base_of self.now) (Op.Scan relation)) }
+        ensures only_memory { IfErr result (λ why. why ≡ Refusal.NoMemory) }
+    {
+        let rows = self.rows.of_relation(relation)?;
+        Ok(Reply::Rows(rows))
     }
 
     /// An `Insert`.

@@ -14,7 +14,7 @@ use Rattle.mt_pool.specs.Kept.{IsKept, Explains}
 use Rattle.mt_pool.specs.Views.{IsFull}
 use Rattle.mt_pool.specs.declared.store.Store.{Store}
 use Rattle.mt_space.specs.Rooms.{reserved_of}
-use Rattle.mt_model.specs.declared.operations.Op.TheVariants.{Get, Insert, Update, Delete, Add, Read}
+use Rattle.mt_model.specs.declared.operations.Op.TheVariants.{Get, Insert, Update, Delete, Add, Read, Scan}
 use Rattle.mt_steps.specs.Plans.{own_needs, IsReading}
 use Rattle.mt_op.specs.World.{World, IsUnderWay, IsAt, IsPlanning}
 use Rattle.mt_op.specs.Moves.{Rests, SameOp}
@@ -62,6 +62,7 @@ reading_of (Update r k v) is = absurd cc
 reading_of (Delete r k) is = absurd cc
 reading_of (Add c d) is = absurd cc
 reading_of (Read c) is = tt
+reading_of (Scan r) is = tt
 
 -- ---- a page is locked
 

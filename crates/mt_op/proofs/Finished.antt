@@ -22,7 +22,7 @@ use Rattle.mt_steps.specs.Held.{Holds}
 use Rattle.mt_steps.specs.Logged.{logged_of}
 use Rattle.mt_space.specs.Rooms.{mapped, free_in, free_of, reserved_of}
 use Rattle.mt_steps.specs.Plans.{IsPlanned, TakesPages, free_pages, own_needs}
-use Rattle.mt_steps.specs.declared.copies.Copies.{Copies}
+use Rattle.mt_steps.specs.declared.page_copies.PageCopies.{PageCopies}
 use Rattle.mt_op.specs.World.{World, held_in, looked, changes_in, IsWorld, IsOpen, IsWriting, IsAt, IsUnderWay, IsOther}
 use Rattle.mt_op.specs.Moves.{Notes, SameOp}
 use Rattle.mt_op.specs.Operations.{world, IsRight, Acts}
@@ -161,16 +161,16 @@ module _ {D : Type 0} (g : Ghosts D) (opening : PageBytes) (relations counters :
     (m : OpScope) (copies : m.seen ≡ s.seen) where
   -- the pages that it looked at are whole
   pub note_whole : (p : ℕ) (bytes : List ℕ) → looked m p ≡ Some bytes → length bytes ≡ 4096
-  note_whole = subst (λ (x : Copies). (p : ℕ) (bytes : List ℕ) → copied x.list.items p ≡ Some bytes → length bytes ≡ 4096) (sym copies) k.whole
+  note_whole = subst (λ (x : PageCopies). (p : ℕ) (bytes : List ℕ) → copied x.list.items p ≡ Some bytes → length bytes ≡ 4096) (sym copies) k.whole
 
   -- and the index has them
   pub note_inside : (rooms : ℕ) → rooms ≡ length o.rooms → (p : ℕ) → IsSome (looked m p) → p < rooms
-  note_inside rooms same p some = subst (λ (n : ℕ). p < n) (sym (same ∙ right.rooms)) (k.inside p (subst (λ (x : Copies). IsSome (copied x.list.items p)) copies some))
+  note_inside rooms same p some = subst (λ (n : ℕ). p < n) (sym (same ∙ right.rooms)) (k.inside p (subst (λ (x : PageCopies). IsSome (copied x.list.items p)) copies some))
 
   pub note_few : (rooms : ℕ) → rooms ≡ length o.rooms → rooms ≤ 4096
   note_few rooms same = let total = right.rooms in let few = right.kept.few in omega arith
 
-  abbrev Asks : List ℕ → Copies → Changes → Type 0
+  abbrev Asks : List ℕ → PageCopies → Changes → Type 0
   Asks map x y = (f : PageBytes) × Agrees (copied x.list.items) f × AreShort y.list.items f × ((p : ℕ) → get_or map p 0 ≡ 3 → IsShaped (after y.list.items f p))
 
   -- its changes leave each page of records well formed

@@ -12,7 +12,7 @@ use Rattle.mt_steps.specs.Asks.{HasSearched}
 use Rattle.mt_steps.specs.Repeated.{by}
 use Rattle.mt_steps.specs.declared.overlay.PageCopy.{PageCopy}
 use Rattle.mt_op.specs.World.{World, held_in, unfinished_in, looked, HasNothing, IsWorld, IsUnderWay, IsAt, IsPlanning}
-use Rattle.mt_steps.specs.declared.copies.Copies.{Copies}
+use Rattle.mt_steps.specs.declared.page_copies.PageCopies.{PageCopies}
 use Rattle.mt_op.specs.Moves.{SameOp, Rests, Locks, Leaves, Gains, IsLed}
 use Rattle.mt_op.specs.Holds.{Stays, Holds, IsAnew, IsHeld}
 use Rattle.mt_op.specs.Operations.{Goes, GoesOn}
@@ -170,8 +170,12 @@ module _ (relations counters : ℕ) where
 pub same_op : (s : OpScope) → SameOp s s
 same_op s = record { txn = refl; number = refl; op = refl; undoes = refl; split = refl; total = refl }
 
+-- its copies are the same
+pub same_seen : (s : OpScope) (seen : PageCopies) → seen ≡ s.seen → record s { seen = seen } ≡ s
+same_seen s seen same = λ i. record s { seen = same i }
+
 -- its copies are the same, with room for one more
-pub stays_roomy : (s : OpScope) (seen : Copies) → seen.total ≡ s.seen.total → seen.list.items ≡ s.seen.list.items → Stays s (record s { seen = seen })
+pub stays_roomy : (s : OpScope) (seen : PageCopies) → seen.total ≡ s.seen.total → seen.list.items ≡ s.seen.list.items → Stays s (record s { seen = seen })
 stays_roomy s seen total items = record {
   plan = record { op = record { txn = refl; number = refl; op = refl; undoes = refl; split = refl; total = total }; room = refl; guards = refl; seen = items; changes = refl; reply = refl };
   search = refl;

@@ -12,7 +12,7 @@ use Rattle.mt_file.specs.Rooms.{AreRooms, Takes}
 use Rattle.mt_log.specs.Words.{appended}
 use Rattle.mt_model.specs.Model.{IsWithin}
 use Rattle.mt_model.specs.declared.operations.Op.{Op}
-use Rattle.mt_model.specs.declared.operations.Op.TheVariants.{Get, Insert, Update, Delete, Add, Read}
+use Rattle.mt_model.specs.declared.operations.Op.TheVariants.{Get, Insert, Update, Delete, Add, Read, Scan}
 use Rattle.mt_plock.specs.declared.guards.PageLock.{PageLock}
 use Rattle.mt_plock.specs.Releasing.{locks_of}
 use Rattle.mt_pool.specs.Kept.{HasOpening}
@@ -74,6 +74,7 @@ short_record relations counters (Update r k v) within = let key = within.1.1 in 
 short_record relations counters (Delete r k) within = omega arith
 short_record relations counters (Add c d) within = omega arith
 short_record relations counters (Read c) within = omega arith
+short_record relations counters (Scan r) within = omega arith
 
 module _ {D : Type 0} (g : Ghosts D) where
   Known-prop : (o : Operations D) (s : OpScope) → IsProp (IsKnown g o s)

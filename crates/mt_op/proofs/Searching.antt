@@ -5,7 +5,7 @@ use Rattle.mt_index.specs.Answers.{IsSearched}
 use Rattle.mt_index.specs.declared.answers.Search.{Search}
 use Rattle.mt_index.specs.declared.answers.Search.TheVariants as search
 use Rattle.mt_model.specs.declared.operations.Op.{Op}
-use Rattle.mt_model.specs.declared.operations.Op.TheVariants.{Get, Insert, Update, Delete, Add, Read}
+use Rattle.mt_model.specs.declared.operations.Op.TheVariants.{Get, Insert, Update, Delete, Add, Read, Scan}
 use Rattle.mt_steps.specs.Asks.{HasSearched}
 use Rattle.mt_steps.specs.Overlays.{copied, or_below}
 use Rattle.mt_steps.specs.declared.overlay.PageCopy.{PageCopy}
@@ -28,6 +28,7 @@ searched_prop at_hand total (Update r k v) x = key_prop at_hand total r k x
 searched_prop at_hand total (Delete r k) x = key_prop at_hand total r k x
 searched_prop at_hand total (Add c d) x = hlevel props
 searched_prop at_hand total (Read c) x = hlevel props
+searched_prop at_hand total (Scan r) x = hlevel props
 
 -- ---- it begins, and stays
 
@@ -38,6 +39,7 @@ searched_start at_hand total (Update r k v) = tt
 searched_start at_hand total (Delete r k) = tt
 searched_start at_hand total (Add c d) = tt
 searched_start at_hand total (Read c) = tt
+searched_start at_hand total (Scan r) = tt
 
 -- what is at hand stays so
 abbrev Keeps : (ℕ → Option (List ℕ)) → (ℕ → Option (List ℕ)) → Type 0
@@ -55,6 +57,7 @@ searched_more less more total (Update r k v) x keeps so = key_more less more tot
 searched_more less more total (Delete r k) x keeps so = key_more less more total r k x keeps so
 searched_more less more total (Add c d) x keeps so = tt
 searched_more less more total (Read c) x keeps so = tt
+searched_more less more total (Scan r) x keeps so = tt
 
 -- as it looks at no more
 pub searched_same : (s t : OpScope) (x y : Search) → SameOp s t → t.seen.list.items ≡ s.seen.list.items → y ≡ x → HasSearched (looked s) s.seen.total s.op x → HasSearched (looked t) t.seen.total t.op y

@@ -8,7 +8,7 @@ use Rattle.mt_file.specs.Rooms.{AreRooms}
 use Rattle.mt_log.specs.Words.{appended}
 use Rattle.mt_log.specs.declared.log.Log.{Log}
 use Rattle.mt_model.specs.declared.operations.Op.{Op}
-use Rattle.mt_model.specs.declared.operations.Op.TheVariants.{Get, Insert, Update, Delete, Add, Read}
+use Rattle.mt_model.specs.declared.operations.Op.TheVariants.{Get, Insert, Update, Delete, Add, Read, Scan}
 use Rattle.mt_model.specs.declared.operations.Reply.{Reply}
 use Rattle.mt_model.specs.Model.{Base, reply_of, base_after}
 use Rattle.mt_space.specs.Changes.{PageBytes}
@@ -109,6 +109,7 @@ only_reads (Update r k v) = false
 only_reads (Delete r k) = false
 only_reads (Add c d) = false
 only_reads (Read c) = true
+only_reads (Scan r) = true
 
 -- what an operation may still append: for each page not yet written 12,317 bytes at most, and its end
 abbrev pub end_bytes : OpScope → ℕ

@@ -258,7 +258,7 @@ pub fn log_bytes_for(op: &Op) -> u64
     ensures { result ≡ (if only_reads op.now then 0 else OPERATION_LOG_BYTES) }
 {
     match op {
-        Op::Get(_, _) | Op::Read(_) => 0,
+        Op::Get(_, _) | Op::Read(_) | Op::Scan(_) => 0,
         _ => OPERATION_LOG_BYTES,
     }
 }

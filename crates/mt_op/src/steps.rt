@@ -28,7 +28,7 @@ use mt_model::{Op, Reply};
 use mt_plock::{PageGuard, PageLock, holds};
 use mt_space::pages::MAP;
 use mt_space::{Changes, Pages};
-use mt_steps::{Act, bytes_put, plan};
+use mt_steps::{Act, bytes_put, plan_over};
 use std::alloc::Global;
 
 impl<D: Device> Operations<D> {
@@ -100,9 +100,9 @@ impl<D: Device> Operations<D> {
             result }
     {
         let mut search = scope.search;
-        match plan(
+        match plan_over(
             alloc,
-            &scope.seen,
+            &mut scope.seen,
             scope.room,
             &scope.op,
             scope.split,

@@ -12,9 +12,9 @@ use Rattle.mt_model.specs.History.{Call, run, IsActed}
 use Rattle.mt_model.specs.declared.objects.Object.{Object}
 use Rattle.mt_model.specs.Model.{Base, object_of, IsBase, IsInBounds, reply_of, base_after, inverse_of, moved, stays, inserted, updated, done_unless, was}
 use Rattle.mt_model.proofs.Appends.{run-append}
-use Rattle.mt_model.proofs.Cells.{cell, next, says, reply-cell, cell-next, same-self}
+use Rattle.mt_model.proofs.Cells.{cell, next, says, reply-cell, cell-own, same-self, is_scan}
 use Rattle.mt_model.proofs.Steps.{stays_true}
-use Rattle.mt_model.proofs.Undo.{base_back}
+use Rattle.mt_model.proofs.Undo.{base_back, undone_no_scan, inverse_no_scan}
 use Rattle.mt_space.specs.Changes.{PageBytes}
 use Rattle.mt_steps.specs.Held.{Holds}
 use Rattle.mt_steps.specs.Plans.{IsGood, free_pages, own_needs}
@@ -70,13 +70,20 @@ says_back (logged.Update r k v old) b within is = after_update v old (b.rows r k
 says_back (logged.Delete r k old) b within is = refl
 says_back (logged.Add c s) b within is = after_add s (b.counts c) (stays (b.counts c) s) refl (within c) is
 
+-- neither is a scan
+done_no_scan : (d : LoggedOp) → is_scan (op_of d) ≡ false
+done_no_scan d = undone_no_scan (op_of d) (undo_of d) (reply_in d) (undo_is d)
+
+undo_no_scan : (d : LoggedOp) → is_scan (undo_of d) ≡ false
+undo_no_scan d = inverse_no_scan (op_of d) (undo_of d) (reply_in d) (undo_is d)
+
 -- it finds what the record says, where the operation found that
 pub reply_after : (d : LoggedOp) (b : Base) → IsBase b → reply_of b (op_of d) ≡ reply_in d → reply_of (base_after b (op_of d)) (undo_of d) ≡ reply_back d
 reply_after d b within is =
-    reply-cell (base_after b (op_of d)) (undo_of d)
+    reply-cell (base_after b (op_of d)) (undo_of d) (undo_no_scan d)
     ∙ ap (λ (x : Object). says (undo_of d) (cell (base_after b (op_of d)) x)) (undo_object d)
-    ∙ ap (says (undo_of d)) (cell-next b (op_of d) (object_of (op_of d)) ∙ ap (λ (t : Bool). cond t (next (op_of d) (cell b (object_of (op_of d)))) (cell b (object_of (op_of d)))) (same-self (object_of (op_of d))))
-    ∙ says_back d b within (sym (reply-cell b (op_of d)) ∙ is)
+    ∙ ap (says (undo_of d)) (cell-own b (op_of d) (object_of (op_of d)) (done_no_scan d) ∙ ap (λ (t : Bool). cond t (next (op_of d) (cell b (object_of (op_of d)))) (cell b (object_of (op_of d)))) (same-self (object_of (op_of d))))
+    ∙ says_back d b within (sym (reply-cell b (op_of d) (done_no_scan d)) ∙ is)
 
 -- ---- lists of losers
 

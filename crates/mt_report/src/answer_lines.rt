@@ -135,8 +135,8 @@ fn write_flushed<W: Write>(writer: &mut W, flushed: Flushed) -> Result<(), Unhea
     }
 }
 
-/// Writes what a kernel answered to an event, as one line. If the writer fails, it has written a beginning of
-/// the line.
+/// Writes what a kernel answered to an event: a line, and one more for each row of a scan. If the writer fails, it
+/// has written a beginning of them.
 fn write_reported<W: Write>(writer: &mut W, answer: &Answer) -> Result<(), Unheard>
     ensures all { OnOk result (Appends (W.contents writer.old) (W.contents writer.new) (reported_line answer.now)) }
     ensures front { OnErr result (AppendsFront (W.contents writer.old) (W.contents writer.new)

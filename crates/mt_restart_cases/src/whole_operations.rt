@@ -22,6 +22,7 @@ pub enum Outcome {
     Done,
     Was(usize),
     Value(i64),
+    Rows(usize),
     OutOfBounds,
     Committed(u64),
     Aborted,
@@ -57,6 +58,7 @@ fn reported_of(reply: &Reply) -> Outcome {
         Reply::Done => Outcome::Done,
         Reply::Was(value) => Outcome::Was(value.len()),
         Reply::Value(number) => Outcome::Value(*number),
+        Reply::Rows(rows) => Outcome::Rows(rows.as_slice().len()),
         Reply::OutOfBounds => Outcome::OutOfBounds,
     }
 }

@@ -5,3 +5,4 @@ pub mod Listings
 pub mod Relations
 pub mod Members
 mod Sorting
+pub mod Same

@@ -1,6 +1,8 @@
 -- The rows of one relation, in order, are known by its look-ups.
-use Rattle.std.proofs.Common.{◌≡◌, ℕ, suc, ◌==◌, Bool, true, false, cond, List, [], ◌∷◌, Option, Some, None, Less, refl, ap, sym, ◌∙◌, arith}
-use Rattle.std.specs.Prelude.{filter}
+use Rattle.std.proofs.Common.{◌≡◌, ℕ, suc, ◌==◌, Bool, true, false, cond, List, [], ◌∷◌, ◌+◌, ◌<◌, length, take, get_or, Option, Some, None, Less, refl, ap, sym, ◌∙◌, arith}
+use Rattle.std.specs.Prelude.{filter, ◌++◌}
+use Rattle.std.proofs.lemmas.List.Elements.{filter-append}
+use Rattle.std.proofs.lemmas.List.{take_more}
 use Rattle.mt_rows.specs.declared.rows.Row.{Row}
 use Rattle.mt_rows.specs.Rows.{row_order, IsOrdered, is_at, value_at}
 use Rattle.mt_rows.specs.Listing.{Listing, of_relation}
@@ -16,7 +18,7 @@ each_filter P p (x ∷ xs) h = go (each_filter P p xs (λ j d lt. h (suc j) d (o
     go rest true = each_cons P x (filter p xs) (h 0 x (omega arith)) rest
     go rest false = rest
 
-filter_ordered : (p : Row → Bool) (xs : List Row) → IsOrdered xs → IsOrdered (filter p xs)
+pub filter_ordered : (p : Row → Bool) (xs : List Row) → IsOrdered xs → IsOrdered (filter p xs)
 filter_ordered p [] h = h
 filter_ordered p (x ∷ xs) h = go (filter_ordered p xs (tail_ordered x xs h)) (p x)
   where
@@ -27,7 +29,7 @@ filter_ordered p (x ∷ xs) h = go (filter_ordered p xs (tail_ordered x xs h)) (
 abbrev the_none : Option (List ℕ)
 the_none = None
 
-filter_looks : (r : ℕ) (xs : List Row) (s : ℕ) (k : List ℕ) → value_at (filter (λ (x : Row). x.relation == r) xs) s k ≡ cond (s == r) (value_at xs s k) None
+pub filter_looks : (r : ℕ) (xs : List Row) (s : ℕ) (k : List ℕ) → value_at (filter (λ (x : Row). x.relation == r) xs) s k ≡ cond (s == r) (value_at xs s k) None
 filter_looks r [] s k = go (s == r)
   where
     go : (t : Bool) → the_none ≡ cond t the_none the_none
@@ -56,3 +58,10 @@ pub relations_are : (rows : ℕ → List ℕ → Option (List ℕ)) (l : Listing
 relations_are rows l r xs ordered looks =
     ordered_same (of_relation r l.sorted) xs (filter_ordered (λ (x : Row). x.relation == r) l.sorted l.rising) ordered
     (λ s k. filter_looks r l.sorted s k ∙ (ap (λ o. cond (s == r) o None) (l.complete s k) ∙ sym (looks s k)))
+
+-- of one row more
+pub of_relation_more : (r : ℕ) (xs : List Row) (i : ℕ) (x : Row) → x ≡ get_or xs i x → i < length xs
+    → of_relation r (take (i + 1) xs) ≡ of_relation r (take i xs) ++ cond (x.relation == r) (x ∷ []) []
+of_relation_more r xs i x is within =
+    let more : take (i + 1) xs ≡ take i xs ++ x ∷ [] = take_more xs i x within ∙ ap (λ y. take i xs ++ y ∷ []) (sym is) in
+    ap (of_relation r) more ∙ filter-append (λ (y : Row). y.relation == r) (take i xs) (x ∷ [])

@@ -1,9 +1,11 @@
 -- Rows in order, and what is under a key in them.
-use Rattle.std.specs.Prelude.{ℕ, ◌≡◌, ◌≢◌, ◌==◌, ◌&&◌, ◌<◌, ◌≤◌, Bool, cond, List, [], ◌∷◌, Option, Some, None, Result, MatchResult, length, bytes_eq, AllPairs}
+use Rattle.std.specs.Prelude.{ℕ, ◌≡◌, ◌≢◌, ◌==◌, ◌&&◌, ◌<◌, ◌≤◌, Bool, cond, List, [], ◌∷◌, Option, Some, None, Result, MatchResult, length, bytes_eq, nat_eq, AllPairs}
+use Rattle.std.specs.Ordering.{on, eq_of_both}
+use Rattle.std.specs.Cmp.{IsEquivalence, and_equiv, on_equiv, nat_eq_equiv}
 use Rattle.std.specs.declared.cmp.Ordering.{Ordering}
 use Rattle.std.specs.declared.cmp.Ordering.TheVariants.{Less, Equal, Greater}
 use Rattle.std.specs.Ordering.{nat_cmp, ordering_then}
-use Rattle.std.specs.Cmp.Lexicographic.{slice_cmp}
+use Rattle.std.specs.Cmp.Lexicographic.{slice_cmp, nat_list_eq_equiv}
 use Rattle.std.specs.List.{AllWithin, HoldsAt}
 use Rattle.mt_rows.specs.declared.rows.Row.{Row}
 
@@ -13,6 +15,17 @@ key_order r k s l = ordering_then (nat_cmp r s) (slice_cmp nat_cmp k l)
 
 abbrev pub row_order : Row → Row → Ordering
 row_order x y = key_order x.relation x.key y.relation y.key
+
+-- the same key and the same value
+abbrev pub same_row : Row → Row → Bool
+same_row = eq_of_both
+    (eq_of_both (on (λ (x : Row). x.relation) nat_eq) (on (λ (x : Row). x.key) bytes_eq))
+    (on (λ (x : Row). x.value) bytes_eq)
+
+pub same_row_equiv : IsEquivalence same_row
+same_row_equiv = and_equiv
+    (and_equiv (on_equiv (λ (x : Row). x.relation) nat_eq_equiv) (on_equiv (λ (x : Row). x.key) nat_list_eq_equiv))
+    (on_equiv (λ (x : Row). x.value) nat_list_eq_equiv)
 
 -- each row comes before all later ones, so that no key stands twice
 abbrev pub IsOrdered : List Row → Type 0

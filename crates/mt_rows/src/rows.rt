@@ -1,8 +1,11 @@
 // Values under keys, in order of relation and key.
-ghost use Rattle.std.specs.Prelude.{◌≡◌, IfOk, OnOk, OnErr, length, is_none};
+ghost use Rattle.std.specs.Prelude.{◌≡◌, ◌↔◌, IfOk, OnOk, OnErr, IsTrue, length, is_none};
 ghost use Rattle.std.specs.List.Sorted.{IsPermutation};
 ghost use Rattle.std.specs.Option.{option_copied};
-ghost use Rattle.mt_rows.specs.Rows.{key_order, IsOrdered, AreKeysOnce, value_at, inserted, updated, deleted, IsPlace, IsAltered};
+ghost use Rattle.std.specs.Cmp as order;
+ghost use Rattle.std.specs.Cmp.Lexicographic.{pointwise, lists_equiv};
+ghost use Rattle.mt_rows.specs.Listing.{of_relation};
+ghost use Rattle.mt_rows.specs.Rows.{key_order, same_row, same_row_equiv, IsOrdered, AreKeysOnce, value_at, inserted, updated, deleted, IsPlace, IsAltered};
 
 use mt_base::{Bytes, RelNo};
 use std::alloc::{AllocError, Global};
@@ -11,7 +14,7 @@ use std::marker::Model;
 use std::mem;
 
 /// A row of a relation: the value under a key.
-#[derive(Clone, Debug, Drop)]
+#[derive(Clone, PartialEq, Eq, Debug, Drop)]
 pub struct Row {
     pub relation: RelNo,
     pub key: Bytes,
@@ -36,6 +39,21 @@ impl Model for Rows {
     ghost invariant = { λ r. IsOrdered r.list.items };
 }
 
+/// Two are equal if each row is.
+impl PartialEq for Rows {
+    ghost eq = { pointwise same_row };
+
+    ghost laws = { order.partial_equiv_from_equiv (lists_equiv same_row_equiv) };
+
+    fn eq(&self, other: &Rows) -> bool {
+        self.list == other.list
+    }
+}
+
+impl Eq for Rows {
+    ghost laws = { lists_equiv same_row_equiv };
+}
+
 impl Row {
     /// How the row's key lies to another: by relation, then by bytes.
     fn order(&self, relation: RelNo, key: &Bytes) -> Ordering
@@ -45,6 +63,19 @@ impl Row {
             Ordering::Equal => self.key.cmp(key),
             other => other,
         }
+    }
+
+    /// A copy of the row. The only error is want of memory.
+    fn try_clone(&self) -> Result<Row, AllocError>
+        ensures { IfOk result (λ copy. copy ≡ self.now) }
+    {
+        let key = self.key.try_clone()?;
+        let value = self.value.try_clone()?;
+        Ok(Row {
+            relation: self.relation,
+            key,
+            value,
+        })
     }
 }
 
@@ -155,6 +186,27 @@ impl Rows {
             Ok(place) => Some(self.list.remove(place).value),
             Err(_) => None,
         }
+    }
+
+    /// A copy of one relation's rows. The only error is want of memory.
+    pub fn of_relation(&self, relation: RelNo) -> Result<Rows, AllocError>
+        ensures rows { IfOk result (λ rows. rows ≡ of_relation relation self.now) }
+        ensures ordered { IsOrdered self.now }
+    {
+        let mut list = Vec::new(*self.list.allocator());
+        for row in &self.list {
+            if row.relation == relation {
+                list.push(row.try_clone()?)?;
+            }
+        }
+        Ok(Rows { list })
+    }
+
+    /// Whether the two are the same rows.
+    pub fn equals(&self, other: &Rows) -> bool
+        ensures { IsTrue result ↔ (self.now ≡ other.now) }
+    {
+        self == other
     }
 
     /// A copy of the rows. The only error is want of memory.

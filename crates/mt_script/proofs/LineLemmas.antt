@@ -11,7 +11,7 @@ use Rattle.std.proofs.lemmas.Int.{ints}
 use Rattle.std.proofs.lemmas.Fmt.{decimal_injective}
 use Rattle.std.proofs.lemmas.List.Elements.{All-nil, All-cons, All-head, All-tail, All-weaker}
 use Rattle.mt_model.specs.declared.operations.Op.{Op}
-use Rattle.mt_model.specs.declared.operations.Op.TheVariants.{Get, Insert, Update, Delete, Add, Read}
+use Rattle.mt_model.specs.declared.operations.Op.TheVariants.{Get, Insert, Update, Delete, Add, Read, Scan}
 use Rattle.mt_script.specs.Whole.{decimal_digits, is_without}
 use Rattle.mt_script.specs.declared.lines.Line.{Line}
 use Rattle.mt_script.specs.declared.lines.Line.TheVariants.{Begin, Call, Commit, Abort}
@@ -70,6 +70,7 @@ word_of (Update r k v) = codes "update"
 word_of (Delete r k) = codes "delete"
 word_of (Add c n) = codes "add"
 word_of (Read c) = codes "read"
+word_of (Scan r) = codes "scan"
 
 abbrev pub rest_of : Op → List ℕ
 rest_of (Get r k) = decimal r ++ 32 ∷ k
@@ -78,6 +79,7 @@ rest_of (Update r k v) = decimal r ++ 32 ∷ k ++ 32 ∷ v
 rest_of (Delete r k) = decimal r ++ 32 ∷ k
 rest_of (Add c n) = decimal c ++ 32 ∷ signed_decimal n
 rest_of (Read c) = decimal c
+rest_of (Scan r) = decimal r
 
 pub op_words : (op : Op) → op_text op ≡ word_of op ++ 32 ∷ rest_of op
 op_words (Get r k) = refl
@@ -86,6 +88,7 @@ op_words (Update r k v) = refl
 op_words (Delete r k) = refl
 op_words (Add c n) = refl
 op_words (Read c) = refl
+op_words (Scan r) = refl
 
 -- where no c stands up to a place, no shorter front ends at a c
 pub no_cut : (c : ℕ) (xs more ys rest : List ℕ) → All (λ b. b ≢ c) xs → length ys < length xs → xs ++ more ≡ ys ++ c ∷ rest → ⊥
@@ -172,6 +175,7 @@ word_unspaced_of (Update r k v) = All-cons (λ b. b ≢ 32) 117 (112 ∷ 100 ∷
 word_unspaced_of (Delete r k) = All-cons (λ b. b ≢ 32) 100 (101 ∷ 108 ∷ 101 ∷ 116 ∷ 101 ∷ []) (omega arith) (All-cons (λ b. b ≢ 32) 101 (108 ∷ 101 ∷ 116 ∷ 101 ∷ []) (omega arith) (All-cons (λ b. b ≢ 32) 108 (101 ∷ 116 ∷ 101 ∷ []) (omega arith) (All-cons (λ b. b ≢ 32) 101 (116 ∷ 101 ∷ []) (omega arith) (All-cons (λ b. b ≢ 32) 116 (101 ∷ []) (omega arith) (All-cons (λ b. b ≢ 32) 101 ([]) (omega arith) (All-nil (λ b. b ≢ 32)))))))
 word_unspaced_of (Add c n) = All-cons (λ b. b ≢ 32) 97 (100 ∷ 100 ∷ []) (omega arith) (All-cons (λ b. b ≢ 32) 100 (100 ∷ []) (omega arith) (All-cons (λ b. b ≢ 32) 100 ([]) (omega arith) (All-nil (λ b. b ≢ 32))))
 word_unspaced_of (Read c) = All-cons (λ b. b ≢ 32) 114 (101 ∷ 97 ∷ 100 ∷ []) (omega arith) (All-cons (λ b. b ≢ 32) 101 (97 ∷ 100 ∷ []) (omega arith) (All-cons (λ b. b ≢ 32) 97 (100 ∷ []) (omega arith) (All-cons (λ b. b ≢ 32) 100 ([]) (omega arith) (All-nil (λ b. b ≢ 32)))))
+word_unspaced_of (Scan r) = All-cons (λ b. b ≢ 32) 115 (99 ∷ 97 ∷ 110 ∷ []) (omega arith) (All-cons (λ b. b ≢ 32) 99 (97 ∷ 110 ∷ []) (omega arith) (All-cons (λ b. b ≢ 32) 97 (110 ∷ []) (omega arith) (All-cons (λ b. b ≢ 32) 110 ([]) (omega arith) (All-nil (λ b. b ≢ 32)))))
 
 -- ---- what spells no operation
 
@@ -192,6 +196,7 @@ no_get words none (Update r k v) s = let e = first_of _ _ s.0 in let f : 103 ≡
 no_get words none (Delete r k) s = let e = first_of _ _ s.0 in let f : 103 ≡ 100 = e in omega (arith, f)
 no_get words none (Add c n) s = let e = first_of _ _ s.0 in let f : 103 ≡ 97 = e in omega (arith, f)
 no_get words none (Read c) s = let e = first_of _ _ s.0 in let f : 103 ≡ 114 = e in omega (arith, f)
+no_get words none (Scan r) s = let e = first_of _ _ s.0 in let f : 103 ≡ 115 = e in omega (arith, f)
 
 pub no_delete : (words : List ℕ) → ((r : ℕ) (k : List ℕ) → SpellsKey words r k → ⊥) → (op : Op) → SpellsOp (codes "delete" ++ 32 ∷ words) op → ⊥
 no_delete words none (Get r k) s = let e = first_of _ _ s.0 in let f : 100 ≡ 103 = e in omega (arith, f)
@@ -200,6 +205,7 @@ no_delete words none (Update r k v) s = let e = first_of _ _ s.0 in let f : 100 
 no_delete words none (Delete r k) s = none r k ((same_words (codes "delete") words (Delete r k) (word_unspaced_of (Delete r k)) s).1, s.1.0, s.1.1)
 no_delete words none (Add c n) s = let e = first_of _ _ s.0 in let f : 100 ≡ 97 = e in omega (arith, f)
 no_delete words none (Read c) s = let e = first_of _ _ s.0 in let f : 100 ≡ 114 = e in omega (arith, f)
+no_delete words none (Scan r) s = let e = first_of _ _ s.0 in let f : 100 ≡ 115 = e in omega (arith, f)
 
 pub no_insert : (words : List ℕ) → ((r : ℕ) (k v : List ℕ) → SpellsRow words r k v → ⊥) → (op : Op) → SpellsOp (codes "insert" ++ 32 ∷ words) op → ⊥
 no_insert words none (Get r k) s = let e = first_of _ _ s.0 in let f : 105 ≡ 103 = e in omega (arith, f)
@@ -208,6 +214,7 @@ no_insert words none (Update r k v) s = let e = first_of _ _ s.0 in let f : 105 
 no_insert words none (Delete r k) s = let e = first_of _ _ s.0 in let f : 105 ≡ 100 = e in omega (arith, f)
 no_insert words none (Add c n) s = let e = first_of _ _ s.0 in let f : 105 ≡ 97 = e in omega (arith, f)
 no_insert words none (Read c) s = let e = first_of _ _ s.0 in let f : 105 ≡ 114 = e in omega (arith, f)
+no_insert words none (Scan r) s = let e = first_of _ _ s.0 in let f : 105 ≡ 115 = e in omega (arith, f)
 
 pub no_update : (words : List ℕ) → ((r : ℕ) (k v : List ℕ) → SpellsRow words r k v → ⊥) → (op : Op) → SpellsOp (codes "update" ++ 32 ∷ words) op → ⊥
 no_update words none (Get r k) s = let e = first_of _ _ s.0 in let f : 117 ≡ 103 = e in omega (arith, f)
@@ -216,6 +223,7 @@ no_update words none (Update r k v) s = none r k v ((same_words (codes "update")
 no_update words none (Delete r k) s = let e = first_of _ _ s.0 in let f : 117 ≡ 100 = e in omega (arith, f)
 no_update words none (Add c n) s = let e = first_of _ _ s.0 in let f : 117 ≡ 97 = e in omega (arith, f)
 no_update words none (Read c) s = let e = first_of _ _ s.0 in let f : 117 ≡ 114 = e in omega (arith, f)
+no_update words none (Scan r) s = let e = first_of _ _ s.0 in let f : 117 ≡ 115 = e in omega (arith, f)
 
 pub no_add : (words : List ℕ) → ((c : ℕ) (n : ℤ) → words ≡ decimal c ++ 32 ∷ signed_decimal n → IsPlace c → IsWide n → ⊥) → (op : Op) → SpellsOp (codes "add" ++ 32 ∷ words) op → ⊥
 no_add words none (Get r k) s = let e = first_of _ _ s.0 in let f : 97 ≡ 103 = e in omega (arith, f)
@@ -224,6 +232,7 @@ no_add words none (Update r k v) s = let e = first_of _ _ s.0 in let f : 97 ≡ 
 no_add words none (Delete r k) s = let e = first_of _ _ s.0 in let f : 97 ≡ 100 = e in omega (arith, f)
 no_add words none (Add c n) s = none c n (same_words (codes "add") words (Add c n) (word_unspaced_of (Add c n)) s).1 s.1.0 s.1.1
 no_add words none (Read c) s = let e = first_of _ _ s.0 in let f : 97 ≡ 114 = e in omega (arith, f)
+no_add words none (Scan r) s = let e = first_of _ _ s.0 in let f : 97 ≡ 115 = e in omega (arith, f)
 
 -- the three ways in which words spell no add
 pub add_spaced : (words : List ℕ) → IsUnspaced words → (c : ℕ) (n : ℤ) → words ≡ decimal c ++ 32 ∷ signed_decimal n → IsPlace c → IsWide n → ⊥
@@ -233,15 +242,16 @@ pub add_cut : (words front back : List ℕ) → words ≡ front ++ 32 ∷ back �
     → (front ≡ decimal c) × (back ≡ signed_decimal n)
 add_cut words front back f h c n e p = same_cut 32 front (decimal c) back (signed_decimal n) h (decimal_unspaced c (omega (arith, p))) (sym f ∙ e)
 
--- a first word that is none of the six
-pub no_word : (word words : List ℕ) → IsUnspaced word → word ≢ codes "get" → word ≢ codes "insert" → word ≢ codes "update" → word ≢ codes "delete" → word ≢ codes "add" → word ≢ codes "read"
+-- a first word that is none of the seven
+pub no_word : (word words : List ℕ) → IsUnspaced word → word ≢ codes "get" → word ≢ codes "insert" → word ≢ codes "update" → word ≢ codes "delete" → word ≢ codes "add" → word ≢ codes "read" → word ≢ codes "scan"
     → (op : Op) → SpellsOp (word ++ 32 ∷ words) op → ⊥
-no_word word words h g i u d a r (Get t k) s = g (same_words word words (Get t k) h s).0
-no_word word words h g i u d a r (Insert t k v) s = i (same_words word words (Insert t k v) h s).0
-no_word word words h g i u d a r (Update t k v) s = u (same_words word words (Update t k v) h s).0
-no_word word words h g i u d a r (Delete t k) s = d (same_words word words (Delete t k) h s).0
-no_word word words h g i u d a r (Add c n) s = a (same_words word words (Add c n) h s).0
-no_word word words h g i u d a r (Read c) s = r (same_words word words (Read c) h s).0
+no_word word words h g i u d a r x (Get t k) s = g (same_words word words (Get t k) h s).0
+no_word word words h g i u d a r x (Insert t k v) s = i (same_words word words (Insert t k v) h s).0
+no_word word words h g i u d a r x (Update t k v) s = u (same_words word words (Update t k v) h s).0
+no_word word words h g i u d a r x (Delete t k) s = d (same_words word words (Delete t k) h s).0
+no_word word words h g i u d a r x (Add c n) s = a (same_words word words (Add c n) h s).0
+no_word word words h g i u d a r x (Read c) s = r (same_words word words (Read c) h s).0
+no_word word words h g i u d a r x (Scan t) s = x (same_words word words (Scan t) h s).0
 
 -- no operation is one word
 pub no_bare_op : (bytes : List ℕ) (op : Op) → IsUnspaced bytes → SpellsOp bytes op → ⊥

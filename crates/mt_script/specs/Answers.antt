@@ -1,17 +1,26 @@
 -- The texts of answers, and what a writer that fails has written.
-use Rattle.std.specs.Prelude.{ℕ, ◌≡◌, List, [], ◌∷◌, ◌++◌, Option, codes}
+use Rattle.std.specs.Prelude.{ℕ, ◌≡◌, List, [], ◌∷◌, ◌++◌, Option, codes, length, map}
 use Rattle.std.specs.Fmt.{decimal, signed_decimal}
 use Rattle.std.specs.Io.KnownBytes.{Appends}
+use Rattle.std.specs.List.{concat}
 use Rattle.mt_base.specs.Refusal.{text_of}
 use Rattle.mt_base.specs.declared.refusal.Refusal.TheVariants as refusal
 use Rattle.mt_model.specs.declared.operations.Reply.{Reply}
-use Rattle.mt_model.specs.declared.operations.Reply.TheVariants.{Found, Missing, Exists, Done, Was, Value, OutOfBounds}
+use Rattle.mt_model.specs.declared.operations.Reply.TheVariants.{Found, Missing, Exists, Done, Was, Value, Rows, OutOfBounds}
+use Rattle.mt_rows.specs.declared.rows.Row.{Row}
 use Rattle.mt_script.specs.declared.answers.Answer.{Answer}
 use Rattle.mt_script.specs.declared.answers.Answer.TheVariants.{Begun, Replied, Committed, Aborted, Refused}
 
 -- known bytes grow by a beginning of these
 abbrev pub AppendsFront : Option (List ℕ) → Option (List ℕ) → List ℕ → Type 0
 AppendsFront old new bytes = (front : List ℕ) × (rest : List ℕ) × (bytes ≡ front ++ rest) × Appends old new front
+
+-- a row's key and value, on a line of its own
+abbrev pub pair_line : Row → List ℕ
+pair_line row = 10 ∷ row.key ++ 32 ∷ row.value
+
+abbrev pub pair_lines : List Row → List ℕ
+pair_lines rows = concat (map pair_line rows)
 
 -- what an operation's reply is written as; the kernel never ends one out of a counter's bounds
 abbrev pub reply_text : Reply → List ℕ
@@ -21,6 +30,7 @@ reply_text Exists = codes "exists"
 reply_text Done = codes "done"
 reply_text (Was v) = codes "was " ++ v
 reply_text (Value n) = codes "value " ++ signed_decimal n
+reply_text (Rows xs) = codes "rows " ++ decimal (length xs) ++ pair_lines xs
 reply_text OutOfBounds = text_of refusal.Escrow
 
 -- what an answer is written as, without the end of its line

@@ -2,7 +2,7 @@
 use Rattle.std.specs.Prelude.{ℕ, ℤ, ◌≡◌, ◌≢◌, ◌≤◌, ◌<◌, ◌^◌, ◌≤ℤ◌, pos, neg_ℤ, List, ◌∷◌, ◌++◌, All, Option, length, codes, ⊤}
 use Rattle.std.specs.Fmt.{decimal, signed_decimal}
 use Rattle.mt_model.specs.declared.operations.Op.{Op}
-use Rattle.mt_model.specs.declared.operations.Op.TheVariants.{Get, Insert, Update, Delete, Add, Read}
+use Rattle.mt_model.specs.declared.operations.Op.TheVariants.{Get, Insert, Update, Delete, Add, Read, Scan}
 use Rattle.mt_script.specs.Grammars.{ReadsIn, SpellsIn}
 use Rattle.mt_script.specs.declared.lines.Line.{Line}
 use Rattle.mt_script.specs.declared.lines.Line.TheVariants.{Begin, Call, Commit, Abort}
@@ -47,6 +47,7 @@ op_text (Update r k v) = codes "update" ++ 32 ∷ decimal r ++ 32 ∷ k ++ 32 �
 op_text (Delete r k) = codes "delete" ++ 32 ∷ decimal r ++ 32 ∷ k
 op_text (Add c n) = codes "add" ++ 32 ∷ decimal c ++ 32 ∷ signed_decimal n
 op_text (Read c) = codes "read" ++ 32 ∷ decimal c
+op_text (Scan r) = codes "scan" ++ 32 ∷ decimal r
 
 -- an operation that can be spelled
 abbrev pub IsSpelled : Op → Type 0
@@ -56,6 +57,7 @@ IsSpelled (Update r k v) = IsPlace r × IsWord k × IsText v
 IsSpelled (Delete r k) = IsPlace r × IsWord k
 IsSpelled (Add c n) = IsPlace c × IsWide n
 IsSpelled (Read c) = IsPlace c
+IsSpelled (Scan r) = IsPlace r
 
 -- the bytes spell the operation
 abbrev pub SpellsOp : List ℕ → Op → Type 0

@@ -9,7 +9,7 @@ use Rattle.std.proofs.lemmas.Fmt.{decimal_by_steps}
 use Rattle.std.proofs.lemmas.Int.{ints}
 use Rattle.std.proofs.lemmas.List.Elements.{All-nil, All-cons, All-push, All-append, All-weaker}
 use Rattle.mt_model.specs.declared.operations.Op.{Op}
-use Rattle.mt_model.specs.declared.operations.Op.TheVariants.{Get, Insert, Update, Delete, Add, Read}
+use Rattle.mt_model.specs.declared.operations.Op.TheVariants.{Get, Insert, Update, Delete, Add, Read, Scan}
 use Rattle.mt_script.specs.declared.lines.Line.{Line}
 use Rattle.mt_script.specs.declared.lines.Line.TheVariants.{Begin, Call, Commit, Abort}
 use Rattle.mt_script.specs.Lines.{IsWord, IsText, IsWide, IsSpelled, op_text, line_text, IsInGrammar}
@@ -77,6 +77,8 @@ op_whole (Delete r k) s = two_whole (codes "delete") r k refl s.0 (key_whole k s
 op_whole (Add c n) s = two_whole (codes "add") c (signed_decimal n) refl s.0 (step_whole n s.1)
 op_whole (Read c) s =
     spaced (codes "read") (decimal c) (is_without 10 (codes "read") refl) (decimal_whole c (omega (arith, s)))
+op_whole (Scan r) s =
+    spaced (codes "scan") (decimal r) (is_without 10 (codes "scan") refl) (decimal_whole r (omega (arith, s)))
 
 pub line_whole : (line : Line) → IsInGrammar line → IsWhole (line_text line)
 line_whole Begin s = is_without 10 (codes "begin") refl

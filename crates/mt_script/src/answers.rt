@@ -4,11 +4,12 @@ ghost use Rattle.std.specs.Fmt.{decimal, signed_decimal};
 ghost use Rattle.std.specs.List.{concat};
 ghost use Rattle.std.specs.Io.KnownBytes.{Appends};
 ghost use Rattle.mt_base.specs.Refusal.{text_of};
-ghost use Rattle.mt_script.specs.Answers.{AppendsFront, reply_text, answer_text};
+ghost use Rattle.mt_model.specs.declared.operations.Reply.TheVariants.{Rows};
+ghost use Rattle.mt_script.specs.Answers.{AppendsFront, pair_lines, reply_text, answer_text};
 
 use itoa::Buffer;
 use mt_base::Refusal;
-use mt_model::Reply;
+use mt_model::{Reply, Row};
 use std::io::{ErrorKind, Write};
 
 /// What is answered to a line of a script.
@@ -72,7 +73,36 @@ pub fn put_all<W: Write>(writer: &mut W, pieces: &[&[u8]]) -> Result<(), Unheard
     Ok(())
 }
 
-/// Writes what an operation replied, as one line. If the writer fails, it has written a beginning of the line.
+/// Writes each row's key and value, the start of a line before them.
+fn write_pair_lines<W: Write>(writer: &mut W, rows: &[Row]) -> Result<(), Unheard>
+    ensures all { OnOk result (Appends (W.contents writer.old) (W.contents writer.new) (pair_lines rows.now)) }
+    ensures front { OnErr result (AppendsFront (W.contents writer.old) (W.contents writer.new) (pair_lines rows.now)) }
+{
+    for row in rows {
+        put_all(
+            writer,
+            &[b"\n", row.key.as_slice(), b" ", row.value.as_slice()],
+        )?;
+    }
+    Ok(())
+}
+
+/// Writes rows: a line with their number, and one for each row.
+fn write_rows<W: Write>(writer: &mut W, rows: &[Row]) -> Result<(), Unheard>
+    ensures all { OnOk result (Appends (W.contents writer.old) (W.contents writer.new)
+        (reply_text (Rows rows.now) ++ 10 ∷ [])) }
+    ensures front { OnErr result (AppendsFront (W.contents writer.old) (W.contents writer.new)
+        (reply_text (Rows rows.now) ++ 10 ∷ [])) }
+{
+    let mut digits = Buffer::new();
+    let count = digits.format(rows.len());
+    put_all(writer, &[b"rows ", count.as_bytes()])?;
+    write_pair_lines(writer, rows)?;
+    put(writer, b"\n")
+}
+
+/// Writes what an operation replied: one line, and one more for each row of a scan. If the writer fails, it has
+/// written a beginning of them.
 pub fn write_reply<W: Write>(writer: &mut W, reply: &Reply) -> Result<(), Unheard>
     ensures all { OnOk result (Appends (W.contents writer.old) (W.contents writer.new)
         (reply_text reply.now ++ 10 ∷ [])) }
@@ -90,6 +120,7 @@ pub fn write_reply<W: Write>(writer: &mut W, reply: &Reply) -> Result<(), Unhear
             let digits = digits.format(*number);
             put_all(writer, &[b"value ", digits.as_bytes(), b"\n"])
         }
+        Reply::Rows(rows) => write_rows(writer, rows.as_slice()),
         Reply::OutOfBounds => write_refusal(writer, Refusal::Escrow),
     }
 }
@@ -116,7 +147,7 @@ fn write_refusal<W: Write>(writer: &mut W, refusal: Refusal) -> Result<(), Unhea
     }
 }
 
-/// Writes an answer as one line. If the writer fails, it has written a beginning of the line.
+/// Writes an answer and the end of its last line. If the writer fails, it has written a beginning of them.
 pub fn write_answer<W: Write>(writer: &mut W, answer: &Answer) -> Result<(), Unheard>
     ensures all { OnOk result (Appends (W.contents writer.old) (W.contents writer.new)
         (answer_text answer.now ++ 10 ∷ [])) }

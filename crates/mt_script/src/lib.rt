@@ -1,5 +1,5 @@
-//! Scripts and transcripts as text. A script is read whole, line by line, by a [`Grammar`] of its lines. Each line of
-//! a transcript is the text of an [`Answer`].
+//! Scripts and transcripts as text. A script is read whole, line by line, by a [`Grammar`] of its lines. A transcript
+//! is the texts of [`Answer`]s: a line each, and one more for each row of a scan.
 //!
 //! Readers and writers are passed in, and their bytes are what contracts speak of. Begin at [`read_script`].
 #![tactic(auto)]

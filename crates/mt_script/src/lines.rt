@@ -17,6 +17,7 @@ use std::alloc::{AllocError, Global};
 /// | `get R K` | the value under key K of relation R |
 /// | `insert R K V`, `update R K V`, `delete R K` | a change of the row under that key |
 /// | `add C N`, `read C` | a step of counter C, or its number |
+/// | `scan R` | all rows of relation R |
 /// | `commit`, `abort` | the end of the transaction |
 ///
 /// One space stands between two words. R and C are 0 to 65535 and N fits 64 bits with its sign. All are decimal
@@ -239,6 +240,15 @@ fn read_of(alloc: Global, words: &[u8]) -> Result<Option<Op>, AllocError>
     }
 }
 
+fn scan_of(alloc: Global, words: &[u8]) -> Result<Option<Op>, AllocError>
+    ensures { IfOk result (ReadsOp (codes "scan" ++ 32 ∷ words.now)) }
+{
+    match place_of(alloc, words)? {
+        Some(relation) => Ok(Some(Op::Scan(RelNo::new(relation)))),
+        None => Ok(None),
+    }
+}
+
 /// The operation of its first word and the words after it.
 fn op_with(alloc: Global, word: &[u8], words: &[u8]) -> Result<Option<Op>, AllocError>
     requires { IsUnspaced word.now }
@@ -256,6 +266,8 @@ fn op_with(alloc: Global, word: &[u8], words: &[u8]) -> Result<Option<Op>, Alloc
         add_of(alloc, words)
     } else if is_text_of(word, "read") {
         read_of(alloc, words)
+    } else if is_text_of(word, "scan") {
+        scan_of(alloc, words)
     } else {
         Ok(None)
     }
@@ -338,6 +350,6 @@ impl Grammar for ScriptGrammar {
     }
 
     fn words() -> &'static str {
-        "begin, get, insert, update, delete, add, read, commit, abort"
+        "begin, get, insert, update, delete, add, read, scan, commit, abort"
     }
 }

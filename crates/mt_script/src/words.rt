@@ -21,6 +21,8 @@ pub enum ScriptWord {
     Add,
     /// `read`
     Read,
+    /// `scan`
+    Scan,
     /// `commit`
     Commit,
     /// `abort`
@@ -45,6 +47,8 @@ pub(crate) fn script_word(bytes: &[u8]) -> Option<ScriptWord>
         Some(ScriptWord::Add)
     } else if is_text_of(bytes, "read") {
         Some(ScriptWord::Read)
+    } else if is_text_of(bytes, "scan") {
+        Some(ScriptWord::Scan)
     } else if is_text_of(bytes, "commit") {
         Some(ScriptWord::Commit)
     } else if is_text_of(bytes, "abort") {
@@ -66,6 +70,7 @@ pub(crate) fn script_form(word: ScriptWord) -> &'static str
         ScriptWord::Delete => "delete RELATION KEY",
         ScriptWord::Add => "add COUNTER AMOUNT",
         ScriptWord::Read => "read COUNTER",
+        ScriptWord::Scan => "scan RELATION",
         ScriptWord::Commit => "commit",
         ScriptWord::Abort => "abort",
     }

@@ -16,10 +16,10 @@ use Rattle.mt_script.specs.declared.lines.Line.TheVariants as line
 use Rattle.mt_alone.specs.Plays.{Runs, starts, goes_on}
 use Rattle.mt_server.specs.Heard.{Heard, Hears, IsRefusable, begins, refuses}
 use Rattle.mt_server.specs.Hearing.{AreFew, Place, Ending, HasFailed, HasRan, HasServed, IsAt, IsStopped, IsTurned, Reached, Running, Served, Turning, Turns, and_begin, between, entry_of, within}
-use Rattle.mt_server.specs.declared.attempts.Ran.{Ran}
-use Rattle.mt_server.specs.declared.attempts.Ran.TheVariants as ran
-use Rattle.mt_server.specs.declared.line_answers.Stop.{Stop}
-use Rattle.mt_server.specs.declared.line_answers.Stop.TheVariants as stop
+use Rattle.mt_server.specs.declared.attempts.Progress.{Progress}
+use Rattle.mt_server.specs.declared.attempts.Progress.TheVariants as progress
+use Rattle.mt_server.specs.declared.line_answers.Halt.{Halt}
+use Rattle.mt_server.specs.declared.line_answers.Halt.TheVariants as halt
 use Rattle.mt_alone.proofs.TranscriptLemmas.{all_reported, none_reported, runs_then}
 use Rattle.mt_locked.specs.Seen.{PassSeen, fresh}
 
@@ -77,13 +77,13 @@ module _ (b : Base) (session : ℕ) where
   pub waits_on : (l : Line) (mid now : List ℕ) (t kept : Entry) (pass new : PassSeen) → Turning b t pass l mid now new (Ok (Some kept)) → new ≡ pass
   waits_on l mid now t kept pass new turning = (turning []).waits
 
-  pub ended_at : (start : Place) (lines : List Line) (n : ℕ) (was now : List ℕ) (new : PassSeen) → n ≤ length lines → Reached b session start (take n lines) was now None new → HasRan b session start lines was now new (ran.Ended n)
+  pub ended_at : (start : Place) (lines : List Line) (n : ℕ) (was now : List ℕ) (new : PassSeen) → n ≤ length lines → Reached b session start (take n lines) was now None new → HasRan b session start lines was now new (progress.Ended n)
   ended_at start lines n was now new le r = (r.end, r.pass_is, r.at, le, r.served)
 
-  pub stopped_at : (start : Place) (lines : List Line) (n : ℕ) (l : Line) (was mid now : List ℕ) (t : Entry) (pass new : PassSeen) (s : Stop) → pass ≡ start.pass → Reached b session start (take n lines) was mid (Some t) pass
+  pub stopped_at : (start : Place) (lines : List Line) (n : ℕ) (l : Line) (was mid now : List ℕ) (t : Entry) (pass new : PassSeen) (s : Halt) → pass ≡ start.pass → Reached b session start (take n lines) was mid (Some t) pass
       → Turning b t pass l mid now new (Err s) → Running b session start lines was now new (Err s)
-  stopped_at start lines n l was mid now t pass new stop.Died same r (stays, front) = (stays ∙ same, prefix_trans was mid now (served_prefix start r.end (take n lines) was mid r.served) front)
-  stopped_at start lines n l was mid now t pass new stop.Failed same r (stays, text) = record {
+  stopped_at start lines n l was mid now t pass new halt.Died same r (stays, front) = (stays ∙ same, prefix_trans was mid now (served_prefix start r.end (take n lines) was mid r.served) front)
+  stopped_at start lines n l was mid now t pass new halt.Failed same r (stays, text) = record {
     before = take n lines;
     rest = drop n lines;
     split = sym (take-append-drop n lines);
@@ -93,15 +93,15 @@ module _ (b : Base) (session : ℕ) where
     served = r.served;
     text = text;
   }
-  stopped_at start lines n l was mid now t pass new stop.Unheard same r stopped = tt
+  stopped_at start lines n l was mid now t pass new halt.Unheard same r stopped = tt
 
-  pub at_end : (start : Place) (lines : List Line) (was mid now : List ℕ) (t : Entry) (pass new : PassSeen) (result : Result Ran Stop) → Reached b session start (take (length lines) lines) was mid (Some t) pass
+  pub at_end : (start : Place) (lines : List Line) (was mid now : List ℕ) (t : Entry) (pass new : PassSeen) (result : Result Progress Halt) → Reached b session start (take (length lines) lines) was mid (Some t) pass
       → Ending pass mid now new result → Running b session start lines was now new result
-  at_end start lines was mid now t pass new (Ok (ran.Ended count)) r ends = absurd ends
-  at_end start lines was mid now t pass new (Ok ran.AtEnd) r (stays, text) =
+  at_end start lines was mid now t pass new (Ok (progress.Ended count)) r ends = absurd ends
+  at_end start lines was mid now t pass new (Ok progress.AtEnd) r (stays, text) =
       (r.end, mid, r.pass_is ∙ sym stays, subst (λ (u : Option (List Call)). IsSome u) (sym r.at.0) refl, subst (λ (ls : List Line). HasServed b session start ls was mid r.end) (take-length lines) r.served, text)
-  at_end start lines was mid now t pass new (Err stop.Died) r ends = absurd ends
-  at_end start lines was mid now t pass new (Err stop.Failed) r (stays, text) = record {
+  at_end start lines was mid now t pass new (Err halt.Died) r ends = absurd ends
+  at_end start lines was mid now t pass new (Err halt.Failed) r (stays, text) = record {
     before = lines;
     rest = [];
     split = sym (append-nil lines);
@@ -111,27 +111,27 @@ module _ (b : Base) (session : ℕ) where
     served = subst (λ (ls : List Line). HasServed b session start ls was mid r.end) (take-length lines) r.served;
     text = text;
   }
-  at_end start lines was mid now t pass new (Err stop.Unheard) r ends = tt
+  at_end start lines was mid now t pass new (Err halt.Unheard) r ends = tt
 
   -- ---- from the begin on
 
-  pub few_ran : (start : Place) (lines : List Line) (was now : List ℕ) (new : PassSeen) (result : Result Ran Stop) → length lines + 1 < 2 ^ 64 → Running b session start lines was now new result → AreFew result
-  few_ran start lines was now new (Ok (ran.Ended count)) room (end, pass_is, ended, le, served) = omega (arith, room, le)
-  few_ran start lines was now new (Ok ran.AtEnd) room r = tt
+  pub few_ran : (start : Place) (lines : List Line) (was now : List ℕ) (new : PassSeen) (result : Result Progress Halt) → length lines + 1 < 2 ^ 64 → Running b session start lines was now new result → AreFew result
+  few_ran start lines was now new (Ok (progress.Ended count)) room (end, pass_is, ended, le, served) = omega (arith, room, le)
+  few_ran start lines was now new (Ok progress.AtEnd) room r = tt
   few_ran start lines was now new (Err s) room r = tt
 
   begun : (booked : List (ℕ × List Call)) (pass : PassSeen) (was mid : List ℕ) → mid ≡ was ++ transcript_text (Begun ∷ []) → HasServed b session (between booked pass) (line.Begin ∷ []) was mid (within booked [] pass)
   begun booked pass was mid text = one_served (between booked pass) (within booked [] pass) line.Begin Begun was mid (record { hears = begins refl; grows = refl }) text
 
-  pub run_behind : (booked : List (ℕ × List Call)) (pass : PassSeen) (lines : List Line) (was mid now : List ℕ) (new : PassSeen) (result : Result Ran Stop) → mid ≡ was ++ transcript_text (Begun ∷ [])
+  pub run_behind : (booked : List (ℕ × List Call)) (pass : PassSeen) (lines : List Line) (was mid now : List ℕ) (new : PassSeen) (result : Result Progress Halt) → mid ≡ was ++ transcript_text (Begun ∷ [])
       → Running b session (within booked [] pass) lines mid now new result → Running b session (between booked pass) (line.Begin ∷ lines) was now new (and_begin result)
-  run_behind booked pass lines was mid now new (Ok (ran.Ended count)) text (end, pass_is, ended, le, served) =
+  run_behind booked pass lines was mid now new (Ok (progress.Ended count)) text (end, pass_is, ended, le, served) =
       (end, pass_is, ended, omega (arith, le), served_then (between booked pass) (within booked [] pass) end (line.Begin ∷ []) (take count lines) was mid now (begun booked pass was mid text) served)
-  run_behind booked pass lines was mid now new (Ok ran.AtEnd) text (end, at, pass_is, live, served, outcome) =
+  run_behind booked pass lines was mid now new (Ok progress.AtEnd) text (end, at, pass_is, live, served, outcome) =
       (end, at, pass_is, live, served_then (between booked pass) (within booked [] pass) end (line.Begin ∷ []) lines was mid at (begun booked pass was mid text) served, outcome)
-  run_behind booked pass lines was mid now new (Err stop.Died) text (stays, front) =
+  run_behind booked pass lines was mid now new (Err halt.Died) text (stays, front) =
       (stays, prefix_trans was mid now (transcript_text (Begun ∷ []), sym text) front)
-  run_behind booked pass lines was mid now new (Err stop.Failed) text f = record {
+  run_behind booked pass lines was mid now new (Err halt.Failed) text f = record {
     before = line.Begin ∷ f.before;
     rest = f.rest;
     split = ap (λ (ls : List Line). line.Begin ∷ ls) f.split;
@@ -141,17 +141,17 @@ module _ (b : Base) (session : ℕ) where
     served = served_then (between booked pass) (within booked [] pass) f.end (line.Begin ∷ []) f.before was mid f.mid (begun booked pass was mid text) f.served;
     text = f.text;
   }
-  run_behind booked pass lines was mid now new (Err stop.Unheard) text u = tt
+  run_behind booked pass lines was mid now new (Err halt.Unheard) text u = tt
 
   pub begin_refused : (booked : List (ℕ × List Call)) (pass new : PassSeen) (lines : List Line) (why : Refusal) (was now : List ℕ) → IsRefusable None line.Begin why → new ≡ pass → now ≡ was ++ transcript_text (Refused why ∷ [])
-      → HasRan b session (between booked pass) (line.Begin ∷ lines) was now new (ran.Ended 1)
+      → HasRan b session (between booked pass) (line.Begin ∷ lines) was now new (progress.Ended 1)
   begin_refused booked pass new lines why was now lets same text =
       (between booked pass, sym same, refl, omega arith, one_served (between booked pass) (between booked pass) line.Begin (Refused why) was now (record { hears = refuses line.Begin why lets; grows = refl }) text)
 
-  pub begin_failed : (booked : List (ℕ × List Call)) (pass new : PassSeen) (lines : List Line) (was now : List ℕ) (s : Stop) → new ≡ pass → s ≢ stop.Died → ((p : PassSeen) → IsStopped p was now p s)
+  pub begin_failed : (booked : List (ℕ × List Call)) (pass new : PassSeen) (lines : List Line) (was now : List ℕ) (s : Halt) → new ≡ pass → s ≢ halt.Died → ((p : PassSeen) → IsStopped p was now p s)
       → Running b session (between booked pass) lines was now new (Err s)
-  begin_failed booked pass new lines was now stop.Died same lives stops = absurd (lives refl)
-  begin_failed booked pass new lines was now stop.Failed same lives stops = record {
+  begin_failed booked pass new lines was now halt.Died same lives stops = absurd (lives refl)
+  begin_failed booked pass new lines was now halt.Failed same lives stops = record {
     before = [];
     rest = lines;
     split = refl;
@@ -161,30 +161,30 @@ module _ (b : Base) (session : ℕ) where
     served = none_served (between booked pass) was;
     text = (stops pass).1;
   }
-  begin_failed booked pass new lines was now stop.Unheard same lives stops = tt
+  begin_failed booked pass new lines was now halt.Unheard same lives stops = tt
 
   -- an answer that found no memory says nothing
-  pub unheard : (start : Place) (lines : List Line) (was now : List ℕ) (new : PassSeen) (s : Stop) → s ≡ stop.Unheard → Running b session start lines was now new (Err s)
-  unheard start lines was now new s is = subst (λ (x : Stop). Running b session start lines was now new (Err x)) (sym is) tt
+  pub unheard : (start : Place) (lines : List Line) (was now : List ℕ) (new : PassSeen) (s : Halt) → s ≡ halt.Unheard → Running b session start lines was now new (Err s)
+  unheard start lines was now new s is = subst (λ (x : Halt). Running b session start lines was now new (Err x)) (sym is) tt
 
   -- with the token that the begin gave
-  pub run_fresh : (booked : List (ℕ × List Call)) (pass at : PassSeen) (txn : Entry) (lines : List Line) (was mid now : List ℕ) (new : PassSeen) (result : Result Ran Stop) → at ≡ pass → txn ≡ fresh pass.number session → mid ≡ was ++ transcript_text (Begun ∷ [])
+  pub run_fresh : (booked : List (ℕ × List Call)) (pass at : PassSeen) (txn : Entry) (lines : List Line) (was mid now : List ℕ) (new : PassSeen) (result : Result Progress Halt) → at ≡ pass → txn ≡ fresh pass.number session → mid ≡ was ++ transcript_text (Begun ∷ [])
       → Running b txn.done.session (within booked txn.done.calls at) lines mid now new result → Running b session (between booked pass) (line.Begin ∷ lines) was now new (and_begin result)
   run_fresh booked pass at txn lines was mid now new result same token text runs =
       run_behind booked pass lines was mid now new result text (subst (λ (x : Entry × PassSeen). Running b x.0.done.session (within booked x.0.done.calls x.1) lines mid now new result) (λ i. (token i, same i)) runs)
 
   -- from where the loop began
-  pub same_start : (booked : List (ℕ × List Call)) (pass at : PassSeen) (lines : List Line) (was mid now : List ℕ) (new : PassSeen) (result : Result Ran Stop) → at ≡ pass → mid ≡ was
+  pub same_start : (booked : List (ℕ × List Call)) (pass at : PassSeen) (lines : List Line) (was mid now : List ℕ) (new : PassSeen) (result : Result Progress Halt) → at ≡ pass → mid ≡ was
       → Running b session (between booked at) lines mid now new result → Running b session (between booked pass) lines was now new result
   same_start booked pass at lines was mid now new result same text runs =
       subst (λ (x : PassSeen × List ℕ). Running b session (between booked x.0) lines x.1 now new result) (λ i. (same i, text i)) runs
 
   pub outside : (booked : List (ℕ × List Call)) (pass : PassSeen) (lines : List Line) (at : ℕ) (l : Line) (was now : List ℕ) → at < length lines → l ≡ get_or lines at l → (l ≡ line.Begin → ⊥) → now ≡ was ++ transcript_text (Refused refusal.Stranger ∷ [])
-      → HasRan b session (between booked pass) (drop at lines) was now pass (ran.Ended 1)
+      → HasRan b session (between booked pass) (drop at lines) was now pass (progress.Ended 1)
   outside booked pass lines at l was now lt is other text =
       let first : drop at lines ≡ l ∷ drop (suc at) lines = drop-cons lines at l lt ∙ ap (λ (y : Line). y ∷ drop (suc at) lines) (sym is) in
       let turns : Turns b session (between booked pass) l (Refused refusal.Stranger) (between booked pass) = record { hears = refuses l refusal.Stranger (stranger l other); grows = refl } in
-      subst (λ (ls : List Line). HasRan b session (between booked pass) ls was now pass (ran.Ended 1)) (sym first)
+      subst (λ (ls : List Line). HasRan b session (between booked pass) ls was now pass (progress.Ended 1)) (sym first)
       (between booked pass, refl, refl, omega arith, one_served (between booked pass) (between booked pass) l (Refused refusal.Stranger) was now turns text)
     where
       stranger : (x : Line) → (x ≡ line.Begin → ⊥) → IsRefusable None x refusal.Stranger
@@ -193,7 +193,7 @@ module _ (b : Base) (session : ℕ) where
       stranger line.Commit not_begin = refl
       stranger line.Abort not_begin = refl
 
-  pub from_begin : (booked : List (ℕ × List Call)) (pass : PassSeen) (lines : List Line) (at : ℕ) (l : Line) (was now : List ℕ) (new : PassSeen) (result : Result Ran Stop) → at < length lines → l ≡ get_or lines at l → l ≡ line.Begin
+  pub from_begin : (booked : List (ℕ × List Call)) (pass : PassSeen) (lines : List Line) (at : ℕ) (l : Line) (was now : List ℕ) (new : PassSeen) (result : Result Progress Halt) → at < length lines → l ≡ get_or lines at l → l ≡ line.Begin
       → Running b session (between booked pass) (line.Begin ∷ drop (suc at) lines) was now new result → Running b session (between booked pass) (drop at lines) was now new result
   from_begin booked pass lines at l was now new result lt is begin runs =
       let first : drop at lines ≡ line.Begin ∷ drop (suc at) lines = drop-cons lines at l lt ∙ ap (λ (y : Line). y ∷ drop (suc at) lines) (sym is ∙ begin) in

@@ -15,8 +15,8 @@ use Rattle.mt_script.specs.declared.lines.Line.{Line}
 use Rattle.mt_script.specs.declared.lines.Line.TheVariants as line
 use Rattle.mt_server.specs.Heard.{Heard, Hears, replies, commits, aborts, dies, refuses, IsRefusable, LetsGoOn, LetsLive}
 use Rattle.mt_server.specs.Hearing.{Place, Ending, entry_of, IsAt, IsStopped, IsTurned, Telling, Turning, Waits, between, within}
-use Rattle.mt_server.specs.declared.line_answers.Stop.{Stop}
-use Rattle.mt_server.specs.declared.line_answers.Stop.TheVariants as stop
+use Rattle.mt_server.specs.declared.line_answers.Halt.{Halt}
+use Rattle.mt_server.specs.declared.line_answers.Halt.TheVariants as halt
 use Rattle.mt_locked.specs.Seen.{PassSeen, Extends, with_call}
 use Rattle.mt_txn.specs.Causes.{size_cause}
 
@@ -33,7 +33,7 @@ lets_go_on _ well = tt
 pub gone_not_back : (o : Option Entry) (t : Entry) → o ≡ None → o ≡ Some t → ⊥
 gone_not_back o t gone back = let wrong : ◌≡◌ {A = Option Entry} None (Some t) = sym gone ∙ back in absurd cc
 
-pub stops_behind : (pass new : PassSeen) (was now : List ℕ) (s : Stop) → new ≡ pass → ((p : PassSeen) → IsStopped p was now p s) → IsStopped pass was now new s
+pub stops_behind : (pass new : PassSeen) (was now : List ℕ) (s : Halt) → new ≡ pass → ((p : PassSeen) → IsStopped p was now p s) → IsStopped pass was now new s
 stops_behind pass new was now s same stops = subst (λ (x : PassSeen). IsStopped pass was now x s) (sym same) (stops pass)
 
 module _ (b : Base) (txn : Entry) (pass : PassSeen) (own : txn.pass ≡ pass.number) where
@@ -41,7 +41,7 @@ module _ (b : Base) (txn : Entry) (pass : PassSeen) (own : txn.pass ≡ pass.num
   token_is : (t : Entry) (new : PassSeen) → t.pass ≡ pass.number → new ≡ pass → t ≡ entry_of new.number t.done.session t.done.calls
   token_is t new mine same = ap (λ (n : ℕ). entry_of n t.done.session t.done.calls) (mine ∙ ap (λ (x : PassSeen). x.number) (sym same))
 
-  pub reported_refused : (l : Line) (why : Refusal) (was now : List ℕ) (new : PassSeen) (r : Result (Option Entry) Stop) → IsRefusable (Some txn.done.calls) l why → Telling txn pass was now new (Refused why) r → Turning b txn pass l was now new r
+  pub reported_refused : (l : Line) (why : Refusal) (was now : List ℕ) (new : PassSeen) (r : Result (Option Entry) Halt) → IsRefusable (Some txn.done.calls) l why → Telling txn pass was now new (Refused why) r → Turning b txn pass l was now new r
   reported_refused l why was now new (Ok token) may (same, stays, text) = λ booked.
       let end : Place = within booked txn.done.calls new in
       record {
@@ -55,7 +55,7 @@ module _ (b : Base) (txn : Entry) (pass : PassSeen) (own : txn.pass ≡ pass.num
       }
   reported_refused l why was now new (Err s) may stopped = stopped
 
-  pub reported_reply : (op : Op) (reply : Reply) (was now : List ℕ) (new : PassSeen) (r : Result (Option Entry) Stop) → size_cause op ≡ None → Telling (with_call txn op reply) pass was now new (Replied reply) r → Turning b txn pass (line.Call op) was now new r
+  pub reported_reply : (op : Op) (reply : Reply) (was now : List ℕ) (new : PassSeen) (r : Result (Option Entry) Halt) → size_cause op ≡ None → Telling (with_call txn op reply) pass was now new (Replied reply) r → Turning b txn pass (line.Call op) was now new r
   reported_reply op reply was now new (Ok token) sized (same, stays, text) = λ booked.
       let calls : List Call = txn.done.calls ++ (op, reply) ∷ [] in
       let end : Place = within booked calls new in
@@ -105,13 +105,13 @@ module _ (b : Base) (txn : Entry) (pass : PassSeen) (own : txn.pass ≡ pass.num
         text = text;
       }
 
-pub fails_at_end : (pass new : PassSeen) (was now : List ℕ) (s : Stop) → new ≡ pass → s ≢ stop.Died → ((p : PassSeen) → IsStopped p was now p s) → Ending pass was now new (Err s)
-fails_at_end pass new was now stop.Died same lives stops = absurd (lives refl)
-fails_at_end pass new was now stop.Failed same lives stops = (same, (stops pass).1)
-fails_at_end pass new was now stop.Unheard same lives stops = tt
+pub fails_at_end : (pass new : PassSeen) (was now : List ℕ) (s : Halt) → new ≡ pass → s ≢ halt.Died → ((p : PassSeen) → IsStopped p was now p s) → Ending pass was now new (Err s)
+fails_at_end pass new was now halt.Died same lives stops = absurd (lives refl)
+fails_at_end pass new was now halt.Failed same lives stops = (same, (stops pass).1)
+fails_at_end pass new was now halt.Unheard same lives stops = tt
 
-pub same_turning : (b : Base) (pass : PassSeen) (l : Line) (was now : List ℕ) (new : PassSeen) (r : Result (Option Entry) Stop) (t txn : Entry) → t ≡ txn → Turning b t pass l was now new r → Turning b txn pass l was now new r
+pub same_turning : (b : Base) (pass : PassSeen) (l : Line) (was now : List ℕ) (new : PassSeen) (r : Result (Option Entry) Halt) (t txn : Entry) → t ≡ txn → Turning b t pass l was now new r → Turning b txn pass l was now new r
 same_turning b pass l was now new r t txn same turns = subst (λ (e : Entry). Turning b e pass l was now new r) same turns
 
-pub same_telling : (p pass : PassSeen) (was now : List ℕ) (new : PassSeen) (a : Answer) (r : Result (Option Entry) Stop) (t txn : Entry) → p ≡ pass → t ≡ txn → Telling t p was now new a r → Telling txn pass was now new a r
+pub same_telling : (p pass : PassSeen) (was now : List ℕ) (new : PassSeen) (a : Answer) (r : Result (Option Entry) Halt) (t txn : Entry) → p ≡ pass → t ≡ txn → Telling t p was now new a r → Telling txn pass was now new a r
 same_telling p pass was now new a r t txn same_pass same tells = subst (λ (x : Entry × PassSeen). Telling x.0 x.1 was now new a r) (λ i. (same i, same_pass i)) tells

@@ -10,7 +10,7 @@ use Rattle.mt_script.specs.declared.lines.Line.{Line}
 use Rattle.mt_server.specs.Heard.{IsEnd, ends, fails}
 use Rattle.mt_server.specs.Hearing.{HasFailed, HasRan, HasServed, IsSession, Place, Reached, between}
 use Rattle.mt_alone.specs.Runs.{last_line}
-use Rattle.mt_server.specs.declared.attempts.Ran.TheVariants as ran
+use Rattle.mt_server.specs.declared.attempts.Progress.TheVariants as progress
 use Rattle.mt_server.proofs.AttemptLemmas.{none_served, served_then}
 use Rattle.mt_alone.proofs.TranscriptLemmas.{all_reported}
 use Rattle.mt_locked.specs.Seen.{PassSeen}
@@ -33,7 +33,7 @@ module _ (b : Base) (session : ℕ) (old : PassSeen) (lines : List Line) where
       let from : s.1.end ≡ between s.1.end.heard.booked pass = stand_is s.1.end pass s.1.at s.1.pass_is in
       served_then b session (between [] old) s.1.end end (take at lines) more [] was now s.1.served (subst (λ (p : Place). HasServed b session p more was now end) (sym from) served)
 
-  pub goes_on : (at count : ℕ) (was now : List ℕ) (pass new : PassSeen) → (s : Stands at was pass) → ((booked : List (ℕ × List Call)) → HasRan b session (between booked pass) (drop at lines) was now new (ran.Ended count)) → Stands (at + count) now new
+  pub goes_on : (at count : ℕ) (was now : List ℕ) (pass new : PassSeen) → (s : Stands at was pass) → ((booked : List (ℕ × List Call)) → HasRan b session (between booked pass) (drop at lines) was now new (progress.Ended count)) → Stands (at + count) now new
   goes_on at count was now pass new s ran =
       let (end, pass_is, none, le, served) = ran s.1.end.heard.booked in (
         omega (arith, s.0, le, length-drop at lines),
@@ -69,7 +69,7 @@ module _ (b : Base) (session : ℕ) (old : PassSeen) (lines : List Line) where
   aborted_last None some = absurd cc
   aborted_last (Some calls) some = refl
 
-  pub aborted_end : (at : ℕ) (was now : List ℕ) (pass new : PassSeen) → (s : Stands at was pass) → ((booked : List (ℕ × List Call)) → HasRan b session (between booked pass) (drop at lines) was now new ran.AtEnd) → IsSession false b session lines now old new
+  pub aborted_end : (at : ℕ) (was now : List ℕ) (pass new : PassSeen) → (s : Stands at was pass) → ((booked : List (ℕ × List Call)) → HasRan b session (between booked pass) (drop at lines) was now new progress.AtEnd) → IsSession false b session lines now old new
   aborted_end at was now pass new s ran =
       let (end, mid, pass_is, live, served, text) = ran s.1.end.heard.booked in
       let all = subst (λ (ls : List Line). HasServed b session (between [] old) ls [] mid end) (take-append-drop at lines) (behind at was mid pass end (drop at lines) s served) in

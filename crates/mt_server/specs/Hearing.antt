@@ -11,10 +11,10 @@ use Rattle.mt_script.specs.declared.answers.Answer.TheVariants.{Begun, Replied, 
 use Rattle.mt_script.specs.declared.lines.Line.{Line}
 use Rattle.mt_server.specs.Heard.{Heard, Hears, IsEnd}
 use Rattle.mt_alone.specs.Plays.{Runs}
-use Rattle.mt_server.specs.declared.attempts.Ran.{Ran}
-use Rattle.mt_server.specs.declared.attempts.Ran.TheVariants as ran
-use Rattle.mt_server.specs.declared.line_answers.Stop.{Stop}
-use Rattle.mt_server.specs.declared.line_answers.Stop.TheVariants as stop
+use Rattle.mt_server.specs.declared.attempts.Progress.{Progress}
+use Rattle.mt_server.specs.declared.attempts.Progress.TheVariants as progress
+use Rattle.mt_server.specs.declared.line_answers.Halt.{Halt}
+use Rattle.mt_server.specs.declared.line_answers.Halt.TheVariants as halt
 use Rattle.mt_locked.specs.Seen.{PassSeen, Extends}
 
 -- ---- a session beside its pass
@@ -83,19 +83,19 @@ pub record IsTurned (b : Base) (session : ℕ) (start : Place) (line : Line) (wa
 
 -- or it was not: the transaction died, and is taken back; the device failed, and that is reported; or the answer
 -- found no memory
-abbrev pub IsStopped : PassSeen → List ℕ → List ℕ → PassSeen → Stop → Type 0
-IsStopped pass was now new stop.Died = (new ≡ pass) × IsPrefix was now
-IsStopped pass was now new stop.Failed =
+abbrev pub IsStopped : PassSeen → List ℕ → List ℕ → PassSeen → Halt → Type 0
+IsStopped pass was now new halt.Died = (new ≡ pass) × IsPrefix was now
+IsStopped pass was now new halt.Failed =
     (new ≡ pass) × (now ≡ was ++ transcript_text (Refused refusal.DeviceFailed ∷ []))
-IsStopped pass was now new stop.Unheard = Unit {0}
+IsStopped pass was now new halt.Unheard = Unit {0}
 
-abbrev pub Turning : Base → Entry → PassSeen → Line → List ℕ → List ℕ → PassSeen → Result (Option Entry) Stop → Type 0
+abbrev pub Turning : Base → Entry → PassSeen → Line → List ℕ → List ℕ → PassSeen → Result (Option Entry) Halt → Type 0
 Turning b txn pass line was now new (Ok token) = (booked : List (ℕ × List Call))
     → IsTurned b txn.done.session (within booked txn.done.calls pass) line was now token new
 Turning b txn pass line was now new (Err stop) = IsStopped pass was now new stop
 
 -- what a line may come to if it only has an answer, and the transaction goes on
-abbrev pub Telling : Entry → PassSeen → List ℕ → List ℕ → PassSeen → Answer → Result (Option Entry) Stop → Type 0
+abbrev pub Telling : Entry → PassSeen → List ℕ → List ℕ → PassSeen → Answer → Result (Option Entry) Halt → Type 0
 Telling txn pass was now new answer (Ok token) =
     (token ≡ Some txn) × (new ≡ pass) × (now ≡ was ++ transcript_text (answer ∷ []))
 Telling txn pass was now new answer (Err stop) = IsStopped pass was now new stop
@@ -111,10 +111,10 @@ pub record Reached (b : Base) (session : ℕ) (start : Place) (lines : List Line
   pub served : HasServed b session start lines was now end
 
 -- the transaction has ended after so many lines; or it was open at the script's end, and was aborted
-abbrev pub HasRan : Base → ℕ → Place → List Line → List ℕ → List ℕ → PassSeen → Ran → Type 0
-HasRan b session start lines was now new (ran.Ended count) = (end : Place) × (end.pass ≡ new)
+abbrev pub HasRan : Base → ℕ → Place → List Line → List ℕ → List ℕ → PassSeen → Progress → Type 0
+HasRan b session start lines was now new (progress.Ended count) = (end : Place) × (end.pass ≡ new)
     × (end.heard.under_way ≡ None) × (count ≤ length lines) × HasServed b session start (take count lines) was now end
-HasRan b session start lines was now new ran.AtEnd = (end : Place) × (mid : List ℕ) × (end.pass ≡ new)
+HasRan b session start lines was now new progress.AtEnd = (end : Place) × (mid : List ℕ) × (end.pass ≡ new)
     × IsSome end.heard.under_way × HasServed b session start lines was mid end
     × (now ≡ mid ++ transcript_text (Aborted ∷ []))
 
@@ -130,31 +130,31 @@ pub record HasFailed (b : Base) (session : ℕ) (start : Place) (lines : List Li
   pub served : HasServed b session start before was mid end
   pub text : now ≡ mid ++ transcript_text (Refused refusal.DeviceFailed ∷ [])
 
-abbrev pub Running : Base → ℕ → Place → List Line → List ℕ → List ℕ → PassSeen → Result Ran Stop → Type 0
+abbrev pub Running : Base → ℕ → Place → List Line → List ℕ → List ℕ → PassSeen → Result Progress Halt → Type 0
 Running b session start lines was now new (Ok ran) = HasRan b session start lines was now new ran
-Running b session start lines was now new (Err stop.Died) = (new ≡ start.pass) × IsPrefix was now
-Running b session start lines was now new (Err stop.Failed) = HasFailed b session start lines was now new
-Running b session start lines was now new (Err stop.Unheard) = Unit {0}
+Running b session start lines was now new (Err halt.Died) = (new ≡ start.pass) × IsPrefix was now
+Running b session start lines was now new (Err halt.Failed) = HasFailed b session start lines was now new
+Running b session start lines was now new (Err halt.Unheard) = Unit {0}
 
 -- its begin stands before these lines
-abbrev pub and_begin : Result Ran Stop → Result Ran Stop
-and_begin (Ok (ran.Ended count)) = Ok (ran.Ended (suc count))
-and_begin (Ok ran.AtEnd) = Ok ran.AtEnd
+abbrev pub and_begin : Result Progress Halt → Result Progress Halt
+and_begin (Ok (progress.Ended count)) = Ok (progress.Ended (suc count))
+and_begin (Ok progress.AtEnd) = Ok progress.AtEnd
 and_begin (Err stop) = Err stop
 
-abbrev pub AreFew : Result Ran Stop → Type 0
-AreFew (Ok (ran.Ended count)) = count + 1 < 2 ^ 64
-AreFew (Ok ran.AtEnd) = Unit {0}
+abbrev pub AreFew : Result Progress Halt → Type 0
+AreFew (Ok (progress.Ended count)) = count + 1 < 2 ^ 64
+AreFew (Ok progress.AtEnd) = Unit {0}
 AreFew (Err stop) = Unit {0}
 
 -- what is open at the script's end is taken back, and that is reported
-abbrev pub Ending : PassSeen → List ℕ → List ℕ → PassSeen → Result Ran Stop → Type 0
-Ending pass was now new (Ok (ran.Ended count)) = ⊥
-Ending pass was now new (Ok ran.AtEnd) = (new ≡ pass) × (now ≡ was ++ transcript_text (Aborted ∷ []))
-Ending pass was now new (Err stop.Died) = ⊥
-Ending pass was now new (Err stop.Failed) =
+abbrev pub Ending : PassSeen → List ℕ → List ℕ → PassSeen → Result Progress Halt → Type 0
+Ending pass was now new (Ok (progress.Ended count)) = ⊥
+Ending pass was now new (Ok progress.AtEnd) = (new ≡ pass) × (now ≡ was ++ transcript_text (Aborted ∷ []))
+Ending pass was now new (Err halt.Died) = ⊥
+Ending pass was now new (Err halt.Failed) =
     (new ≡ pass) × (now ≡ was ++ transcript_text (Refused refusal.DeviceFailed ∷ []))
-Ending pass was now new (Err stop.Unheard) = Unit {0}
+Ending pass was now new (Err halt.Unheard) = Unit {0}
 
 -- ---- a session
 

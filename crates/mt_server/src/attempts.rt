@@ -5,11 +5,11 @@ ghost use Rattle.mt_model.specs.declared.tables.Base.{Base};
 ghost use Rattle.mt_script.specs.declared.lines.Line.{Line};
 ghost use Rattle.mt_script.specs.declared.lines.Line.TheVariants as line;
 ghost use Rattle.mt_server.specs.Hearing.{AreFew, Ending, Running, and_begin, between, within};
-ghost use Rattle.mt_server.specs.declared.line_answers.Stop.TheVariants as stop;
+ghost use Rattle.mt_server.specs.declared.line_answers.Halt.TheVariants as halt;
 ghost use Rattle.mt_locked.specs.Refusals.{IsBeginRefusal};
 ghost use Rattle.mt_locked.specs.Seen.{PassSeen};
 
-use crate::line_answers::{Stop, fail, refuse, take_back, tell_aborted, tell_begun, turn};
+use crate::line_answers::{Halt, answer_line, fail, refuse, take_back, tell_aborted, tell_begun};
 use mt_base::Refusal;
 use mt_disk::Device;
 use mt_script::Line;
@@ -23,7 +23,7 @@ pub(crate) const RUNS: u32 = 100;
 
 /// How far a transaction has come.
 #[derive(Clone, Copy, PartialEq, Eq, Debug)]
-pub enum Ran {
+pub enum Progress {
     /// It has ended, and so many lines are answered, its begin among them.
     Ended(usize),
     /// It was open at the script's end, and was taken back.
@@ -37,14 +37,14 @@ fn end<D: Device, G: Gate + Drop, J: Naming, R: Wait>(
     pass: &mut Pass<J>,
     txn: Txn<J>,
     out: &mut Vec<u8>,
-) -> Result<Ran, Stop>
+) -> Result<Progress, Halt>
     ensures { Ending pass.old out.old.items out.new.items pass.new result }
 {
     if !take_back(rt, hold, pass, txn) {
         return Err(fail(out));
     }
     tell_aborted(out)?;
-    Ok(Ran::AtEnd)
+    Ok(Progress::AtEnd)
 }
 
 /// Answers the lines after a begin until the transaction has ended. The begin is not counted.
@@ -56,48 +56,48 @@ fn go_on<D: Device, G: Gate + Drop, J: Naming, R: Wait>(
     lines: &[Line],
     may_die: bool,
     out: &mut Vec<u8>,
-) -> Result<Ran, Stop>
+) -> Result<Progress, Halt>
     requires own { txn.pass ≡ pass.old.number }
     ensures runs { (booked : List (ℕ × List Call)) → Running J.base txn.done.session
         (within booked txn.done.calls pass.old) lines.now out.old.items out.new.items pass.new result }
-    ensures lives { may_die ≡ false → IfErr result (λ outcome. outcome ≢ stop.Died) }
+    ensures lives { may_die ≡ false → IfErr result (λ outcome. outcome ≢ halt.Died) }
 {
     let mut kept = txn;
     let mut count = 0;
     for line in lines {
         count += 1;
-        match turn(rt, hold, pass, kept, line, may_die, out)? {
+        match answer_line(rt, hold, pass, kept, line, may_die, out)? {
             Some(back) => kept = back,
-            None => return Ok(Ran::Ended(count)),
+            None => return Ok(Progress::Ended(count)),
         }
     }
     end(rt, hold, pass, kept, out)
 }
 
 /// Counts the begin among the lines that were answered.
-fn and_begin(outcome: Result<Ran, Stop>) -> Result<Ran, Stop>
+fn and_begin(outcome: Result<Progress, Halt>) -> Result<Progress, Halt>
     requires few { AreFew outcome }
     ensures { result ≡ and_begin outcome }
 {
     match outcome {
-        Ok(Ran::Ended(count)) => Ok(Ran::Ended(count + 1)),
-        Ok(Ran::AtEnd) => Ok(Ran::AtEnd),
+        Ok(Progress::Ended(count)) => Ok(Progress::Ended(count + 1)),
+        Ok(Progress::AtEnd) => Ok(Progress::AtEnd),
         Err(why) => Err(why),
     }
 }
 
 /// Answers a begin that was refused. The session goes on after it, unless the device failed.
-fn unbegun(out: &mut Vec<u8>, why: Refusal) -> Result<Ran, Stop>
+fn unbegun(out: &mut Vec<u8>, why: Refusal) -> Result<Progress, Halt>
     requires { IsBeginRefusal why }
     ensures runs { (b : Base) (session : ℕ) (booked : List (ℕ × List Call)) (pass : PassSeen) (lines : List Line)
         → Running b session (between booked pass) (line.Begin ∷ lines) out.old.items out.new.items pass result }
-    ensures lives { IfErr result (λ outcome. outcome ≢ stop.Died) }
+    ensures lives { IfErr result (λ outcome. outcome ≢ halt.Died) }
 {
     match why {
         Refusal::DeviceFailed => Err(fail(out)),
         _ => {
             refuse(out, why)?;
-            Ok(Ran::Ended(1))
+            Ok(Progress::Ended(1))
         }
     }
 }
@@ -112,11 +112,11 @@ fn run_once<D: Device, G: Gate + Drop, J: Naming, R: Wait>(
     lines: &[Line],
     may_die: bool,
     out: &mut Vec<u8>,
-) -> Result<Ran, Stop>
+) -> Result<Progress, Halt>
     requires room { length lines.now + 1 < 2 ^ 64 }
     ensures runs { (booked : List (ℕ × List Call)) → Running J.base session (between booked pass.old)
         (line.Begin ∷ lines.now) out.old.items out.new.items pass.new result }
-    ensures lives { may_die ≡ false → IfErr result (λ outcome. outcome ≢ stop.Died) }
+    ensures lives { may_die ≡ false → IfErr result (λ outcome. outcome ≢ halt.Died) }
 {
     match hold.begin(rt, alloc, pass, session) {
         Ok(txn) => match tell_begun(out) {
@@ -146,22 +146,22 @@ pub(crate) fn run_surely<D: Device, G: Gate + Drop, J: Naming, R: Wait>(
     session: u32,
     lines: &[Line],
     out: &mut Vec<u8>,
-) -> Result<Ran, Stop>
+) -> Result<Progress, Halt>
     requires room { length lines.now + 1 < 2 ^ 64 }
     ensures runs { (booked : List (ℕ × List Call)) → Running J.base session (between booked pass.old)
         (line.Begin ∷ lines.now) out.old.items out.new.items pass.new result }
-    ensures lives { IfErr result (λ outcome. outcome ≢ stop.Died) }
+    ensures lives { IfErr result (λ outcome. outcome ≢ halt.Died) }
 {
     let kept = out.len();
     for run in 1..RUNS {
         match run_once(rt, alloc, hold, pass, session, lines, true, out) {
-            Err(Stop::Died) => {
+            Err(Halt::Died) => {
                 out.truncate(kept);
                 back_off(run);
             }
             Ok(ran) => return Ok(ran),
-            Err(Stop::Failed) => return Err(Stop::Failed),
-            Err(Stop::Unheard) => return Err(Stop::Unheard),
+            Err(Halt::Failed) => return Err(Halt::Failed),
+            Err(Halt::Unheard) => return Err(Halt::Unheard),
         }
     }
     run_once(rt, alloc, hold, pass, session, lines, false, out)

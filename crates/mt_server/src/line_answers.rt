@@ -9,7 +9,7 @@ ghost use Rattle.mt_script.specs.declared.answers.Answer.TheVariants as answer;
 ghost use Rattle.mt_script.specs.declared.lines.Line.TheVariants as line;
 ghost use Rattle.mt_server.specs.Hearing.{IsStopped, Telling, Turning};
 ghost use Rattle.mt_txn.specs.Causes.{IsCallRefusal};
-ghost use Rattle.mt_server.specs.declared.line_answers.Stop.TheVariants as stop;
+ghost use Rattle.mt_server.specs.declared.line_answers.Halt.TheVariants as halt;
 
 use mt_base::Refusal;
 use mt_disk::Device;
@@ -20,7 +20,7 @@ use std::sync::Wait;
 
 /// Why a session goes on no further in its transaction.
 #[derive(Clone, Copy, PartialEq, Eq, Debug)]
-pub enum Stop {
+pub enum Halt {
     /// The transaction died, and was taken back. Its line is not answered.
     Died,
     /// The device failed. That is the last answer.
@@ -30,56 +30,56 @@ pub enum Stop {
 }
 
 /// Writes an answer. There may be no memory for it.
-fn tell(out: &mut Vec<u8>, answer: &Answer) -> Result<(), Stop>
+fn tell(out: &mut Vec<u8>, answer: &Answer) -> Result<(), Halt>
     ensures ok { OnOk result (out.new.items ≡ out.old.items ++ transcript_text (answer.now ∷ [])) }
-    ensures err { IfErr result (λ outcome. outcome ≡ stop.Unheard) }
+    ensures err { IfErr result (λ outcome. outcome ≡ halt.Unheard) }
 {
     match write_answer(out, answer) {
         Ok(()) => Ok(()),
-        Err(_) => Err(Stop::Unheard),
+        Err(_) => Err(Halt::Unheard),
     }
 }
 
 /// Writes that a transaction has begun, as [`tell`].
-pub(crate) fn tell_begun(out: &mut Vec<u8>) -> Result<(), Stop>
+pub(crate) fn tell_begun(out: &mut Vec<u8>) -> Result<(), Halt>
     ensures ok { OnOk result (out.new.items ≡ out.old.items ++ transcript_text (answer.Begun ∷ [])) }
-    ensures err { IfErr result (λ outcome. outcome ≡ stop.Unheard) }
+    ensures err { IfErr result (λ outcome. outcome ≡ halt.Unheard) }
 {
     tell(out, &Answer::Begun)
 }
 
 /// Writes a refusal, as [`tell`].
-pub(crate) fn refuse(out: &mut Vec<u8>, why: Refusal) -> Result<(), Stop>
+pub(crate) fn refuse(out: &mut Vec<u8>, why: Refusal) -> Result<(), Halt>
     ensures ok { OnOk result (out.new.items ≡ out.old.items ++ transcript_text (answer.Refused why ∷ [])) }
-    ensures err { IfErr result (λ outcome. outcome ≡ stop.Unheard) }
+    ensures err { IfErr result (λ outcome. outcome ≡ halt.Unheard) }
 {
     tell(out, &Answer::Refused(why))
 }
 
 /// Writes that a transaction was taken back, as [`tell`].
-pub(crate) fn tell_aborted(out: &mut Vec<u8>) -> Result<(), Stop>
+pub(crate) fn tell_aborted(out: &mut Vec<u8>) -> Result<(), Halt>
     ensures ok { OnOk result (out.new.items ≡ out.old.items ++ transcript_text (answer.Aborted ∷ [])) }
-    ensures err { IfErr result (λ outcome. outcome ≡ stop.Unheard) }
+    ensures err { IfErr result (λ outcome. outcome ≡ halt.Unheard) }
 {
     tell(out, &Answer::Aborted)
 }
 
 /// Writes the position of a commit, as [`tell`].
-fn tell_committed(out: &mut Vec<u8>, place: u64) -> Result<(), Stop>
+fn tell_committed(out: &mut Vec<u8>, place: u64) -> Result<(), Halt>
     ensures ok { OnOk result (out.new.items ≡ out.old.items ++ transcript_text (answer.Committed place ∷ [])) }
-    ensures err { IfErr result (λ outcome. outcome ≡ stop.Unheard) }
+    ensures err { IfErr result (λ outcome. outcome ≡ halt.Unheard) }
 {
     tell(out, &Answer::Committed(place))
 }
 
 /// Writes that the device failed, as the last answer.
-pub(crate) fn fail(out: &mut Vec<u8>) -> Stop
+pub(crate) fn fail(out: &mut Vec<u8>) -> Halt
     ensures stops { (pass : _) → IsStopped pass out.old.items out.new.items pass result }
-    ensures lives { result ≢ stop.Died }
+    ensures lives { result ≢ halt.Died }
 {
     match refuse(out, Refusal::DeviceFailed) {
-        Ok(()) => Stop::Failed,
-        Err(_) => Stop::Unheard,
+        Ok(()) => Halt::Failed,
+        Err(_) => Halt::Unheard,
     }
 }
 
@@ -116,9 +116,9 @@ fn refused<D: Device, G: Gate + Drop, J: Naming, R: Wait>(
     txn: Txn<J>,
     why: Refusal,
     out: &mut Vec<u8>,
-) -> Result<Option<Txn<J>>, Stop>
+) -> Result<Option<Txn<J>>, Halt>
     ensures tells { Telling txn pass.old out.old.items out.new.items pass.new (answer.Refused why) result }
-    ensures lives { IfErr result (λ outcome. outcome ≢ stop.Died) }
+    ensures lives { IfErr result (λ outcome. outcome ≢ halt.Died) }
 {
     // a line that is no operation is not counted in the hold
     hold.give_back();
@@ -138,19 +138,19 @@ fn replied<D: Device, G: Gate + Drop, J: Naming, R: Wait>(
     pass: &mut Pass<J>,
     txn: Txn<J>,
     out: &mut Vec<u8>,
-) -> Result<Option<Txn<J>>, Stop>
+) -> Result<Option<Txn<J>>, Halt>
     requires one { (calls : List Call) × (op : Op) × (reply : Reply)
         × (txn.done.calls ≡ calls ++ (op, reply) ∷ []) }
     ensures tells { (calls : List Call) (op : Op) (reply : Reply) → txn.done.calls ≡ calls ++ (op, reply) ∷ []
         → Telling txn pass.old out.old.items out.new.items pass.new (answer.Replied reply) result }
-    ensures lives { IfErr result (λ outcome. outcome ≢ stop.Died) }
+    ensures lives { IfErr result (λ outcome. outcome ≢ halt.Died) }
 {
     let calls = txn.calls();
     match write_reply(out, &calls[calls.len() - 1].1) {
         Ok(()) => Ok(Some(txn)),
         Err(_) => {
             take_back(rt, hold, pass, txn);
-            Err(Stop::Unheard)
+            Err(Halt::Unheard)
         }
     }
 }
@@ -164,17 +164,17 @@ fn died<D: Device, G: Gate + Drop, J: Naming, R: Wait>(
     why: Refusal,
     may_die: bool,
     out: &mut Vec<u8>,
-) -> Result<Option<Txn<J>>, Stop>
+) -> Result<Option<Txn<J>>, Halt>
     requires own { txn.pass ≡ pass.old.number }
     requires dies { (holder : ℕ) × (why ≡ Refusal.Die holder) }
     ensures turns { (op : Op) → Turning J.base txn pass.old (line.Call op) out.old.items out.new.items pass.new result }
-    ensures lives { may_die ≡ false → IfErr result (λ outcome. outcome ≢ stop.Died) }
+    ensures lives { may_die ≡ false → IfErr result (λ outcome. outcome ≢ halt.Died) }
 {
     if !take_back(rt, hold, pass, txn) {
         return Err(fail(out));
     }
     if may_die {
-        return Err(Stop::Died);
+        return Err(Halt::Died);
     }
     refuse(out, why)?;
     Ok(None)
@@ -189,13 +189,13 @@ fn stopped<D: Device, G: Gate + Drop, J: Naming, R: Wait>(
     why: Refusal,
     may_die: bool,
     out: &mut Vec<u8>,
-) -> Result<Option<Txn<J>>, Stop>
+) -> Result<Option<Txn<J>>, Halt>
     requires own { txn.pass ≡ pass.old.number }
     ensures turns { (op : Op) → IsCallRefusal op why
         → Turning J.base txn pass.old (line.Call op) out.old.items out.new.items pass.new result }
-    ensures lives { may_die ≡ false → IfErr result (λ outcome. outcome ≢ stop.Died) }
+    ensures lives { may_die ≡ false → IfErr result (λ outcome. outcome ≢ halt.Died) }
     // Only an older holder in its way makes it die.
-    ensures dies { IfErr result (λ outcome. outcome ≡ stop.Died → (holder : ℕ) × (why ≡ Refusal.Die holder)) }
+    ensures dies { IfErr result (λ outcome. outcome ≡ halt.Died → (holder : ℕ) × (why ≡ Refusal.Die holder)) }
 {
     match why {
         Refusal::Die(_) => died(rt, hold, pass, txn, why, may_die, out),
@@ -216,10 +216,10 @@ fn call<D: Device, G: Gate + Drop, J: Naming, R: Wait>(
     op: &Op,
     may_die: bool,
     out: &mut Vec<u8>,
-) -> Result<Option<Txn<J>>, Stop>
+) -> Result<Option<Txn<J>>, Halt>
     requires own { txn.pass ≡ pass.old.number }
     ensures turns { Turning J.base txn pass.old (line.Call op.now) out.old.items out.new.items pass.new result }
-    ensures lives { may_die ≡ false → IfErr result (λ outcome. outcome ≢ stop.Died) }
+    ensures lives { may_die ≡ false → IfErr result (λ outcome. outcome ≢ halt.Died) }
 {
     let Ok(copy) = op.try_clone() else {
         return refused(rt, hold, pass, txn, Refusal::NoMemory, out);
@@ -238,10 +238,10 @@ fn commit<D: Device, G: Gate + Drop, J: Naming, R: Wait>(
     pass: &mut Pass<J>,
     txn: Txn<J>,
     out: &mut Vec<u8>,
-) -> Result<Option<Txn<J>>, Stop>
+) -> Result<Option<Txn<J>>, Halt>
     requires own { txn.pass ≡ pass.old.number }
     ensures turns { Turning J.base txn pass.old line.Commit out.old.items out.new.items pass.new result }
-    ensures lives { IfErr result (λ outcome. outcome ≢ stop.Died) }
+    ensures lives { IfErr result (λ outcome. outcome ≢ halt.Died) }
 {
     match hold.commit(rt, pass, txn) {
         Ok(place) => {
@@ -262,10 +262,10 @@ fn abort<D: Device, G: Gate + Drop, J: Naming, R: Wait>(
     pass: &mut Pass<J>,
     txn: Txn<J>,
     out: &mut Vec<u8>,
-) -> Result<Option<Txn<J>>, Stop>
+) -> Result<Option<Txn<J>>, Halt>
     requires own { txn.pass ≡ pass.old.number }
     ensures turns { Turning J.base txn pass.old line.Abort out.old.items out.new.items pass.new result }
-    ensures lives { IfErr result (λ outcome. outcome ≢ stop.Died) }
+    ensures lives { IfErr result (λ outcome. outcome ≢ halt.Died) }
 {
     if !take_back(rt, hold, pass, txn) {
         return Err(fail(out));
@@ -277,7 +277,7 @@ fn abort<D: Device, G: Gate + Drop, J: Naming, R: Wait>(
 /// Answers a line within a transaction. Gives its token back, unless it has ended.
 ///
 /// If the transaction dies, its line is answered so only if it may not die to be run again.
-pub(crate) fn turn<D: Device, G: Gate + Drop, J: Naming, R: Wait>(
+pub(crate) fn answer_line<D: Device, G: Gate + Drop, J: Naming, R: Wait>(
     rt: &R,
     hold: &mut Hold<'_, D, G, J>,
     pass: &mut Pass<J>,
@@ -285,10 +285,10 @@ pub(crate) fn turn<D: Device, G: Gate + Drop, J: Naming, R: Wait>(
     line: &Line,
     may_die: bool,
     out: &mut Vec<u8>,
-) -> Result<Option<Txn<J>>, Stop>
+) -> Result<Option<Txn<J>>, Halt>
     requires own { txn.pass ≡ pass.old.number }
     ensures turns { Turning J.base txn pass.old line.now out.old.items out.new.items pass.new result }
-    ensures lives { may_die ≡ false → IfErr result (λ outcome. outcome ≢ stop.Died) }
+    ensures lives { may_die ≡ false → IfErr result (λ outcome. outcome ≢ halt.Died) }
 {
     match line {
         Line::Begin => refused(rt, hold, pass, txn, Refusal::Busy, out),

@@ -4,10 +4,10 @@ ghost use Rattle.mt_model.specs.History.{Call};
 ghost use Rattle.mt_script.specs.declared.lines.Line.TheVariants.{Begin};
 ghost use Rattle.mt_server.specs.Hearing.{IsSession, Running, between};
 ghost use Rattle.mt_script.specs.Scripts.{lines_in};
-ghost use Rattle.mt_server.specs.declared.line_answers.Stop.TheVariants as stop;
+ghost use Rattle.mt_server.specs.declared.line_answers.Halt.TheVariants as halt;
 
-use crate::attempts::{Ran, run_surely};
-use crate::line_answers::{Stop, refuse};
+use crate::attempts::{Progress, run_surely};
+use crate::line_answers::{Halt, refuse};
 use crate::transcript::Transcript;
 use mt_base::Refusal;
 use mt_disk::Device;
@@ -33,17 +33,17 @@ fn go_from<D: Device, G: Gate + Drop, J: Naming, R: Wait>(
     lines: &[Line],
     at: usize,
     out: &mut Vec<u8>,
-) -> Result<Ran, Stop>
+) -> Result<Progress, Halt>
     requires at { at < length lines.now }
     ensures runs { (booked : List (ℕ × List Call)) → Running J.base session (between booked pass.old)
         (drop at lines.now) out.old.items out.new.items pass.new result }
-    ensures lives { IfErr result (λ outcome. outcome ≢ stop.Died) }
+    ensures lives { IfErr result (λ outcome. outcome ≢ halt.Died) }
 {
     if is_begin(&lines[at]) {
         return run_surely(rt, alloc, hold, pass, session, &lines[at + 1..], out);
     }
     refuse(out, Refusal::Stranger)?;
-    Ok(Ran::Ended(1))
+    Ok(Progress::Ended(1))
 }
 
 /// Runs a session: its script's lines in their order, each with its answer. Answers its transcript, and whether the
@@ -70,10 +70,10 @@ pub(crate) fn run_session<D: Device, G: Gate + Drop, J: Naming, R: Wait>(
             return Ok((Transcript::new(out), false));
         }
         match go_from(rt, alloc, &mut hold, pass, session, lines, at, &mut out) {
-            Ok(Ran::Ended(count)) => at += count,
-            Ok(Ran::AtEnd) => return Ok((Transcript::new(out), false)),
-            Err(Stop::Failed) => return Ok((Transcript::new(out), true)),
-            Err(Stop::Died | Stop::Unheard) => return Err(AllocError),
+            Ok(Progress::Ended(count)) => at += count,
+            Ok(Progress::AtEnd) => return Ok((Transcript::new(out), false)),
+            Err(Halt::Failed) => return Ok((Transcript::new(out), true)),
+            Err(Halt::Died | Halt::Unheard) => return Err(AllocError),
         }
     }
     unreachable!()

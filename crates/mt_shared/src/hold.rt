@@ -22,13 +22,16 @@ use std::sync::{MutexGuard, Wait};
 /// Calls that one hold of the lock has at most: a begin, 16 operations, and a commit or one operation more.
 const CALLS: u8 = 18;
 
+/// Steps of one operation in one hold of the lock. Others may have it then, since a scan may take thousands.
+const STEPS: u64 = 64;
+
 /// A thread's calls of what is shared, which keep its lock from one to the next. So a transaction of at most 16
 /// operations is begun and run, and its commit appended, in one hold of the lock.
 ///
-/// The lock is given back after as many calls, while a call waits or a force is made, at the end of a transaction, if
-/// a call is refused, and if this is dropped. It is not kept if the observer wants to be called at a point before a
-/// transaction's end. All others wait for it meanwhile, so who keeps it makes its next call soon, or gives it back.
-/// The calls answer what those of [`Shared`] of the same names answer.
+/// The lock is given back after as many calls, after 64 steps of one operation, while a call waits or a force is made,
+/// at the end of a transaction, if a call is refused, and if this is dropped. It is not kept if the observer wants to be
+/// called at a point before a transaction's end. All others wait for it meanwhile, so who keeps it makes its next call
+/// soon, or gives it back. The calls answer what those of [`Shared`] of the same names answer.
 pub struct Hold<'a, D: Device, G: Gate + Drop, J: Naming> {
     shared: &'a Shared<D, G, J>,
     locked: Option<MutexGuard<'a, Locked<D, J>>>,
@@ -226,6 +229,7 @@ impl<'a, D: Device, G: Gate + Drop, J: Naming> Hold<'a, D, G, J> {
         ensures { IfErr result IsStepRefusal }
     {
         let mut locked = locked;
+        let mut steps: u64 = 0;
         for _ in rt.forever() {
             match locked.step(number) {
                 Ok(Stepped::Replied(reply)) => {
@@ -235,11 +239,8 @@ impl<'a, D: Device, G: Gate + Drop, J: Naming> Hold<'a, D, G, J> {
                     return Ok(reply);
                 }
                 Ok(Stepped::Went) => {
-                    if self.shared.wanted.has(Point::Stepped) {
-                        drop(locked);
-                        self.shared.gate.at(session, Point::Stepped);
-                        locked = self.shared.locked.lock(rt);
-                    }
+                    steps = steps.wrapping_add(1);
+                    locked = self.after_step(rt, locked, session, steps);
                 }
                 Ok(Stepped::Flush) => match locked.make_room() {
                     Ok(()) => self.shared.moved.notify_all(),
@@ -254,6 +255,26 @@ impl<'a, D: Device, G: Gate + Drop, J: Naming> Hold<'a, D, G, J> {
             }
         }
         unreachable!()
+    }
+
+    // Between two steps of an operation: calls the observer without the lock, if it wants to be called, and lets others
+    // have the lock after each few steps.
+    fn after_step<R: Wait>(
+        &mut self,
+        rt: &R,
+        locked: MutexGuard<'a, Locked<D, J>>,
+        session: u32,
+        steps: u64,
+    ) -> MutexGuard<'a, Locked<D, J>> {
+        if self.shared.wanted.has(Point::Stepped) {
+            drop(locked);
+            self.shared.gate.at(session, Point::Stepped);
+            self.shared.locked.lock(rt)
+        } else if steps % STEPS == 0 {
+            self.let_others(rt, locked)
+        } else {
+            locked
+        }
     }
 
     // Gives the lock to others, which may give memory back, and takes it again.

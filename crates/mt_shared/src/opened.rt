@@ -5,7 +5,10 @@ ghost use Rattle.mt_mark.specs.Legal.{IsLegal};
 ghost use Rattle.mt_mark.specs.Rule.{dones};
 ghost use Rattle.mt_model.specs.Model.{Base as ModelBase};
 ghost use Rattle.mt_replay.specs.Stands.{CanRestart};
+ghost use Rattle.mt_disk.specs.Disk.{LeavesOnly};
 ghost use Rattle.mt_restart.specs.Frames.{IsFrameCount};
+ghost use Rattle.mt_restart.specs.Recovered.{StandsStill};
+ghost use Rattle.mt_restart.specs.Resumed.{HasTurnedOver};
 ghost use Rattle.mt_locked.specs.Began.{BeganOn};
 ghost use Rattle.mt_shared.specs.Opens.{HasBegunWith, IsBaseOf, IsMarked, IsUnshared};
 ghost use Rattle.mt_locked.specs.Seen.{PassSeen};
@@ -132,6 +135,15 @@ impl<D: Device + Drop> Opened<D> {
         ensures first { IfOk result (λ opened. opened.book ≡ []) }
         ensures many { IfOk result (λ opened. opened.count ≡ count) }
         ensures frames { IfOk result (λ opened. opened.frames ≡ frames) }
+        // The log turns over once.
+        ensures once { IfOk result (λ opened. HasTurnedOver (D.seen device) opened.kernel.core) }
+        // Whenever a crash comes in this call, it leaves what it might have left before, or what represents the same.
+        ensures moments { (relations counters : ℕ) (b : ModelBase) → CanRestart relations counters (D.seen device) b
+            → MatchResult result
+            (λ opened. LeavesOnly D.moment D.left_since device (core_device opened.kernel.core)
+            (StandsStill D.Device relations counters b device))
+            (λ gone. LeavesOnly D.moment D.left_since device gone.1
+            (StandsStill D.Device relations counters b device)) }
         ensures refused { IfErr result (λ gone. IsUnshared (D.seen device) gone.0) }
         ensures failed { IfErr result (λ gone. gone.0 ≡ Refusal.DeviceFailed → D.faults device < D.faults gone.1) }
         // Whatever a crash leaves of the device then, it represents what it did before.

@@ -26,3 +26,4 @@ pub mod Listed
 mod RecordRows
 pub mod HeldBase
 mod ScanRows
+mod Placed

@@ -18,9 +18,9 @@ use Rattle.mt_space.specs.Changes.{PageBytes}
 use Rattle.mt_file.specs.File.{record_in}
 use Rattle.mt_index.specs.Maps.{Map}
 use Rattle.mt_index.specs.Names.{AreNames, AreNamesOnce}
-use Rattle.mt_index.proofs.Gathering.{names_distinct}
+use Rattle.mt_index.proofs.Bucketwise.{names_distinct}
 use Rattle.mt_model.specs.Model.{Base}
-use Rattle.mt_steps.specs.Held.{Holds, AreNamed, IsThere}
+use Rattle.mt_steps.specs.Held.{HoldsRows, AreNamed, IsThere}
 use Rattle.mt_steps.proofs.RecordRows.{record_of}
 
 -- a row of a base as a record that is there
@@ -108,13 +108,13 @@ module _ (r : ℕ) (pages : PageBytes) (m : Map) (named : AreNamed pages m) wher
         ap (λ (x : Row). x.relation) (some_row (sym (under j d e lt) ∙ stood.2))
 
     -- the rows, put in order, are those of the relation
-    pub rows_are : AreNames r m names → (b : Base) → Holds pages b → (ys : List base.Row) → IsOrdered ys → IsPermutation rows ys
+    pub rows_are : AreNames r m names → (b : Base) → HoldsRows pages b → (ys : List base.Row) → IsOrdered ys → IsPermutation rows ys
         → of_relation r b.listing.sorted ≡ ys
     rows_are are b held ys ordered moved = relation_is b.rows b.listing r ys ordered some each
       where
         some : (k v : List ℕ) → b.rows r k ≡ Some v → Contains ys (row_of r k v)
         some k v is =
-            let (p, s, at) = held.rows.found r k v is in
+            let (p, s, at) = held.found r k v is in
             let n : RecordName = record { page = p; slot = s } in
             let has = (are n).1 (k, named.named p s (record { relation = r; key = k; value = v }) at) in
             let lt : has.0 < length rows = omega (arith, has.1, all) in
@@ -130,4 +130,4 @@ module _ (r : ℕ) (pages : PageBytes) (m : Map) (named : AreNamed pages m) wher
             let n : RecordName = get_or names j d in
             let there : IsThere pages x.relation x.key x.value =
             (n.page, n.slot, subst (λ (z : base.Row). record_in pages n.page n.slot ≡ row_in z) is (under j d x lt)) in
-            (ap (λ (z : base.Row). z.relation) (sym is) ∙ of_own are j d x lt, held.rows.there x.relation x.key x.value there)
+            (ap (λ (z : base.Row). z.relation) (sym is) ∙ of_own are j d x lt, held.there x.relation x.key x.value there)

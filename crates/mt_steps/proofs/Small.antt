@@ -3,7 +3,7 @@ use Rattle.std.proofs.Common.{◌≡◌, ℕ, ◌≤◌, Bool, true, false, cond
 use Rattle.mt_base.specs.Limits.{IsValue}
 use Rattle.mt_frame.specs.Grammar.{IsOperation}
 use Rattle.mt_model.specs.declared.operations.Op.{Op}
-use Rattle.mt_model.specs.declared.operations.Op.TheVariants.{Get, Insert, Update, Delete, Add, Read}
+use Rattle.mt_model.specs.declared.operations.Op.TheVariants.{Get, Insert, Update, Delete, Add, Read, Scan}
 use Rattle.mt_model.specs.declared.operations.Reply.{Reply}
 use Rattle.mt_model.specs.declared.operations.Reply.TheVariants.{Done, Was, OutOfBounds}
 use Rattle.mt_model.specs.Model.{Base, IsWithin, reply_of, found, done_unless, was}
@@ -34,6 +34,7 @@ small_reply b (Update r k v) small = small_was (b.rows r k) (small r k)
 small_reply b (Delete r k) small = small_was (b.rows r k) (small r k)
 small_reply b (Add c d) small = small_added _
 small_reply b (Read c) small = tt
+small_reply b (Scan r) small = tt
 
 -- ---- what is logged lies within the limits of the log
 

@@ -1,7 +1,7 @@
 -- What an operation's inverse takes.
 use Rattle.std.proofs.Common.{◌≡◌, ◌≤◌, ℕ, false, Some, None, Option, subst, arith}
 use Rattle.mt_model.specs.declared.operations.Op.{Op}
-use Rattle.mt_model.specs.declared.operations.Op.TheVariants.{Get, Insert, Update, Delete, Add, Read}
+use Rattle.mt_model.specs.declared.operations.Op.TheVariants.{Get, Insert, Update, Delete, Add, Read, Scan}
 use Rattle.mt_model.specs.declared.operations.Reply.{Reply}
 use Rattle.mt_model.specs.declared.operations.Reply.TheVariants.{Done, Was}
 use Rattle.mt_model.specs.Model.{inverse_of}
@@ -25,6 +25,7 @@ within (Get r k) Done = omega arith
 within (Get r k) _ = omega arith
 within (Read c) Done = omega arith
 within (Read c) _ = omega arith
+within (Scan r) _ = omega arith
 
 pub enough : (op : Op) (reply : Reply) (inverse : Op) → inverse_of op reply ≡ Some inverse → own_needs inverse false ≤ undo_pages op
 enough op reply inverse is = subst (λ (o : Option Op). taken_by o ≤ undo_pages op) is (within op reply)

@@ -1,5 +1,5 @@
 -- Which page an operation asks for, and whether to read or to write it: its row of the table of page locks.
-use Rattle.std.specs.Prelude.{◌≡◌, ◌≢◌, ◌⊎◌, ℕ, Bool, List, Option, None, Some}
+use Rattle.std.specs.Prelude.{◌≡◌, ◌≢◌, ◌⊎◌, ℕ, Bool, List, Option, None, Some, Contains}
 use Rattle.mt_base.specs.declared.numbers.RecordName.{RecordName}
 use Rattle.mt_base.specs.declared.modes.Mode.{Mode}
 use Rattle.mt_base.specs.declared.modes.Mode.TheVariants.{Read as ToRead, Write as ToWrite}
@@ -8,9 +8,10 @@ use Rattle.mt_space.specs.Changes.{PageBytes}
 use Rattle.mt_file.specs.File.{record_in, Adds}
 use Rattle.mt_file.specs.Plans.{IsChosen, IsLooked}
 use Rattle.mt_index.specs.Answers.{InMaps, IsInBucket, IsDueInAdd, IsSearched}
+use Rattle.mt_index.specs.Names.{IsInIndex, AreNames}
 use Rattle.mt_index.specs.declared.answers.Search.{Search}
 use Rattle.mt_model.specs.declared.operations.Op.{Op}
-use Rattle.mt_model.specs.declared.operations.Op.TheVariants.{Get, Insert, Update, Delete, Add, Read}
+use Rattle.mt_model.specs.declared.operations.Op.TheVariants.{Get, Insert, Update, Delete, Add, Read, Scan}
 use Rattle.mt_steps.specs.Acts.{InRoomy}
 use Rattle.mt_steps.specs.Plans.{HasStood, NeedsPlace}
 
@@ -28,6 +29,7 @@ HasSearched at_hand total (Update r k v) search = IsSearched at_hand total r k s
 HasSearched at_hand total (Delete r k) search = IsSearched at_hand total r k search
 HasSearched at_hand total (Add c d) search = Unit {0}
 HasSearched at_hand total (Read c) search = Unit {0}
+HasSearched at_hand total (Scan r) search = Unit {0}
 
 -- what is at hand shows that a key has no record, or which one it has
 abbrev pub IsMissing : (ℕ → Option (List ℕ)) → ℕ → ℕ → List ℕ → Type 0
@@ -38,6 +40,11 @@ IsNamedBy at_hand total r k name = InMaps at_hand total (λ pages m. m r k ≡ S
 
 abbrev pub IsFound : (ℕ → Option (List ℕ)) → ℕ → ℕ → List ℕ → Type 0
 IsFound at_hand total r k = (name : RecordName) × IsNamedBy at_hand total r k name
+
+-- what is at hand shows the names of all records of a relation, and one of these is in the page
+abbrev pub HasNamed : (ℕ → Option (List ℕ)) → ℕ → ℕ → ℕ → Type 0
+HasNamed at_hand total r p = (names : List RecordName) × InMaps at_hand total (λ pages m. AreNames r m names)
+    × ((s : ℕ) × Contains names (record { page = p; slot = s }))
 
 -- ---- a row is changed in these pages
 
@@ -79,7 +86,8 @@ abbrev pub InRows : (ℕ → Option (List ℕ)) → Option ℕ → ℕ → (Page
 InRows at_hand room total P = (relations : ℕ) → InRoomy at_hand room relations total (λ pages m. P pages)
 
 -- An operation on a row looks for its key; and only once what is at hand shows what the key has, it asks for the
--- record's page, or for what it changes. An operation on a counter asks for page 2.
+-- record's page, or for what it changes. An operation on a counter asks for page 2. A scan asks for pages of the index;
+-- and only once what is at hand shows all records of the relation, it asks for their pages.
 abbrev pub AsksFor : (ℕ → Option (List ℕ)) → Option ℕ → ℕ → Bool → Op → ℕ → Mode → Type 0
 AsksFor at_hand room total split (Get r k) p mode =
     LooksFor at_hand total k ToRead p mode ⊎ ((s : ℕ) × IsNamedBy at_hand total r k (record { page = p; slot = s })
@@ -96,3 +104,5 @@ AsksFor at_hand room total split (Delete r k) p mode =
     × InRows at_hand room total (λ pages. IsForDelete r k pages p mode))
 AsksFor at_hand room total split (Add c d) p mode = (p ≡ 2) × (mode ≡ ToWrite)
 AsksFor at_hand room total split (Read c) p mode = (p ≡ 2) × (mode ≡ ToRead)
+AsksFor at_hand room total split (Scan r) p mode =
+    InMaps at_hand total (λ pages m. IsInIndex pages p mode) ⊎ (HasNamed at_hand total r p × (mode ≡ ToRead))

@@ -10,4 +10,5 @@ pub mod Logged
 pub mod Tells
 pub mod Formatted
 pub mod Planners
-pub mod Scans
+pub mod Scanned
+pub mod Places

@@ -4,7 +4,7 @@ use Rattle.std.specs.declared.alloc.AllocError.{AllocError}
 use Rattle.mt_steps.specs.declared.act.Act.{Act}
 use Rattle.mt_space.specs.Changes.{AreShort, after}
 use Rattle.mt_steps.specs.Asks.{AsksFor}
-use Rattle.mt_model.specs.declared.operations.Op.TheVariants.{Add, Delete, Get, Insert, Read, Update}
+use Rattle.mt_model.specs.declared.operations.Op.TheVariants.{Add, Delete, Get, Insert, Read, Scan, Update}
 use Rattle.mt_steps.specs.Acts.{IfBroken, IfFull, IfLock, IfMade, InGood, IsAct, InRoomy}
 use Rattle.mt_base.specs.declared.modes.Mode.TheVariants.{Read as ToRead, Write as ToWrite}
 use Rattle.mt_steps.specs.Logged.{logged_of}
@@ -133,3 +133,18 @@ pub record PlansRead (at_hand : ℕ → Option (List ℕ)) (total : ℕ) (number
   pub idle : IfMade r (λ changes reply. logged_of (Read number) reply ≡ None → changes ≡ [])
   pub full : IfFull r ⊥
   pub broken : IfBroken r ⊥
+
+-- the read of all rows of a relation
+pub record PlansScan (at_hand : ℕ → Option (List ℕ)) (total : ℕ) (relation : ℕ)
+    (r : Result Act AllocError) : Type 0 where
+  pub lock : IfOk r (λ act. IfLock act (λ p mode. (at_hand p ≡ None) × (p < total)))
+  pub asks : (room : Option ℕ) (split : Bool) → IfOk r (λ act. IfLock act
+      (AsksFor at_hand room total split (Scan relation)))
+  pub mode : IfOk r (λ act. IfLock act (λ p mode. mode ≡ ToRead))
+  pub made : (relations : ℕ) → IfOk r (λ act. IfMade act
+      (λ changes reply. InGood at_hand relations total (λ pages m. IsAct relations total pages (after changes pages)
+      (Scan relation) reply × AreShort changes pages)))
+  pub quiet : IfOk r (λ act. IfMade act (λ changes reply. changes ≡ []))
+  pub idle : IfOk r (λ act. IfMade act (λ changes reply. logged_of (Scan relation) reply ≡ None → changes ≡ []))
+  pub full : IfOk r (λ act. IfFull act ⊥)
+  pub broken : IfOk r (λ act. IfBroken act ⊥)

@@ -15,7 +15,7 @@ use Rattle.mt_index.specs.Maps.{Map, Each}
 use Rattle.mt_index.specs.Pages.{state_of}
 use Rattle.mt_index.specs.Rule.{IsFull}
 use Rattle.mt_model.specs.declared.operations.Op.{Op}
-use Rattle.mt_model.specs.declared.operations.Op.TheVariants.{Get, Insert, Update, Delete, Read}
+use Rattle.mt_model.specs.declared.operations.Op.TheVariants.{Get, Insert, Update, Delete, Read, Scan}
 use Rattle.mt_model.specs.declared.operations.Reply.{Reply}
 use Rattle.mt_model.specs.Model.{Base, IsWithin, reply_of, base_after}
 use Rattle.mt_steps.specs.Counters.{AreCounters}
@@ -36,6 +36,7 @@ free_pages total pages = free_in (mapped (pages 0) total)
 abbrev pub IsReading : Op → Type 0
 IsReading (Get r k) = Unit {0}
 IsReading (Read c) = Unit {0}
+IsReading (Scan r) = Unit {0}
 IsReading _ = ⊥
 
 -- free pages that an operation may take for itself; an insert may split a bucket or may not

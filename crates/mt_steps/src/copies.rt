@@ -3,9 +3,14 @@
 ghost use Rattle.std.specs.Prelude.{◌≡◌, ◌<◌, ◌++◌, ◌∷◌, [], OnOk};
 ghost use Rattle.std.specs.Vec.{vec_len, vec_capacity};
 ghost use Rattle.mt_base.specs.declared.limits.TheConstants.{PAGE_BYTES};
+ghost use Rattle.mt_steps.specs.Overlays.{copied};
+ghost use Rattle.mt_steps.specs.Scanned.{IsScannedTo};
 ghost use Rattle.mt_steps.specs.declared.overlay.PageCopy.{PageCopy};
+ghost use Rattle.mt_steps.specs.declared.page_copies.PageCopies.{PageCopies};
 
-use crate::overlay::{PageCopy, copy_of};
+use crate::overlay::PageCopy;
+use crate::page_copies::PageCopies;
+use crate::scan_progress::ScanProgress;
 use mt_base::PageNo;
 use mt_space::Pages;
 use std::alloc::{AllocError, Global};
@@ -43,7 +48,8 @@ impl SpareCopies {
     /// Keeps the memory of these copies, which are done with. It does so if there is more of it than is kept so
     /// far, and not more than most operations want.
     pub fn keep(&mut self, copies: Copies) {
-        let Copies { total: _, mut list } = copies;
+        let Copies { pages, scan: _ } = copies;
+        let mut list = pages.list;
         let room = list.capacity();
         if self.list.capacity() < room && room <= SPARE_PAGES {
             list.clear();
@@ -52,11 +58,20 @@ impl SpareCopies {
     }
 }
 
-/// Copies of some of a device's pages, those that an operation has looked at: no other page is at hand.
+/// Copies of some of a device's pages, those that an operation has looked at: no other page is at hand. And how far
+/// a scan has come over them, of which contracts see nothing.
 #[derive(Drop)]
 pub struct Copies {
-    total: u16,
-    list: Vec<PageCopy>,
+    pub(crate) pages: PageCopies,
+    pub(crate) scan: ScanProgress,
+}
+
+impl Model for Copies {
+    ghost Value = { PageCopies };
+
+    ghost view = { λ copies. copies.pages };
+
+    ghost invariant = { λ copies. IsScannedTo (copied copies.pages.list.items) copies.pages.total copies.scan };
 }
 
 impl Copies {
@@ -66,8 +81,11 @@ impl Copies {
         ensures none { result.list.items ≡ [] }
     {
         Copies {
-            total,
-            list: Vec::new(alloc),
+            pages: PageCopies {
+                total,
+                list: Vec::new(alloc),
+            },
+            scan: ScanProgress::new(alloc),
         }
     }
 
@@ -78,13 +96,13 @@ impl Copies {
         ensures same { self.new.list.items ≡ self.old.list.items }
         ensures room { OnOk result (vec_len self.new.list < vec_capacity self.new.list) }
     {
-        if !self.list.is_empty() {
-            return self.list.reserve(1);
+        if !self.pages.list.is_empty() {
+            return self.pages.list.reserve(1);
         }
-        if self.list.capacity() < spare.list.capacity() {
-            swap(&mut self.list, &mut spare.list);
+        if self.pages.list.capacity() < spare.list.capacity() {
+            swap(&mut self.pages.list, &mut spare.list);
         }
-        self.list.reserve(USUAL_PAGES)
+        self.pages.list.reserve(USUAL_PAGES)
     }
 
     /// Puts a page's bytes after the other copies, in the room that was made for them.
@@ -93,18 +111,19 @@ impl Copies {
         ensures total { self.new.total ≡ self.old.total }
         ensures put { self.new.list.items ≡ self.old.list.items ++ record { page = page; bytes = bytes.now } ∷ [] }
     {
-        self.list.push_reserved(PageCopy {
+        self.pages.list.push_reserved(PageCopy {
             page,
             bytes: *bytes,
         });
     }
 
-    /// Forgets all copies.
+    /// Forgets all copies, and how far a scan has come.
     pub fn clear(&mut self)
         ensures total { self.new.total ≡ self.old.total }
         ensures none { self.new.list.items ≡ [] }
     {
-        self.list.clear();
+        self.pages.list.clear();
+        self.scan.clear();
     }
 }
 
@@ -122,10 +141,10 @@ impl Pages for Copies {
     ghost whole = { λ copies sound. sound };
 
     fn count(&self) -> u16 {
-        self.total
+        self.pages.count()
     }
 
     fn page(&self, page: PageNo) -> Option<&[u8; 4096]> {
-        copy_of(self.list.as_slice(), page)
+        self.pages.page(page)
     }
 }

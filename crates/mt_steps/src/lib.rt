@@ -4,6 +4,7 @@
 #![tactic(auto)]
 
 mod act;
+mod continued_plan;
 mod copies;
 mod counter_plan;
 mod counters;
@@ -16,14 +17,17 @@ mod listed_base;
 mod logged_operation;
 mod operation_plan;
 mod overlay;
+mod page_copies;
+mod placed_copies;
 mod scan_plan;
+mod scan_progress;
 mod update_plan;
 
 pub use act::Act;
+pub use continued_plan::plan_over;
 pub use copies::{Copies, SpareCopies};
 pub use counters::{COUNTER_BYTES, COUNTERS_HEAD_BYTES, SchemaSizes, add, check, counter, sizes};
 pub use laws::formatted_pages_are_good;
 pub use listed_base::{base_without_rows, list_rows};
 pub use logged_operation::logged;
 pub use operation_plan::{bytes_put, pages_for, pages_to_undo, plan};
-pub use scan_plan::{Scanned, scan};

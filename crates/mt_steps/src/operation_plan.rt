@@ -17,6 +17,8 @@ use crate::counter_plan::{add_to, read_from};
 use crate::delete_plan::delete;
 use crate::get_plan::get;
 use crate::insert_plan::insert;
+use crate::scan_plan::scan;
+use crate::scan_progress::ScanProgress;
 use crate::update_plan::update;
 use mt_base::PageNo;
 use mt_base::limits::{
@@ -40,6 +42,11 @@ use std::alloc::{AllocError, Global};
 /// given back. An update asks to write it, and for another page, the map and the bucket only if it has no room for
 /// the new value. An insert asks to write the page for its record, with the map if none is named. It asks for the
 /// map, the directory to write and further pages only if the bucket has no room for the entry.
+///
+/// A scan asks to read the directory and all pages of buckets, until the records of its relation are known. Then it
+/// asks to read their pages. It reads what is at hand anew in each plan, unless it is planned by [`plan_over`].
+///
+/// [`plan_over`]: crate::plan_over
 ///
 /// A record goes into the page `room`, which holds records, or into a new page if none is named. An insert splits
 /// a bucket of the index at most if `split` is set. No operation takes more free pages than [`pages_for`] says of it.
@@ -105,6 +112,7 @@ pub fn plan<V: Pages>(
         Op::Delete(relation, key) => delete(alloc, views, *relation, key.as_slice(), search),
         Op::Add(counter, step) => add_to(alloc, views, *counter, *step),
         Op::Read(counter) => Ok(read_from(alloc, views, *counter)),
+        Op::Scan(relation) => scan(alloc, views, *relation, &mut ScanProgress::new(alloc)),
     }
 }
 

@@ -1,62 +1,69 @@
 // The plan of a scan: the index names the records of a relation, and their pages have its rows. Nothing changes.
-ghost use Rattle.std.specs.Prelude.{ℕ, IfOk};
+ghost use Rattle.std.specs.Prelude.{◌≡◌, ℕ, None, Contains, IfSome};
 ghost use Rattle.mt_index.specs.Answers.{InMaps};
 ghost use Rattle.mt_index.specs.Names.{AreNames, AreNamesOnce};
 ghost use Rattle.mt_steps.specs.Acts.{HasGood};
-ghost use Rattle.mt_steps.specs.Scans.{IsScanOf};
+ghost use Rattle.mt_steps.specs.Planners.{PlansScan};
+ghost use Rattle.mt_steps.specs.Scanned.{IsScannedTo};
 
-use mt_base::{Bytes, PageNo, RecordName, RelNo};
+use crate::act::Act;
+use crate::scan_progress::ScanProgress;
+use mt_base::limits::MAX_PAGES;
+use mt_base::{Bytes, Mode, PageNo, RecordName, RelNo};
 use mt_file::{Lookup, plan_read};
 use mt_index::{Names, plan_names};
+use mt_model::Reply;
 use mt_rows::{Row, Rows};
-use mt_space::Pages;
+use mt_space::{Changes, Pages};
 use std::alloc::{AllocError, Global};
 
-/// What the plan of a scan answers.
-#[derive(Debug, Drop)]
-pub enum Scanned {
-    /// This page has to be locked for read first, and shown. Then the plan is made anew.
-    Lock(PageNo),
-    /// All rows of the relation, in order of key bytes.
-    Rows(Rows),
-    /// The pages break the rules of their formats.
-    Broken,
-}
-
-/// Plans to read all rows of a relation, by the pages at hand. The directory, each page of each bucket and each page
-/// with a record of the relation is needed for read, and no other. Nothing changes. Of pages that break no rule it is
-/// never answered that they do. The only error is want of memory.
+/// Plans to read all rows of a relation: the directory, each page of each bucket and each page with a record of the
+/// relation is needed for read, and nothing changes.
 ///
-/// A call reads what is at hand from the beginning, so it is asked again with each page that it needs.
-pub fn scan<V: Pages>(alloc: Global, views: &V, relation: RelNo) -> Result<Scanned, AllocError>
+/// It goes on from where the plans over fewer pages have come.
+pub(crate) fn scan<V: Pages>(
+    alloc: Global,
+    views: &V,
+    relation: RelNo,
+    progress: &mut ScanProgress,
+) -> Result<Act, AllocError>
     requires sound { V.is_sound views.now }
     requires good { ∥ ((relations : ℕ) × HasGood (V.at_hand views.now) relations (V.total views.now)) ∥₁ }
-    ensures { IfOk result (IsScanOf (V.at_hand views.now) (V.total views.now) relation) }
+    requires so_far { IsScannedTo (V.at_hand views.now) (V.total views.now) progress.old }
+    ensures plans { PlansScan (V.at_hand views.now) (V.total views.now) relation result }
+    ensures so_far { IsScannedTo (V.at_hand views.now) (V.total views.now) progress.new }
 {
-    match plan_names(alloc, views, relation)? {
-        Names::Need(page, _read) => Ok(Scanned::Lock(page)),
-        Names::Named(names) => rows_named(alloc, views, relation, names.as_slice()),
-        Names::Endless => Ok(Scanned::Broken),
+    progress.turn_to(relation);
+    match plan_names(views, relation, &mut progress.gathering)? {
+        Names::Need(page, mode) => Ok(Act::Lock(page, mode)),
+        Names::Named => {
+            let names = progress.gathering.names();
+            if let Some(page) = first_missing(views, names, &mut progress.ready) {
+                return Ok(Act::Lock(page, Mode::Read));
+            }
+            rows_named(alloc, views, relation, names)
+        }
+        Names::Endless => Ok(Act::Broken),
     }
 }
 
-// The rows of a relation, whose records have these names.
+// The plan once the names of all records of the relation are known.
 fn rows_named<V: Pages>(
     alloc: Global,
     views: &V,
     relation: RelNo,
     names: &[RecordName],
-) -> Result<Scanned, AllocError>
+) -> Result<Act, AllocError>
     requires sound { V.is_sound views.now }
     requires good { ∥ ((relations : ℕ) × HasGood (V.at_hand views.now) relations (V.total views.now)) ∥₁ }
     requires named { InMaps (V.at_hand views.now) (V.total views.now) (λ pages m. AreNames relation m names.now) }
     requires once { InMaps (V.at_hand views.now) (V.total views.now) (λ pages m. AreNamesOnce relation m names.now) }
-    ensures { IfOk result (IsScanOf (V.at_hand views.now) (V.total views.now) relation) }
+    ensures { PlansScan (V.at_hand views.now) (V.total views.now) relation result }
 {
     let mut rows = Vec::new(alloc);
     for name in names {
         match plan_read(views, *name) {
-            Lookup::Need(page, _read) => return Ok(Scanned::Lock(page)),
+            Lookup::Need(page, mode) => return Ok(Act::Lock(page, mode)),
             Lookup::Record(record) => {
                 let key = Bytes::copy_of(alloc, record.key)?;
                 let value = Bytes::copy_of(alloc, record.value)?;
@@ -66,8 +73,31 @@ fn rows_named<V: Pages>(
                     value,
                 })?;
             }
-            Lookup::Nothing => return Ok(Scanned::Broken),
+            Lookup::Nothing => return Ok(Act::Broken),
         }
     }
-    Ok(Scanned::Rows(Rows::sorted(rows)))
+    Ok(Act::Made(Changes::new(alloc), Reply::Rows(Rows::sorted(rows))))
+}
+
+// The page of the first record that is not at hand, from a place on that it moves there. It is looked for before any
+// row is copied, and in each page once, since a scan asks so with each page that it needs.
+fn first_missing<V: Pages>(views: &V, names: &[RecordName], ready: &mut usize) -> Option<PageNo>
+    requires sound { V.is_sound views.now }
+    ensures missing { IfSome result (λ p. V.at_hand views.now p ≡ None) }
+    ensures named { IfSome result (λ p. (s : ℕ) × Contains names.now (record { page = p; slot = s })) }
+{
+    let mut seen = [false; MAX_PAGES as usize];
+    for i in *ready..names.len() {
+        let page = names[i].page;
+        let place = page.get() as usize;
+        if place < seen.len() && !seen[place] {
+            if views.page(page).is_none() {
+                *ready = i;
+                return Some(page);
+            }
+            seen[place] = true;
+        }
+    }
+    *ready = names.len();
+    None
 }

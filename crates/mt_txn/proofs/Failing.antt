@@ -9,7 +9,7 @@ use Rattle.mt_core.specs.Consistent.{Origin}
 use Rattle.mt_core.specs.Runs.{state_in}
 use Rattle.mt_core.specs.declared.parts.Core.{Core}
 use Rattle.mt_model.specs.declared.operations.Op.{Op}
-use Rattle.mt_model.specs.declared.operations.Op.TheVariants.{Get, Insert, Update, Delete, Add, Read}
+use Rattle.mt_model.specs.declared.operations.Op.TheVariants.{Get, Insert, Update, Delete, Add, Read, Scan}
 use Rattle.mt_txn.specs.Causes.{busy_cause, call_cause, count_cause, first_of, is_busy, is_key, is_open, is_step, name_cause, size_cause, unless}
 
 -- no cause that is 2
@@ -35,6 +35,7 @@ name_fine relations counters (Update r k v) = unless_fine (nat_lt r relations) r
 name_fine relations counters (Delete r k) = unless_fine (nat_lt r relations) refusal.NoSuchRelation (λ e. cc)
 name_fine relations counters (Add c d) = unless_fine (nat_lt c counters) refusal.NoSuchCounter (λ e. cc)
 name_fine relations counters (Read c) = unless_fine (nat_lt c counters) refusal.NoSuchCounter (λ e. cc)
+name_fine relations counters (Scan r) = unless_fine (nat_lt r relations) refusal.NoSuchRelation (λ e. cc)
 
 size_fine : (op : Op) → IsFine (size_cause op)
 size_fine (Get r k) = unless_fine (is_key k) refusal.BadLength (λ e. cc)
@@ -43,6 +44,7 @@ size_fine (Update r k v) = unless_fine _ refusal.BadLength (λ e. cc)
 size_fine (Delete r k) = unless_fine (is_key k) refusal.BadLength (λ e. cc)
 size_fine (Add c d) = unless_fine (is_step d) refusal.BadStep (λ e. cc)
 size_fine (Read c) = λ is. cc
+size_fine (Scan r) = λ is. cc
 
 open_fails : (failed opened : Bool) (later : Option Refusal) → IsFine later → first_of (if failed then Some refusal.DeviceFailed else unless opened refusal.Stranger) later ≡ Some refusal.DeviceFailed → failed ≡ true
 open_fails true opened later fine is = refl

@@ -13,7 +13,7 @@ use Rattle.mt_live.specs.declared.transactions.TxnState.TheVariants.{Open, Abort
 use Rattle.mt_model.specs.History.{IsLegal}
 use Rattle.mt_model.specs.Model.{Base, reply_of, base_after, IsWithin}
 use Rattle.mt_model.specs.declared.operations.Op.{Op}
-use Rattle.mt_model.specs.declared.operations.Op.TheVariants.{Get, Insert, Update, Delete, Add, Read}
+use Rattle.mt_model.specs.declared.operations.Op.TheVariants.{Get, Insert, Update, Delete, Add, Read, Scan}
 use Rattle.mt_op.specs.declared.answers.TakenBack.{TakenBack}
 use Rattle.mt_op.specs.declared.answers.TakenBack.TheVariants as taken
 use Rattle.mt_op.specs.declared.scope.Stage.{Stage}
@@ -56,6 +56,7 @@ within_of relations counters (Update r k v) named sized = (named, sized.0, sized
 within_of relations counters (Delete r k) named sized = (named, sized)
 within_of relations counters (Add c d) named sized = (named, sized)
 within_of relations counters (Read c) named sized = named
+within_of relations counters (Scan r) named sized = named
 
 module _ {D : Type 0} (g : Ghosts D) (relations counters : ℕ) where
   pub sound_of : (k : Core D) → IsWell g relations counters k → IsSound g k

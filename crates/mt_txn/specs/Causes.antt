@@ -11,7 +11,7 @@ use Rattle.mt_live.specs.declared.transactions.TxnState.{TxnState}
 use Rattle.mt_live.specs.declared.transactions.TxnState.TheVariants.{Open, Aborting}
 use Rattle.mt_log.specs.Words.{area_size}
 use Rattle.mt_model.specs.declared.operations.Op.{Op}
-use Rattle.mt_model.specs.declared.operations.Op.TheVariants.{Get, Insert, Update, Delete, Add, Read}
+use Rattle.mt_model.specs.declared.operations.Op.TheVariants.{Get, Insert, Update, Delete, Add, Read, Scan}
 use Rattle.mt_core.specs.Consistent.{log_kept}
 use Rattle.mt_core.specs.Runs.{state_in}
 use Rattle.mt_core.specs.declared.parts.Core.{Core}
@@ -110,6 +110,7 @@ IsNamed relations counters (Update r k v) = r < relations
 IsNamed relations counters (Delete r k) = r < relations
 IsNamed relations counters (Add c d) = c < counters
 IsNamed relations counters (Read c) = c < counters
+IsNamed relations counters (Scan r) = r < relations
 
 -- its key, value and step lie within their limits
 abbrev pub IsSized : Op → Type 0
@@ -119,6 +120,7 @@ IsSized (Update r k v) = IsKey k × IsValue v
 IsSized (Delete r k) = IsKey k
 IsSized (Add c d) = IsStep d
 IsSized (Read c) = Unit {0}
+IsSized (Scan r) = Unit {0}
 
 -- no such relation, or no such counter
 abbrev pub name_cause : ℕ → ℕ → Op → Option Refusal
@@ -128,6 +130,7 @@ name_cause relations counters (Update r k v) = unless (nat_lt r relations) refus
 name_cause relations counters (Delete r k) = unless (nat_lt r relations) refusal.NoSuchRelation
 name_cause relations counters (Add c d) = unless (nat_lt c counters) refusal.NoSuchCounter
 name_cause relations counters (Read c) = unless (nat_lt c counters) refusal.NoSuchCounter
+name_cause relations counters (Scan r) = unless (nat_lt r relations) refusal.NoSuchRelation
 
 -- a key, a value or a step past its limits
 abbrev pub size_cause : Op → Option Refusal
@@ -137,6 +140,7 @@ size_cause (Update r k v) = unless (is_key k && is_value v) refusal.BadLength
 size_cause (Delete r k) = unless (is_key k) refusal.BadLength
 size_cause (Add c d) = unless (is_step d) refusal.BadStep
 size_cause (Read c) = None
+size_cause (Scan r) = None
 
 -- why a call is refused before its lock is asked for, if it is: the first cause in the order of the tests
 abbrev pub call_cause : {D : Type 0} → ℕ → ℕ → Bool → Core D → ℕ → Op → Option Refusal

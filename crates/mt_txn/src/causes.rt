@@ -4,7 +4,7 @@ ghost use Rattle.mt_base.specs.declared.limits.TheConstants.{MAX_BEGUN};
 ghost use Rattle.mt_op.specs.declared.scope.OpScope.{OpScope};
 ghost use Rattle.mt_live.specs.declared.transactions.TxnState.TheVariants.{Open, Aborting};
 ghost use Rattle.mt_txn.specs.Causes.{IsNamed, IsSized, abort_cause, call_cause, count_cause, name_cause, open_cause, size_cause};
-ghost use Rattle.mt_txn.specs.Words.{kernel_state, kernel_running, kernel_call_cause, kernel_open_cause, kernel_abort_cause};
+ghost use Rattle.mt_txn.specs.Words.{kernel_state, kernel_running, kernel_call_cause, kernel_commit_cause, kernel_open_cause, kernel_abort_cause};
 ghost use Rattle.mt_core.specs.Seen.{core_last};
 
 use crate::kernel::Kernel;
@@ -41,7 +41,8 @@ fn name_cause(relations: u16, counters: u16, op: &Op) -> Option<Refusal>
         Op::Get(relation, _)
         | Op::Insert(relation, _, _)
         | Op::Update(relation, _, _)
-        | Op::Delete(relation, _) => {
+        | Op::Delete(relation, _)
+        | Op::Scan(relation) => {
             if relation.get() < relations {
                 None
             } else {
@@ -71,6 +72,21 @@ impl<D: Device> Kernel<D> {
             Some(TxnState::Open) => None,
             _ => Some(Refusal::Stranger),
         }
+    }
+
+    // Why a commit is refused, if it is. A call is refused for these causes first.
+    pub(crate) fn commit_cause(&self, txn: TxnNo) -> Option<Refusal>
+        ensures cause { result ≡ kernel_commit_cause self.now txn }
+        ensures opened { IfNone result (kernel_state self.now txn ≡ Some Open) }
+        ensures idle { IfNone result (All (λ (r : OpScope). r.txn ≢ txn) (kernel_running self.now)) }
+    {
+        if let Some(why) = self.open_cause(txn) {
+            return Some(why);
+        }
+        if self.core.place_of(txn).is_some() {
+            return Some(Refusal::Busy);
+        }
+        None
     }
 
     // Why a step of an abort is refused, if it is.
@@ -109,11 +125,8 @@ impl<D: Device> Kernel<D> {
         ensures named { IfNone result (IsNamed self.now.relations self.now.counters op.now) }
         ensures sized { IfNone result (IsSized op.now) }
     {
-        if let Some(why) = self.open_cause(txn) {
+        if let Some(why) = self.commit_cause(txn) {
             return Some(why);
-        }
-        if self.core.place_of(txn).is_some() {
-            return Some(Refusal::Busy);
         }
         if let Some(why) = self.count_cause(txn) {
             return Some(why);

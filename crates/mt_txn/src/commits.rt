@@ -41,11 +41,8 @@ impl<D: Device> Kernel<D> {
         ensures restarts { StaysRestarting self.old self.new }
         ensures moments { LeavesFound self.old self.new }
     {
-        if let Some(why) = self.open_cause(txn) {
+        if let Some(why) = self.commit_cause(txn) {
             return Err(why);
-        }
-        if self.core.place_of(txn).is_some() {
-            return Err(Refusal::Busy);
         }
         let place = self.core.commit_begin(txn)?;
         Ok(place as u64)

@@ -1,6 +1,6 @@
 use Rattle.std.proofs.Common.{[], ◌++◌, ◌∙◌, append-nil, ap, sym}
 use Rattle.std.specs.List.{cons_option}
-use Rattle.mt_index.proofs.Gathering.{page_more}
+use Rattle.mt_index.proofs.Bucketwise.{page_more}
 use Rattle.mt_index.proofs.record_names.gather_page.Goals.{in-Some+in_ok-push, in_default}
 use Rattle.mt_index.proofs.record_names.gather_page.Goals as goal
 

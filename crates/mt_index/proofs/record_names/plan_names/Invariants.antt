@@ -1,8 +1,10 @@
--- The names of the buckets that the first pointers name are gathered.
-use Rattle.mt_index.specs.Answers.{InMaps}
-use Rattle.mt_index.proofs.Gathering.{AreGathered}
+-- The names of the buckets that the pointers so far name are gathered.
+use Rattle.std.proofs.Common.{◌≡◌}
+use Rattle.mt_index.specs.Names.{IsGatheredTo}
 use Rattle.mt_index.proofs.record_names.plan_names.Given as goal
 
-abbrev pub invariant-loop-i : goal.invariant-loop-i
-invariant-loop-i g l = InMaps (g.V.Pages.at_hand l.views) (g.V.Pages.total l.views) (λ pages m.
-    AreGathered pages m l.relation l.i l.names.items)
+abbrev pub invariant-loop-pointer : goal.invariant-loop-pointer
+invariant-loop-pointer g l = record {
+  place : l.gathering.pointer ≡ l.pointer;
+  so_far : IsGatheredTo (g.V.Pages.at_hand l.views) (g.V.Pages.total l.views) l.relation l.gathering;
+}

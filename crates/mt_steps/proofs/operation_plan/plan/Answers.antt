@@ -3,7 +3,7 @@ use Rattle.std.proofs.Props.{props}
 use Rattle.std.proofs.Common.{arith, ◌≡◌, ◌<◌, ◌∙◌, sym, ap, subst, rules, to_z, of_z, to_z-of_z, SFits, w64}
 use Rattle.std.proofs.lemmas.Result.{IfOk-weaker}
 use Rattle.mt_model.specs.declared.operations.Op.{Op}
-use Rattle.mt_model.specs.declared.operations.Op.TheVariants.{Get, Insert, Update, Delete, Add, Read}
+use Rattle.mt_model.specs.declared.operations.Op.TheVariants.{Get, Insert, Update, Delete, Add, Read, Scan}
 use Rattle.mt_model.specs.Model.{IsWithin}
 use Rattle.mt_steps.specs.Acts.{IfLock}
 use Rattle.mt_steps.specs.Asks.{AsksFor, HasSearched}
@@ -15,6 +15,9 @@ use Rattle.mt_steps.proofs.operation_plan.plan.Goals as goal
 
 pub get-requires-clause-good : goal.get-requires-clause-good
 get-requires-clause-good g c = ∥∥₁_map c.requires.good (λ (relations, counters, has, within, few). (relations, (has.0, has.1, has.2.meaning, has.2.rows)))
+
+pub scan-requires-clause-good : goal.scan-requires-clause-good
+scan-requires-clause-good g c = ∥∥₁_map c.requires.good (λ (relations, counters, has, within, few). (relations, (has.0, has.1, has.2.meaning, has.2.rows)))
 
 pub delete-requires-clause-good : goal.delete-requires-clause-good
 delete-requires-clause-good g c = ∥∥₁_map c.requires.good (λ (relations, counters, has, within, few). (relations, (has.0, has.1, has.2.meaning, has.2.rows)))
@@ -279,3 +282,28 @@ returns-in-Add-clause-searched g c = subst (λ (o : Op). HasSearched (g.V.Pages.
 
 pub returns-in-Read-clause-searched : goal.returns-in-Read-clause-searched
 returns-in-Read-clause-searched g c = subst (λ (o : Op). HasSearched (g.V.Pages.at_hand c.args.views.now) (g.V.Pages.total c.args.views.now) o c.args.search.now) (sym c.in-Read.is) tt
+
+-- ---- a scan
+
+pub scan-requires-clause-so_far : goal.scan-requires-clause-so_far
+scan-requires-clause-so_far g c = c.new.ensures (g.V.Pages.at_hand c.args.views.now) (g.V.Pages.total c.args.views.now)
+
+pub returns-in-Scan-clause-made : goal.returns-in-Scan-clause-made
+returns-in-Scan-clause-made g c = λ relations counters few within.
+    ok_both c.scan.result _ _ _
+    (λ act. quiet_planned c.args.split relations counters (g.V.Pages.total c.args.views.now) (g.V.Pages.at_hand c.args.views.now) c.args.room (Scan c.in-Scan.relation) c.args.op.now act (sym c.in-Scan.is))
+    (c.scan.ensures.plans.made relations) c.scan.ensures.plans.quiet
+
+pub returns-in-Scan-clause-full : goal.returns-in-Scan-clause-full
+returns-in-Scan-clause-full g c = λ relations counters few within. IfOk-weaker c.scan.result _ _ (λ act. never_full act _) c.scan.ensures.plans.full
+
+pub returns-in-Scan-clause-asks : goal.returns-in-Scan-clause-asks
+returns-in-Scan-clause-asks g c =
+    asks_same (g.V.Pages.at_hand c.args.views.now) c.args.room (g.V.Pages.total c.args.views.now) c.args.split _ c.args.op.now c.scan.result (sym c.in-Scan.is) (c.scan.ensures.plans.asks c.args.room c.args.split)
+
+pub returns-in-Scan-clause-takes : goal.returns-in-Scan-clause-takes
+returns-in-Scan-clause-takes g c = λ relations counters few within.
+    IfOk-weaker c.scan.result _ _ (λ act. quiet_reported relations counters (g.V.Pages.total c.args.views.now) (g.V.Pages.at_hand c.args.views.now) c.args.room c.args.op.now act) c.scan.ensures.plans.quiet
+
+pub returns-in-Scan-clause-searched : goal.returns-in-Scan-clause-searched
+returns-in-Scan-clause-searched g c = subst (λ (o : Op). HasSearched (g.V.Pages.at_hand c.args.views.now) (g.V.Pages.total c.args.views.now) o c.args.search.now) (sym c.in-Scan.is) tt

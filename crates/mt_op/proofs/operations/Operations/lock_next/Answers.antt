@@ -1,6 +1,6 @@
 use Rattle.std.proofs.Common.{◌≡◌, ◌∙◌, ◌<◌, inr, true, ℕ, refl, sym, subst, arith}
 use Rattle.mt_model.specs.declared.operations.Op.{Op}
-use Rattle.mt_model.specs.declared.operations.Op.TheVariants.{Get, Insert, Update, Delete, Add, Read}
+use Rattle.mt_model.specs.declared.operations.Op.TheVariants.{Get, Insert, Update, Delete, Add, Read, Scan}
 use Rattle.mt_steps.specs.Plans.{record_bytes}
 use Rattle.mt_op.specs.Holds.{IsAsked}
 use Rattle.mt_op.specs.Operations.{only_reads}
@@ -15,6 +15,7 @@ puts (Update r k v) some is = absurd cc
 puts (Delete r k) some is = absurd cc
 puts (Add c d) some is = absurd cc
 puts (Read c) some is = absurd (omega arith)
+puts (Scan r) some is = absurd (omega arith)
 
 pub room_for-requires-clause-few : goal.room_for-requires-clause-few
 room_for-requires-clause-few g c = let k = known g.D.Device c.args.self.now c.args.scope.now c.requires.right in let few = k.steady.few in let total = k.rooms in omega arith

@@ -5,6 +5,9 @@ use Rattle.mt_model.specs.Views.{base_of}
 use Rattle.mt_model.specs.declared.tables.Base.{Base}
 use Rattle.mt_locked.proofs.Keeping.{began_so}
 use Rattle.mt_shared.proofs.Openings.{first_book, open_fault, unopened_by}
+use Rattle.mt_disk.specs.Disk.{LeavesOnly}
+use Rattle.mt_restart.specs.Recovered.{StandsStill}
+use Rattle.mt_restart.specs.Resumed.{HasTurnedOver}
 use Rattle.mt_steps.specs.Listed.{IsSame}
 use Rattle.mt_txn.specs.Seen.{KernelSeen}
 use Rattle.mt_shared.proofs.opened.Opened.open.Goals as goal
@@ -42,3 +45,17 @@ returns-clause-settled g c = λ relations counters b can other x leaves.
 
 pub returns-in-Ok-new-clause-quiet : goal.returns-in-Ok-new-clause-quiet
 returns-in-Ok-new-clause-quiet g c = ap (λ (k : KernelSeen _). g.D.Device.faults (core_device k.core)) c.in-Ok-new.ensures.kernel ∙ c.in-Ok.ensures.quiet
+
+pub returns-in-Ok-new-clause-once : goal.returns-in-Ok-new-clause-once
+returns-in-Ok-new-clause-once g c =
+    subst (λ (k : KernelSeen _). HasTurnedOver (g.D.Device.seen c.args.device) k.core) (sym c.in-Ok-new.ensures.kernel) c.in-Ok.ensures.once
+
+pub returns-in-Ok-new-clause-moments : goal.returns-in-Ok-new-clause-moments
+returns-in-Ok-new-clause-moments g c = λ relations counters b can.
+    subst (λ (k : KernelSeen _). LeavesOnly g.D.Device.moment g.D.Device.left_since c.args.device (core_device k.core) (StandsStill g.D.Device relations counters b c.args.device))
+    (sym c.in-Ok-new.ensures.kernel) (c.in-Ok.ensures.moments relations counters b can)
+
+pub returns-clause-moments : goal.returns-clause-moments
+returns-clause-moments g c = λ relations counters b can.
+    let D = g.D.Device in
+    rw (c.into_device.ensures.device, c.in-Err-new.ensures.same) (c.in-Ok.ensures.moments relations counters b can)

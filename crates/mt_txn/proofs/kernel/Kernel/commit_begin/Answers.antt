@@ -28,10 +28,6 @@ pub returns-in-Some-clause-moments : goal.returns-in-Some-clause-moments
 returns-in-Some-clause-moments g c = λ first r schema. let D = g.D.Device in let k = c.args.self.now in
     no_call D k.relations k.counters first g.met.D.Device.only_now k.core _ refl r schema
 
-pub returns-then-is_some-clause-moments : goal.returns-then-is_some-clause-moments
-returns-then-is_some-clause-moments g c = λ first r schema. let D = g.D.Device in let k = c.args.self.now in
-    no_call D k.relations k.counters first g.met.D.Device.only_now k.core _ refl r schema
-
 pub returns-in_err-place-clause-moments : goal.returns-in_err-place-clause-moments
 returns-in_err-place-clause-moments g c = λ first r schema. let D = g.D.Device in let k = c.args.self.now in
     no_call D k.relations k.counters first g.met.D.Device.only_now k.core _ c.commit_begin.ensures.keeps.device r schema

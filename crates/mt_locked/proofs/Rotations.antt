@@ -1,6 +1,6 @@
 -- A log that is turned over under the lock.
-use Rattle.std.proofs.Common.{◌≡◌, ◌≤◌, ◌∙◌, ℕ, Bool, true, false, List, length, Option, Some, None, Result, Ok, Err, ap, inr, refl, sym, subst, arith, ⊎_elim}
-use Rattle.std.specs.Prelude.{IfErr, IsErr, IsOk}
+use Rattle.std.proofs.Common.{◌≡◌, ◌≤◌, ◌∙◌, ℕ, zero, suc, Bool, true, false, List, length, Option, Some, None, Result, Ok, Err, ap, inr, refl, sym, subst, arith, ⊎_elim}
+use Rattle.std.specs.Prelude.{IfErr, IsErr, IsOk, if◌then◌else◌, nat_eq}
 use mathlib.Core.List.{IsPrefix}
 use Rattle.mt_base.specs.declared.refusal.Refusal.{Refusal}
 use Rattle.mt_base.specs.declared.refusal.Refusal.TheVariants as refusal
@@ -16,13 +16,16 @@ use Rattle.mt_restart.specs.Standings.{HasFrames, device_at}
 use Rattle.mt_restart.specs.TurnFaults.{IsTurnFault}
 use Rattle.mt_restart.specs.declared.standing.Standing.{Standing}
 use Rattle.mt_restart.specs.declared.standing.Standing.TheVariants.{Stands, Ended}
+use Rattle.mt_txn.specs.Causes.{survey_cause}
 use Rattle.mt_txn.specs.Restarted.{FindsMeanwhile}
 use Rattle.mt_txn.specs.Seen.{KernelSeen, seen_of}
 use Rattle.mt_txn.specs.Shown.{Restarts, is_failed}
 use Rattle.mt_txn.specs.Turned.{HasNobody}
 use Rattle.mt_txn.specs.declared.kernel.Kernel.{Kernel}
 use Rattle.mt_locked.specs.Standings.{LeavesBook, kernel_in}
-use Rattle.mt_locked.specs.Turns.{IsOneTurn, IsRotation, IsTooEarly}
+use Rattle.mt_locked.specs.Turns.{IsLeftAfter, IsOneTurn, IsRotation, IsTooEarly}
+use Rattle.mt_locked.specs.Seen.{is_failed_in}
+use Rattle.std.proofs.Math.Dec.{eqb-suc-zero}
 use Rattle.mt_locked.proofs.Books.{whole_front}
 use Rattle.mt_locked.proofs.Keeping.{turned_began, turned_book}
 use Rattle.mt_locked.proofs.Standings.{found_with}
@@ -41,8 +44,9 @@ not_both o did early = let wrong : ◌≡◌ {A = Result Bool Refusal} (Ok true)
 
 module _ {D : Type 0} (g : Ghosts D) where
   -- what has not been turned over, and is refused or too early
-  pub not_turned : (commits frames : ℕ) (s : Standing D g) (outcome : Result Bool Refusal) → IfErr outcome IsTurnFault → (outcome ≡ Ok true → ⊥) → (outcome ≡ Ok false → IsTooEarly commits s) → (kernel_in s ≡ None → IsErr outcome) → IsRotation g commits frames s s outcome
-  not_turned commits frames s outcome why not early gone = record { keeps = λ base history long keeps. (keeps, refl); why = why; did = λ did. absurd (not did); early = λ is. (refl, early is); gone = gone }
+  pub not_turned : (commits frames : ℕ) (s : Standing D g) (outcome : Result Bool Refusal) → IfErr outcome IsTurnFault → (outcome ≡ Ok true → ⊥) → (outcome ≡ Ok false → IsTooEarly commits s) → (kernel_in s ≡ None → IsErr outcome)
+      → IfErr outcome (λ w. IsLeftAfter w (kernel_in s)) → (is_failed_in (kernel_in s) ≡ true → outcome ≡ Err refusal.DeviceFailed) → IsRotation g commits frames s s outcome
+  not_turned commits frames s outcome why not early gone refused failed = record { keeps = λ base history long keeps. (keeps, refl); why = why; did = λ did. absurd (not did); early = λ is. (refl, early is); gone = gone; refused = refused; failed = λ is. (failed is, refl) }
 
   -- the device that is left leaves the whole book
   pub left_whole : (k : Kernel D g) (device : D) → ((t : ℕ) (c : List ℕ) → t ≤ g.moment device → g.may_leave device c → g.left_since device t c)
@@ -69,6 +73,42 @@ module _ {D : Type 0} (g : Ghosts D) where
       not_kept refusal.LogFull none kept = none tt
       not_kept _ none kept = kept
 
+  -- a kernel that had not failed, and was refused for a fault, is left so
+  left_after : (k n : Kernel D g) (why : Refusal) → is_failed k ≡ false → IsTurnFault why → IsLeft k why n → IsLeftAfter why (Some (seen_of n))
+  left_after k n why well fault left = ⊎_elim (λ at_once. absurd (late at_once.0)) (λ kept. by why kept.1) left.cause
+    where
+      fault_late : (count : ℕ) → (if nat_eq count 0 then None else Some refusal.Busy) ≡ Some why → ⊥
+      fault_late zero is = absurd cc
+      fault_late (suc count) is =
+          let busy : Some refusal.Busy ≡ Some why = sym (ap (λ (b : Bool). if b then None else Some refusal.Busy) (eqb-suc-zero count)) ∙ is in
+          let same : why ≡ refusal.Busy = cc in
+          subst IsTurnFault same fault
+
+      late : early_cause k ≡ Some why → ⊥
+      late early = fault_late (length k.core.live.members) (sym (ap (λ (b : Bool). survey_cause b k.core) well) ∙ early)
+
+      by : (w : Refusal) → IsKeptCause n w → IsLeftAfter w (Some (seen_of n))
+      by refusal.NoMemory kept = kept
+      by refusal.DeviceFailed kept = kept
+      by refusal.LogFull kept = kept.0
+      by _ kept = absurd kept
+
+  left_so : (k n : Kernel D g) (r : Result (Unit {0}) Refusal) (outcome : Result Bool Refusal) → is_failed k ≡ false → IfErr outcome IsTurnFault → IfErr outcome (λ why. r ≡ Err why)
+      → Rotates k (Stands n) r → IfErr outcome (λ why. IsLeftAfter why (Some (seen_of n)))
+  left_so k n r (Ok b) well fault same rotates = tt
+  left_so k n r (Err why) well fault same rotates = left_after k n why well fault (subst (Rotates k (Stands n)) same rotates)
+
+  left_alone : (left : Refusal) (outcome : Result Bool Refusal) → left ≡ refusal.DeviceFailed → IfErr outcome (λ why. ◌≡◌ {A = Result (Unit {0}) Refusal} (Err left) (Err why))
+      → IfErr outcome (λ why. IsLeftAfter {D = D} why None)
+  left_alone left (Ok b) is same = tt
+  left_alone left (Err why) is same =
+      let one : left ≡ why = cc in
+      subst (λ w. IsLeftAfter {D = D} w None) (sym is ∙ one) refl
+
+  -- it had not failed
+  not_failed : (k : Kernel D g) (P : Type 0) → is_failed k ≡ false → is_failed_in (Some (seen_of k)) ≡ true → P
+  not_failed k P well bad = let wrong : true ≡ false = sym bad ∙ well in absurd cc
+
   early_of : (commits : ℕ) (k n : Kernel D g) (r : Result (Unit {0}) Refusal) (outcome : Result Bool Refusal) → (IsOk r → outcome ≡ Ok true) → IfErr r (λ why. IsTurnFault why → IsErr outcome) → Rotates k (Stands n) r
       → outcome ≡ Ok false → (Stands n ≡ Stands k) × IsTooEarly commits (Stands k)
   early_of commits k n (Ok u) outcome so fault rotates is = absurd (not_both outcome (so refl) is)
@@ -78,9 +118,9 @@ module _ {D : Type 0} (g : Ghosts D) where
   pub turned_so : (commits frames : ℕ) (k : Kernel D g) (new : Standing D g) (r : Result (Unit {0}) Refusal) (outcome : Result Bool Refusal)
       → ((device : D) (t : ℕ) (c : List ℕ) → t ≤ g.moment device → g.may_leave device c → g.left_since device t c)
       → ((first : model.Base) → Restarts first k → FindsMeanwhile g k.relations k.counters first k.core (device_at new))
-      → IfErr outcome IsTurnFault → (outcome ≡ Ok true → IsOk r) → (IsOk r → outcome ≡ Ok true) → IfErr r (λ why. IsTurnFault why → IsErr outcome) → length k.core.book.items ≡ commits
+      → IfErr outcome IsTurnFault → (outcome ≡ Ok true → IsOk r) → (IsOk r → outcome ≡ Ok true) → IfErr r (λ why. IsTurnFault why → IsErr outcome) → IfErr outcome (λ why. r ≡ Err why) → is_failed k ≡ false → length k.core.book.items ≡ commits
       → (IsOk r → HasFrames frames new) → Rotates k new r → IsRotation g commits frames (Stands k) new outcome
-  turned_so commits frames k (Stands n) r outcome counts found why did so fault just many rotates =
+  turned_so commits frames k (Stands n) r outcome counts found why did so fault same well just many rotates =
       let over = stands_over k n r rotates in record {
         keeps = λ base history long keeps. let same = turned_book base k n over.state keeps.0 in
             ((turned_began base k n over.state over.restarts keeps.0, subst (IsPrefix history) (sym same) keeps.1), same);
@@ -100,9 +140,11 @@ module _ {D : Type 0} (g : Ghosts D) where
             } in ∣ turn ∣₁;
         early = early_of commits k n r outcome so fault rotates;
         gone = stands_here (seen_of n);
+        refused = left_so k n r outcome well why same rotates;
+        failed = not_failed k _ well;
       }
-  turned_so commits frames k (Ended device) (Ok u) outcome counts found why did so fault just many rotates = absurd rotates
-  turned_so commits frames k (Ended device) (Err refusal) outcome counts found why did so fault just many rotates = record {
+  turned_so commits frames k (Ended device) (Ok u) outcome counts found why did so fault same well just many rotates = absurd rotates
+  turned_so commits frames k (Ended device) (Err refusal) outcome counts found why did so fault same well just many rotates = record {
     keeps = λ base history long keeps.
         let whole : history ≡ k.core.book.items = whole_front history k.core.book.items keeps.1 (omega (arith, long, just)) in
         (subst (λ (h : List Committed). LeavesBook g base h device) (sym whole) (left_whole k device (counts device) found base keeps.0.1), whole);
@@ -110,4 +152,6 @@ module _ {D : Type 0} (g : Ghosts D) where
     did = λ is. absurd (let no = did is in cc);
     early = λ is. absurd (not_refused outcome is (fault (subst IsTurnFault (sym rotates.0) tt)));
     gone = λ left. fault (subst IsTurnFault (sym rotates.0) tt);
+    refused = left_alone refusal outcome rotates.0 same;
+    failed = not_failed k _ well;
   }

@@ -1,6 +1,7 @@
 -- What is reported of a kernel under the lock: of its log, and of a log that was turned over.
-use Rattle.std.specs.Prelude.{◌≡◌, ◌≢◌, ◌⊎◌, ◌<◌, ◌/◌, ℕ, Bool, true, false, List, length, Option, None, Some, Result, Ok, IfErr, IsErr}
+use Rattle.std.specs.Prelude.{◌≡◌, ◌≢◌, ◌⊎◌, ◌<◌, ◌/◌, ℕ, Bool, true, false, List, length, Option, None, Some, Result, Ok, Err, IfErr, IsErr}
 use Rattle.mt_base.specs.declared.refusal.Refusal.{Refusal}
+use Rattle.mt_base.specs.declared.refusal.Refusal.TheVariants.{DeviceFailed}
 use Rattle.mt_core.specs.Seen.{core_log}
 use Rattle.mt_disk.specs.declared.device.Device.{Ghosts}
 use Rattle.mt_live.specs.Machine.{State}
@@ -14,7 +15,7 @@ use Rattle.mt_locked.specs.Began.{BeganOn}
 use Rattle.mt_restart.specs.TurnFaults.{IsTurnFault}
 use Rattle.mt_restart.specs.declared.standing.Standing.{Standing}
 use Rattle.mt_restart.specs.declared.standing.Standing.TheVariants.{Stands, Ended}
-use Rattle.mt_locked.specs.Seen.{LockedSeen}
+use Rattle.mt_locked.specs.Seen.{LockedSeen, is_failed_in}
 use Rattle.mt_locked.specs.Standings.{KeepsHistory, book_in, kernel_in}
 use Rattle.mt_txn.specs.Seen.{KernelSeen}
 use Rattle.mt_txn.specs.Shown.{Shows, kernel_frames, kernel_log}
@@ -75,6 +76,11 @@ IsBusyIn (Some k) = length k.core.live.members ≢ 0
 abbrev pub IsTooEarlyIn : {D : Type 0} → LockedSeen D → Type 0
 IsTooEarlyIn l = (length l.book ≢ length l.list) ⊎ IsBusyIn l.kernel
 
+-- What is left where a rotation was refused so: after 2 no kernel goes on, and after 1 and 11 one does.
+abbrev pub IsLeftAfter : {D : Type 0} → Refusal → Option (KernelSeen D) → Type 0
+IsLeftAfter DeviceFailed left = is_failed_in left ≡ true
+IsLeftAfter why left = is_failed_in left ≡ false
+
 -- What a rotation to so many frames makes of what stands under a history of so many commits, and what it answers. That
 -- history and the book are kept.
 pub record IsRotation {D : Type 0} (g : Ghosts D) (commits frames : ℕ) (old new : Standing D g)
@@ -89,3 +95,6 @@ pub record IsRotation {D : Type 0} (g : Ghosts D) (commits frames : ℕ) (old ne
   pub early : outcome ≡ Ok false → (new ≡ old) × IsTooEarly commits old
   -- if no more than the device is left, it is refused
   pub gone : kernel_in new ≡ None → IsErr outcome
+  pub refused : IfErr outcome (λ why. IsLeftAfter why (kernel_in new))
+  -- if the device has failed before, nothing is done
+  pub failed : is_failed_in (kernel_in old) ≡ true → (outcome ≡ Err DeviceFailed) × (new ≡ old)

@@ -1,6 +1,6 @@
 // What the lock of a shared kernel guards, and what is done under it. mt_shared calls it with the lock taken;
 // nothing here waits or wakes a thread.
-ghost use Rattle.std.specs.Prelude.{◌≡◌, ◌<◌, ◌+◌, ◌++◌, ◌∷◌, [], ◌≤◌, false, length, OnOk, IfOk, IfErr, IsErr, IfNone, IfSome, Ok, IsTrue, ◌↔◌, slice_get, Some, None, All, true};
+ghost use Rattle.std.specs.Prelude.{◌≡◌, ◌<◌, ◌+◌, ◌++◌, ◌∷◌, [], ◌≤◌, false, length, OnOk, IfOk, IfErr, IsErr, IfNone, IfSome, Ok, Err, IsTrue, ◌↔◌, slice_get, Some, None, All, true};
 ghost use mathlib.Core.List.{IsPrefix};
 ghost use Rattle.mt_mark.specs.Legal.{IsLegal};
 ghost use Rattle.mt_mark.specs.Rule.{dones, Holds, IsConfirmed};
@@ -11,7 +11,7 @@ ghost use Rattle.mt_locked.specs.Refusals.{IsCloseRefusal, IsRoomRefusal};
 ghost use Rattle.mt_restart.specs.TurnFaults.{IsTurnFault};
 ghost use Rattle.mt_locked.specs.Rooms.{GoesOnFrom, MakesRoom};
 ghost use Rattle.mt_locked.specs.Seen.{PassSeen, Entered, CannotEnter, IsAsked, IsToForce, is_failed_in, under_way_in};
-ghost use Rattle.mt_locked.specs.Turns.{HasTurned, IsHalfUsed, IsTooEarlyIn, IsUseOn, IsUseSeen};
+ghost use Rattle.mt_locked.specs.Turns.{HasTurned, IsHalfUsed, IsLeftAfter, IsTooEarlyIn, IsUseOn, IsUseSeen};
 ghost use Rattle.mt_txn.specs.Seen.{seen_of};
 ghost use Rattle.mt_txn.specs.Shown.{is_failed};
 ghost use Rattle.mt_txn.specs.Turned.{HasNobody};
@@ -490,6 +490,10 @@ impl<D: Device + Drop, J: Naming> Locked<D, J> {
         ensures did { result ≡ Ok true → HasTurned ⟦<D as Device>⟧ frames J.base }
         ensures early { result ≡ Ok false → (self.new ≡ self.old) × IsTooEarlyIn self.old }
         ensures gone { self.new.kernel ≡ None → IsErr result }
+        // After 1 and 11 the kernel goes on. After 2 none does.
+        ensures refused { IfErr result (λ why. IsLeftAfter why self.new.kernel) }
+        ensures failed { is_failed_in self.old.kernel ≡ true
+            → (result ≡ Err Refusal.DeviceFailed) × (self.new ≡ self.old) }
         ensures book { self.new.book ≡ self.old.book }
         ensures list { self.new.list ≡ self.old.list }
     {

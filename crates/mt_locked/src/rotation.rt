@@ -1,5 +1,5 @@
 // Turns the log of a kernel over that stands under the lock, by `rotate` of mt_restart. `locked` alone calls it.
-ghost use Rattle.std.specs.Prelude.{◌≡◌, ◌↔◌, Ok, true, false, length, IfOk, IfErr, IsErr, IsOk, IsTrue};
+ghost use Rattle.std.specs.Prelude.{◌≡◌, ◌↔◌, Ok, Err, true, false, length, IfOk, IfErr, IsErr, IsOk, IsTrue};
 ghost use Rattle.mt_locked.specs.Turns.{IsRotation};
 ghost use Rattle.mt_restart.specs.TurnFaults.{IsTurnFault};
 ghost use Rattle.mt_restart.specs.declared.standing.Standing.TheVariants.{Stands};
@@ -16,6 +16,7 @@ fn answer_to(why: Refusal) -> Result<bool, Refusal>
     ensures why { IfErr result IsTurnFault }
     ensures not { IfOk result (λ did. did ≡ false) }
     ensures fault { IsTurnFault why → IsErr result }
+    ensures same { IfErr result (λ answer. answer ≡ why) }
 {
     match why {
         Refusal::NoMemory | Refusal::DeviceFailed | Refusal::LogFull => Err(why),
@@ -29,6 +30,7 @@ fn has_turned(outcome: Result<(), Refusal>) -> Result<bool, Refusal>
     ensures did { result ≡ Ok true → IsOk outcome }
     ensures so { IsOk outcome → result ≡ Ok true }
     ensures fault { IfErr outcome (λ why. IsTurnFault why → IsErr result) }
+    ensures same { IfErr result (λ why. outcome ≡ Err why) }
 {
     match outcome {
         Ok(()) => Ok(true),

@@ -1,9 +1,10 @@
 use Rattle.std.proofs.Common.{◌≡◌, ◌∙◌, ap, subst, sym}
 use Rattle.mt_mark.specs.Held.{Held}
 use Rattle.mt_mark.specs.Rule.{IsConfirmed, dones}
-use Rattle.mt_locked.specs.Seen.{LockedSeen}
+use Rattle.std.specs.Prelude.{IfErr}
+use Rattle.mt_locked.specs.Seen.{LockedSeen, is_failed_in}
 use Rattle.mt_locked.specs.Standings.{KeepsHistory, book_in, seen_in}
-use Rattle.mt_locked.specs.Turns.{IsTooEarlyIn}
+use Rattle.mt_locked.specs.Turns.{IsLeftAfter, IsTooEarlyIn}
 use Rattle.mt_locked.proofs.Books.{dones-length}
 use Rattle.mt_locked.proofs.Uses.{too_early}
 use Rattle.mt_locked.proofs.locked.Locked.rotate.Goals as goal
@@ -64,3 +65,22 @@ returns-else-ne-clause-early g c = λ is.
       (λ j. seen_in (early.0 j) (ap (λ (x : Held). x.view.list) s.same j)) ∙ c.self.view_is,
       subst (λ (l : LockedSeen _). IsTooEarlyIn l) c.self.view_is (too_early c.check-entered.result standing list s.stands early.1),
     )
+
+pub returns-then-ne-clause-refused : goal.returns-then-ne-clause-refused
+returns-then-ne-clause-refused g c =
+    subst (λ (l : LockedSeen _). IfErr c.replace_with-outcome.result (λ why. IsLeftAfter why l.kernel)) (sym c.settle.ensures) c.replace_with-outcome.ensures.refused
+
+pub returns-else-ne-clause-refused : goal.returns-else-ne-clause-refused
+returns-else-ne-clause-refused g c = c.replace_with-outcome.ensures.refused
+
+pub returns-then-ne-clause-failed : goal.returns-then-ne-clause-failed
+returns-then-ne-clause-failed g c = λ bad.
+    let s = c.check-entered.ensures in
+    let failed = c.replace_with-outcome.ensures.failed (ap (λ (l : LockedSeen _). is_failed_in l.kernel) c.self.view_is ∙ bad) in
+    (failed.0, c.settle.ensures ∙ ((λ j. seen_in (failed.1 j) (ap (λ (x : Held). x.view.list) s.same j)) ∙ c.self.view_is))
+
+pub returns-else-ne-clause-failed : goal.returns-else-ne-clause-failed
+returns-else-ne-clause-failed g c = λ bad.
+    let s = c.check-entered.ensures in
+    let failed = c.replace_with-outcome.ensures.failed (ap (λ (l : LockedSeen _). is_failed_in l.kernel) c.self.view_is ∙ bad) in
+    (failed.0, (λ j. seen_in (failed.1 j) (ap (λ (x : Held). x.view.list) s.same j)) ∙ c.self.view_is)

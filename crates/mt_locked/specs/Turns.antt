@@ -76,7 +76,7 @@ IsBusyIn (Some k) = length k.core.live.members ≢ 0
 abbrev pub IsTooEarlyIn : {D : Type 0} → LockedSeen D → Type 0
 IsTooEarlyIn l = (length l.book ≢ length l.list) ⊎ IsBusyIn l.kernel
 
--- What is left where a rotation was refused so: after 2 no kernel goes on, and after 1 and 11 one does.
+-- What is left if a rotation was refused so: after 2 no kernel goes on, and after 1 and 11 one does.
 abbrev pub IsLeftAfter : {D : Type 0} → Refusal → Option (KernelSeen D) → Type 0
 IsLeftAfter DeviceFailed left = is_failed_in left ≡ true
 IsLeftAfter why left = is_failed_in left ≡ false

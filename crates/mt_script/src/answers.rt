@@ -73,7 +73,7 @@ pub fn put_all<W: Write>(writer: &mut W, pieces: &[&[u8]]) -> Result<(), Unheard
     Ok(())
 }
 
-/// Writes each row's key and value, the start of a line before them.
+/// Writes for each row the end of the line before, its key and its value.
 fn write_pair_lines<W: Write>(writer: &mut W, rows: &[Row]) -> Result<(), Unheard>
     ensures all { OnOk result (Appends (W.contents writer.old) (W.contents writer.new) (pair_lines rows.now)) }
     ensures front { OnErr result (AppendsFront (W.contents writer.old) (W.contents writer.new) (pair_lines rows.now)) }

@@ -165,8 +165,10 @@ class Run:
 
     def __init__(self, edits_of, try_all, is_timed):
         self.edits_of, self.try_all, self.is_timed = edits_of, try_all, is_timed
-        self.rt, self.crates, self.results, self.seconds = script(), {}, {}, []
+        self.rt, self.crates, self.results, self.seconds, self.held = script(), {}, {}, [], []
         rt = self.rt
+        hold = rt.rtlib.lock
+        rt.rtlib.lock = lambda crates: self.held.extend(hold(crates))
         listed, lanes, must_fail = rt.crates_of, rt.in_lanes, rt.must_fail
 
         def crates_of(*given):
@@ -247,6 +249,9 @@ class Run:
             status = self.clocked(self.rt.main, lambda _: f"all cores={self.rt.processors()} stolen={stolen() - before:.0f}")(["ci"])
         finally:
             sys.stdout, self.seconds = out, held.seconds
+            # `rt` holds the crates' folders as long as its process lives. What comes after the run works in them too.
+            for it in self.held:
+                os.close(it)
         passed, failed = held.counts or (0, 1)
         tried = {edit: it for found in self.results.values() for edit, it in found}
         wanted = [(crate.name, edit) for crate in self.crates.values() for edit in self.edits_of(crate)]

@@ -8,7 +8,7 @@ use Rattle.std.proofs.lemmas.List.Sums.{sum_by-cons}
 use mathlib.Core.Logic.{∥∥₁_elim}
 use Rattle.std.proofs.Props.{props}
 use Rattle.mt_disk.specs.declared.device.Device.{Ghosts}
-use Rattle.mt_live.specs.Entries.{Entry}
+use Rattle.mt_live.specs.Entries.{Entry, is_standing}
 use Rattle.mt_live.specs.Lives.{member_of}
 use Rattle.mt_live.specs.Machine.{State}
 use Rattle.mt_live.specs.Members.{Member}
@@ -30,24 +30,34 @@ use Rattle.mt_alone.specs.Driven.{NobodyCommits}
 
 -- ---- what the effects take, and the bytes that are kept for them
 
-bytes_of : (e : Entry) (i : Option Op) → inverse_of e.op e.reply ≡ i → is_some i ≡ true → entry_bytes e ≡ 106496
-bytes_of e None is some = absurd cc
-bytes_of e (Some i) is some =
+bytes_of : (e : Entry) (i : Option Op) → inverse_of e.op e.reply ≡ i → is_standing e.role ≡ true → is_some i ≡ true → entry_bytes e ≡ 106496
+bytes_of e None is stands some = absurd cc
+bytes_of e (Some i) is stands some =
     let test : is_some (inverse_of e.op e.reply) ≡ true = ap (λ (o : Option Op). is_some o) is in
-    rw test (inverse_bytes e.op e.reply i is)
+    rw test (rw stands (inverse_bytes e.op e.reply i is))
 
 steps_few : (pages t : ℕ) (e : Entry) → pages ≤ 4000 → 106496 * effect_steps pages t e ≤ 8010 * entry_bytes e
-steps_few pages t e few = go (e.txn == t) (is_some (inverse_of e.op e.reply)) refl refl
+steps_few pages t e few = go (e.txn == t) (is_standing e.role) (is_some (inverse_of e.op e.reply)) refl refl refl
   where
     none : effect_steps pages t e ≡ 0 → 106496 * effect_steps pages t e ≤ 8010 * entry_bytes e
     none is = omega (arith, is)
 
-    go : (a b : Bool) → (e.txn == t) ≡ a → is_some (inverse_of e.op e.reply) ≡ b → 106496 * effect_steps pages t e ≤ 8010 * entry_bytes e
-    go false b own some = none (ap (λ (c : Bool). if c && is_some (inverse_of e.op e.reply) then 2 * pages + 10 else 0) own)
-    go true false own some = none (ap (λ (c : Bool). if c && is_some (inverse_of e.op e.reply) then 2 * pages + 10 else 0) own ∙ ap (λ (c : Bool). if c then 2 * pages + 10 else 0) some)
-    go true true own some =
-        let steps : effect_steps pages t e ≡ 2 * pages + 10 = ap (λ (c : Bool). if c && is_some (inverse_of e.op e.reply) then 2 * pages + 10 else 0) own ∙ ap (λ (c : Bool). if c then 2 * pages + 10 else 0) some in
-        let bytes = bytes_of e (inverse_of e.op e.reply) refl some in
+    of_own : (a : Bool) → (e.txn == t) ≡ a → effect_steps pages t e ≡ (if (a && is_standing e.role) && is_some (inverse_of e.op e.reply) then 2 * pages + 10 else 0)
+    of_own a own = ap (λ (c : Bool). if (c && is_standing e.role) && is_some (inverse_of e.op e.reply) then 2 * pages + 10 else 0) own
+
+    of_standing : (a b : Bool) → (e.txn == t) ≡ a → is_standing e.role ≡ b → effect_steps pages t e ≡ (if (a && b) && is_some (inverse_of e.op e.reply) then 2 * pages + 10 else 0)
+    of_standing a b own stands = of_own a own ∙ ap (λ (c : Bool). if (a && c) && is_some (inverse_of e.op e.reply) then 2 * pages + 10 else 0) stands
+
+    of_all : (a b c : Bool) → (e.txn == t) ≡ a → is_standing e.role ≡ b → is_some (inverse_of e.op e.reply) ≡ c → effect_steps pages t e ≡ (if (a && b) && c then 2 * pages + 10 else 0)
+    of_all a b c own stands some = of_standing a b own stands ∙ ap (λ (d : Bool). if (a && b) && d then 2 * pages + 10 else 0) some
+
+    go : (a b c : Bool) → (e.txn == t) ≡ a → is_standing e.role ≡ b → is_some (inverse_of e.op e.reply) ≡ c → 106496 * effect_steps pages t e ≤ 8010 * entry_bytes e
+    go false b c own stands some = none (of_own false own)
+    go true false c own stands some = none (of_standing true false own stands)
+    go true true false own stands some = none (of_all true true false own stands some)
+    go true true true own stands some =
+        let steps : effect_steps pages t e ≡ 2 * pages + 10 = of_all true true true own stands some in
+        let bytes = bytes_of e (inverse_of e.op e.reply) refl stands some in
         omega (arith, steps, bytes, few)
 
 effects_few : (pages t : ℕ) (es : List Entry) → pages ≤ 4000 → 106496 * effects_left pages es t ≤ 8010 * sum_by entry_bytes es

@@ -3,7 +3,7 @@ use Rattle.std.proofs.Common.{ℕ, List, inr}
 use Rattle.clap.specs.Words.{subcommand_of}
 use Rattle.mt_args.specs.CommandLines.{IsCommandOf, IsEntered, IsFaultOf, IsMisread, IsMisspelled, program}
 use Rattle.mt_args.specs.declared.command.Command.{Command}
-use Rattle.mt_args.specs.declared.command.Command.TheVariants.{Try, Schedule, Check, Format, Dump, Explain, Run, Show}
+use Rattle.mt_args.specs.declared.command.Command.TheVariants.{Try, Schedule, Check, Format, Dump, Explain, Migrate, Run, Show}
 use Rattle.mt_args.specs.declared.command.CliFault.{CliFault}
 use Rattle.mt_args.specs.declared.command.CliFault.TheVariants.{Usage, Refused}
 
@@ -20,6 +20,7 @@ command_at words (Check file pages wait) e = e
 command_at words (Format file numbers wait) e = e
 command_at words (Dump file wait) e = e
 command_at words (Explain file wait) e = e
+command_at words (Migrate file growth wait) e = e
 command_at words (Run serving wait) e = e
 command_at words (Show text) e = absurd e
 

@@ -8,7 +8,7 @@ use Rattle.std.proofs.lemmas.List.Elements.{All-cons, All-push, All-weaker}
 use Rattle.mt_script.specs.Lines.{IsWide}
 use Rattle.mt_script.specs.Whole.{decimal_digits}
 use Rattle.mt_script.proofs.LineLemmas.{cut_within, same_cut}
-use Rattle.mt_args.specs.Spelling.{AreCounters, AreWide, Bounds, IsNoCounter, IsUncut, SpellBounds, SpellsBounds, SpellsCount, SpellsCounter, counter_text}
+use Rattle.mt_args.specs.Spelling.{SpellCounters, AreWide, Bounds, IsNoCounter, IsUncut, SpellBounds, SpellsBounds, SpellsCount, SpellsCounter, counter_text}
 
 -- a number that is larger than any that a word may spell
 pub too_large : (word : List ℕ) (m n : ℕ) → word ≡ decimal m → m < 2 ^ 64 → 2 ^ 63 ≤ m → SpellsCount word n → ⊥
@@ -55,8 +55,8 @@ one_bad words i d lt none = (
   none,
 )
 
-pub one_more : (words : List (Bor (List ℕ))) (i : ℕ) (d : Bor (List ℕ)) (counters : List Bounds) (t : Bounds) → i < length words → AreCounters (map (λ w. w.now) (take i words)) counters → SpellsCounter (get_or words i d).now t
-    → AreCounters (map (λ w. w.now) (take (i + 1) words)) (counters ++ t ∷ [])
+pub one_more : (words : List (Bor (List ℕ))) (i : ℕ) (d : Bor (List ℕ)) (counters : List Bounds) (t : Bounds) → i < length words → SpellCounters (map (λ w. w.now) (take i words)) counters → SpellsCounter (get_or words i d).now t
+    → SpellCounters (map (λ w. w.now) (take (i + 1) words)) (counters ++ t ∷ [])
 one_more words i d counters t lt before s = record {
   texts = map-append counter_text counters (t ∷ []) ∙ ap (λ ts. ts ++ counter_text t ∷ []) before.texts ∙ ap (λ w. map (λ (w : Bor (List ℕ)). w.now) (take i words) ++ w ∷ []) (sym s.0)
       ∙ sym (map-append (λ (w : Bor (List ℕ)). w.now) (take i words) (get_or words i d ∷ [])) ∙ ap (map (λ (w : Bor (List ℕ)). w.now)) (sym (take_more words i d lt));

@@ -10,9 +10,10 @@ use Rattle.clap.specs.declared.error.Error.{Error}
 use Rattle.clap.specs.declared.error.kind.ErrorKind.{ErrorKind}
 use Rattle.clap.specs.declared.error.kind.ErrorKind.TheVariants.{OutOfMemory, DisplayHelp, DisplayVersion}
 use Rattle.mt_base.specs.declared.refusal.Refusal.TheVariants as refusal
-use Rattle.mt_args.specs.Spelling.{AreCounters, IsNoCount, IsNoCounter, IsNoneWithin, SpellsCount, SpellsWithin}
+use Rattle.mt_args.specs.Spelling.{SpellCounters, IsNoCount, IsNoCounter, IsNoneWithin, SpellsCount, SpellsWithin}
 use Rattle.mt_args.specs.declared.command.Command.{Command}
-use Rattle.mt_args.specs.declared.command.Command.TheVariants.{Try, Schedule, Check, Format, Dump, Explain, Run, Show}
+use Rattle.mt_args.specs.declared.command.Command.TheVariants.{Try, Schedule, Check, Format, Dump, Explain, Migrate, Run, Show}
+use Rattle.mt_args.specs.declared.numbers.Growth.{Growth}
 use Rattle.mt_args.specs.declared.numbers.Numbers.{Numbers}
 use Rattle.mt_args.specs.declared.run_words.Serving.{Serving}
 use Rattle.mt_args.specs.declared.command.CliFault.{CliFault}
@@ -67,6 +68,10 @@ formatting = with_rule sizing counter_rule
 abbrev pub on_file : Text → App
 on_file name = with_rule (with_rule (new_app name) wait_rule) (required_rule (codes "file"))
 
+-- `migrate [--wait SECONDS] FILE RELATIONS [COUNTER..]`
+abbrev pub migrating : App
+migrating = with_rule (with_rule (on_file (codes "migrate")) (required_rule (codes "relations"))) counter_rule
+
 -- `run [--frames N] [--wait SECONDS] [--stop] FILE WORKERS SCRIPT..`
 abbrev pub frames_rule : Rule
 frames_rule = record (new_rule (codes "frames")) { long = Some (codes "frames"); value_names = 1 }
@@ -87,10 +92,10 @@ bare = record (new_app (codes "mtk")) {
 
 abbrev pub program : App
 program =
-    with_subcommand (with_subcommand (with_subcommand (with_subcommand
+    with_subcommand (with_subcommand (with_subcommand (with_subcommand (with_subcommand
     (with_subcommand (with_subcommand (with_subcommand bare trial.top) scheduling.top) checking.top) formatting.top)
     (on_file (codes "dump")).top)
-    (on_file (codes "explain")).top) serving.top
+    (on_file (codes "explain")).top) migrating.top) serving.top
 
 -- a parser of this command line, none of whose arguments counts for others
 pub record Parses (app : App) (parser : Parser) : Type 0 where
@@ -131,9 +136,9 @@ pub record IsFlag (text : Option Text) (set : Bool) : Type 0 where
   pub none : text ≡ None → set ≡ false
 
 -- whether they ask for the pages
-abbrev pub pages_in : Option (Text × List Row) → Option Text
-pages_in None = None
-pages_in (Some found) = one_of (codes "pages") found.1
+abbrev pub pages_word : Option (Text × List Row) → Option Text
+pages_word None = None
+pages_word (Some found) = one_of (codes "pages") found.1
 
 -- whether a refused line is to end a script
 abbrev pub stop_in : Option (Text × List Row) → Option Text
@@ -166,7 +171,7 @@ pub record AreNumbersAt (rows : List Row) (n : Numbers) : Type 0 where
   pub pages : SpellsCount (text_at (codes "pages") rows) n.pages
   pub area : SpellsCount (text_at (codes "area") rows) n.area
   pub relations : SpellsCount (text_at (codes "relations") rows) n.relations
-  pub counters : AreCounters (counters_at rows) n.counters.items
+  pub counters : SpellCounters (counters_at rows) n.counters.items
 
 abbrev pub AreNumbersIn : Option (Text × List Row) → Numbers → Type 0
 AreNumbersIn None n = ⊥
@@ -176,6 +181,21 @@ AreNumbersIn (Some found) n = AreNumbersAt found.1 n
 abbrev pub IsMisspelledAt : List Row → Type 0
 IsMisspelledAt rows = IsNoCount (text_at (codes "pages") rows) ⊎ IsNoCount (text_at (codes "area") rows)
     ⊎ IsNoCount (text_at (codes "relations") rows) ⊎ Any IsNoCounter (counters_at rows)
+
+-- ---- `migrate`
+
+-- they spell what a schema is to get more
+pub record IsGrowthAt (rows : List Row) (g : Growth) : Type 0 where
+  pub relations : SpellsCount (text_at (codes "relations") rows) g.relations
+  pub counters : SpellCounters (counters_at rows) g.counters.items
+
+abbrev pub IsGrowthIn : Option (Text × List Row) → Growth → Type 0
+IsGrowthIn None g = ⊥
+IsGrowthIn (Some found) g = IsGrowthAt found.1 g
+
+-- one of them spells no number, or no counter
+abbrev pub IsNoGrowthAt : List Row → Type 0
+IsNoGrowthAt rows = IsNoCount (text_at (codes "relations") rows) ⊎ Any IsNoCounter (counters_at rows)
 
 -- ---- `run`
 
@@ -220,12 +240,13 @@ IsUnlimitedAt rows =
 abbrev pub IsMisspelled : Option (Text × List Row) → Type 0
 IsMisspelled None = ⊥
 IsMisspelled (Some found) = ((found.0 ≡ codes "format") × IsMisspelledAt found.1)
+    ⊎ ((found.0 ≡ codes "migrate") × IsNoGrowthAt found.1)
     ⊎ ((found.0 ≡ codes "run") × IsUnlimitedAt found.1) ⊎ AreNoSeconds (first_of (codes "wait") found.1)
 
 -- no command on a device in a file
 abbrev pub IsRun : Text → Type 0
 IsRun name = (name ≢ codes "check") × (name ≢ codes "format") × (name ≢ codes "dump") × (name ≢ codes "explain")
-    × (name ≢ codes "run")
+    × (name ≢ codes "migrate") × (name ≢ codes "run")
 
 -- what the words enter is the command of its name, or else `try` of a script, and no text to be shown
 abbrev pub IsEntered : Option (Text × List Row) → Command → Type 0
@@ -233,10 +254,11 @@ IsEntered entered (Try script stop) = (option_map string_bytes script ≡ script
     × IsFlag (stop_in entered) stop × (name_in entered ≢ Some (codes "schedule"))
     × (name_in entered ≢ Some (codes "check"))
     × (name_in entered ≢ Some (codes "format")) × (name_in entered ≢ Some (codes "dump"))
-    × (name_in entered ≢ Some (codes "explain")) × (name_in entered ≢ Some (codes "run"))
+    × (name_in entered ≢ Some (codes "explain")) × (name_in entered ≢ Some (codes "migrate"))
+    × (name_in entered ≢ Some (codes "run"))
 IsEntered entered (Schedule file) =
     (option_map string_bytes file ≡ file_in entered) × (name_in entered ≡ Some (codes "schedule"))
-IsEntered entered (Check file pages wait) = (string_bytes file ≡ device_in entered) × IsFlag (pages_in entered) pages
+IsEntered entered (Check file pages wait) = (string_bytes file ≡ device_in entered) × IsFlag (pages_word entered) pages
     × AreSeconds (wait_in entered) wait × (name_in entered ≡ Some (codes "check"))
 IsEntered entered (Format file numbers wait) = (string_bytes file ≡ device_in entered) × AreNumbersIn entered numbers
     × AreSeconds (wait_in entered) wait × (name_in entered ≡ Some (codes "format"))
@@ -244,6 +266,8 @@ IsEntered entered (Dump file wait) = (string_bytes file ≡ device_in entered) �
     × (name_in entered ≡ Some (codes "dump"))
 IsEntered entered (Explain file wait) = (string_bytes file ≡ device_in entered) × AreSeconds (wait_in entered) wait
     × (name_in entered ≡ Some (codes "explain"))
+IsEntered entered (Migrate file growth wait) = (string_bytes file ≡ device_in entered) × IsGrowthIn entered growth
+    × AreSeconds (wait_in entered) wait × (name_in entered ≡ Some (codes "migrate"))
 IsEntered entered (Run s wait) = (string_bytes s.file ≡ device_in entered) × IsServingIn entered s
     × AreSeconds (wait_in entered) wait × IsFlag (stop_in entered) s.stop × (s.stop ≡ true → s.workers ≤ 1)
     × (name_in entered ≡ Some (codes "run"))
@@ -282,6 +306,8 @@ IsCommandOf words (Format file numbers wait) =
     IsEntered (subcommand_of program words) (Format file numbers wait)
 IsCommandOf words (Dump file wait) = IsEntered (subcommand_of program words) (Dump file wait)
 IsCommandOf words (Explain file wait) = IsEntered (subcommand_of program words) (Explain file wait)
+IsCommandOf words (Migrate file growth wait) =
+    IsEntered (subcommand_of program words) (Migrate file growth wait)
 IsCommandOf words (Run s wait) = IsEntered (subcommand_of program words) (Run s wait)
 IsCommandOf words (Show text) = IsAsking words
 

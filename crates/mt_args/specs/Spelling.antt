@@ -50,6 +50,6 @@ abbrev pub IsNoCounter : List ℕ → Type 0
 IsNoCounter word = (t : Bounds) → ¬ SpellsCounter word t
 
 -- these words spell these counters, in order
-pub record AreCounters (words : List (List ℕ)) (counters : List Bounds) : Type 0 where
+pub record SpellCounters (words : List (List ℕ)) (counters : List Bounds) : Type 0 where
   pub texts : map counter_text counters ≡ words
   pub wide : All AreWide counters

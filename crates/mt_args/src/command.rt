@@ -1,10 +1,10 @@
 // The command line, read by `clap`.
 ghost use Rattle.std.specs.Prelude.{◌≡◌, ◌≢◌, List, [], Any, IfOk, IfErr, Some, codes, map, option_map, string_bytes, ⊤};
 ghost use Rattle.clap.specs.Words.{Text, found_of, one_of, rows_of, subcommand_rows_of};
-ghost use Rattle.mt_args.specs.CommandLines.{counters_at, text_at, AreNumbersAt, IsCommandOf, IsEntered, IsFaultAt, IsFaultOf, IsFlag, IsMisread, IsMisspelled, IsMisspelledAt, IsRun};
-ghost use Rattle.mt_args.specs.Spelling.{AreCounters, IsNoCount, IsNoCounter, SpellsCount};
+ghost use Rattle.mt_args.specs.CommandLines.{counters_at, text_at, AreNumbersAt, IsCommandOf, IsEntered, IsFaultAt, IsFaultOf, IsFlag, IsGrowthAt, IsMisread, IsMisspelled, IsMisspelledAt, IsNoGrowthAt, IsRun};
+ghost use Rattle.mt_args.specs.Spelling.{SpellCounters, IsNoCount, IsNoCounter, SpellsCount};
 
-use crate::numbers::{Numbers, count_of, counters_of};
+use crate::numbers::{Growth, Numbers, count_of, counters_of};
 use crate::parsers::parser;
 use crate::run_words::{Serving, serving_of};
 use crate::waits::wait_in;
@@ -49,6 +49,12 @@ pub enum Command {
     /// Prints the log of the device in this file as a history, and what a restart would do.
     Explain {
         file: String,
+        wait: usize,
+    },
+    /// Carries the device in this file over to format 2, with so many relations more, and these counters.
+    Migrate {
+        file: String,
+        growth: Growth,
         wait: usize,
     },
     /// Opens the device in a file, and serves scripts to it.
@@ -184,7 +190,7 @@ fn number_in(alloc: Global, found: &ArgMatches, id: &str, rule: &str) -> Result<
 
 /// The counters that were found. `Usage` if a word spells none.
 fn counters_in(alloc: Global, found: &ArgMatches) -> Result<Vec<(i64, i64, i64)>, CliFault>
-    ensures counters { IfOk result (λ counters. AreCounters (counters_at (rows_of (found_of found.now)))
+    ensures counters { IfOk result (λ counters. SpellCounters (counters_at (rows_of (found_of found.now)))
         counters.items) }
     ensures fault { IfErr result (IsMisread (Any IsNoCounter (counters_at (rows_of (found_of found.now))))) }
 {
@@ -229,6 +235,30 @@ fn format_of(alloc: Global, found: &ArgMatches) -> Result<Command, CliFault>
     })
 }
 
+/// What a schema is to get more, as it was found.
+fn growth_in(alloc: Global, found: &ArgMatches) -> Result<Growth, CliFault>
+    ensures growth { IfOk result (IsGrowthAt (rows_of (found_of found.now))) }
+    ensures fault { IfErr result (IsMisread (IsNoGrowthAt (rows_of (found_of found.now)))) }
+{
+    let relations = number_in(alloc, found, "relations", RELATIONS_RULE)?;
+    let counters = counters_in(alloc, found)?;
+    Ok(Growth {
+        relations,
+        counters,
+    })
+}
+
+/// `migrate`, with what was found after its name.
+fn migrate_of(alloc: Global, found: &ArgMatches) -> Result<Command, CliFault>
+    ensures command { IfOk result (IsEntered (Some (codes "migrate", rows_of (found_of found.now)))) }
+    ensures fault { IfErr result (IsMisread (IsMisspelled (Some (codes "migrate", rows_of (found_of found.now))))) }
+{
+    let growth = growth_in(alloc, found)?;
+    let wait = wait_in(alloc, found)?;
+    let file = required_file(alloc, found)?;
+    Ok(Command::Migrate { file, growth, wait })
+}
+
 /// A fault that says how an argument is spelled, or `NoMemory`.
 pub(crate) fn misspelled(alloc: Global, rule: &str) -> CliFault
     ensures { IsMisread ⊤ result }
@@ -254,9 +284,10 @@ fn run_of(alloc: Global, name: &str, found: &ArgMatches) -> Result<Command, Allo
     }
 }
 
-/// The command of this name, which is neither `format` nor `run`, with what was found after it.
+/// The command of this name, which is neither `format`, `migrate` nor `run`, with what was found after it.
 fn other_of(alloc: Global, name: &str, found: &ArgMatches) -> Result<Command, CliFault>
     requires format { name.now ≢ codes "format" }
+    requires migrate { name.now ≢ codes "migrate" }
     requires run { name.now ≢ codes "run" }
     ensures command { IfOk result (IsEntered (Some (name.now, rows_of (found_of found.now)))) }
     ensures fault { IfErr result (IsMisread (IsMisspelled (Some (name.now, rows_of (found_of found.now))))) }
@@ -279,6 +310,8 @@ fn named(alloc: Global, name: &str, found: &ArgMatches) -> Result<Command, CliFa
 {
     if name == "format" {
         format_of(alloc, found)
+    } else if name == "migrate" {
+        migrate_of(alloc, found)
     } else if name == "run" {
         serving_of(alloc, found)
     } else {

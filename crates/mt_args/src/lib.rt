@@ -8,5 +8,5 @@ mod run_words;
 mod waits;
 
 pub use command::{CliFault, Command, command_of};
-pub use numbers::Numbers;
+pub use numbers::{Growth, Numbers};
 pub use run_words::Serving;

@@ -1,6 +1,6 @@
 // Numbers, as the words of a command spell them.
 ghost use Rattle.std.specs.Prelude.{◌≡◌, ◌∷◌, ◌++◌, ℕ, ℤ, Any, IfNone, IfOk, IfSome, MatchOption, map};
-ghost use Rattle.mt_args.specs.Spelling.{AreCounters, IsNoCounter, IsNoneWithin, IsUncut, SpellBounds, SpellsBounds, SpellsCount, SpellsCounter, SpellsWithin};
+ghost use Rattle.mt_args.specs.Spelling.{SpellCounters, IsNoCounter, IsNoneWithin, IsUncut, SpellBounds, SpellsBounds, SpellsCount, SpellsCounter, SpellsWithin};
 
 use mt_script::{number_of, signed_of};
 use std::alloc::{AllocError, Global};
@@ -18,6 +18,16 @@ pub struct Numbers {
     /// Relations.
     pub relations: u64,
     /// Low, high and start of each counter.
+    pub counters: Vec<(i64, i64, i64)>,
+}
+
+/// What the schema of a device is to get more, read from a command line. Whether the sums lie within their limits is
+/// for the device to say.
+#[derive(Debug, Drop)]
+pub struct Growth {
+    /// Relations more.
+    pub relations: u64,
+    /// Low, high and start of each counter more.
     pub counters: Vec<(i64, i64, i64)>,
 }
 
@@ -113,7 +123,7 @@ pub(crate) fn counters_of(
     words: &[&str],
 ) -> Result<Option<Vec<(i64, i64, i64)>>, AllocError>
     ensures { IfOk result (λ o. MatchOption o (Any IsNoCounter (map (λ w. w.now) words.now))
-        (λ counters. AreCounters (map (λ w. w.now) words.now) counters.items)) }
+        (λ counters. SpellCounters (map (λ w. w.now) words.now) counters.items)) }
 {
     let mut counters = Vec::new(alloc);
     for word in words {

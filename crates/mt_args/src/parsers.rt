@@ -41,7 +41,7 @@ struct Entry {
     arguments: &'static [Argument],
 }
 
-/// The device's file, which `check`, `dump`, `explain` and `run` need.
+/// The device's file, which `check`, `dump`, `explain`, `migrate` and `run` need.
 const DEVICE: Argument = Argument {
     id: "file",
     form: Form::Required("FILE"),
@@ -156,6 +156,27 @@ const EXPLAIN: Entry = Entry {
     arguments: &[WAIT, DEVICE],
 };
 
+/// `migrate [--wait SECONDS] FILE RELATIONS [COUNTER..]`
+const MIGRATE: Entry = Entry {
+    name: "migrate",
+    about: "Carry a device of format 1 over to format 2",
+    examples: Some(MIGRATE_EXAMPLES),
+    arguments: &[
+        WAIT,
+        DEVICE,
+        Argument {
+            id: "relations",
+            form: Form::Required("RELATIONS"),
+            help: "Relations more, 0 or so many that the sum is at most 64",
+        },
+        Argument {
+            id: "counter",
+            form: Form::Any("COUNTER"),
+            help: "A counter more, from LOW to HIGH, that begins at START: cLOW:HIGH:START",
+        },
+    ],
+};
+
 /// `run [--frames N] [--wait SECONDS] [--stop] FILE WORKERS SCRIPT..`
 const RUN: Entry = Entry {
     name: "run",
@@ -184,7 +205,7 @@ const RUN: Entry = Entry {
 };
 
 /// The commands, in the order in which help lists them.
-const COMMANDS: [Entry; 7] = [TRY, SCHEDULE, CHECK, FORMAT, DUMP, EXPLAIN, RUN];
+const COMMANDS: [Entry; 8] = [TRY, SCHEDULE, CHECK, FORMAT, DUMP, EXPLAIN, MIGRATE, RUN];
 
 const EXAMPLES: &str = "Examples:
   mtk try bank.script
@@ -235,6 +256,13 @@ prints a line for each record of the log, with the number of its batch and that 
 and then what a restart would do, in its order: put unfinished operations back, and undo those of
 unfinished transactions
   restart txn 1 op 1 undone by add 0 -1";
+
+const MIGRATE_EXAMPLES: &str = "Example:
+  mtk migrate old.mtk 1 c-5:5:0
+
+carries a device of format 1 over to format 2, with one relation more, and one counter more that goes
+from -5 to 5 and begins at 0. Its rows and counters stay. If it is cut off, the device is of format 1 as
+before, or of format 2 and done. It prints nothing, and a device of format 2 is refused 20 WrongFormat.";
 
 const RUN_EXAMPLES: &str = "Example:
   printf 'begin\\ninsert 0 a x\\ncommit\\n' | mtk run bank.mtk 1 -

@@ -6,6 +6,7 @@
 mod bytes;
 mod edit_bytes;
 mod edits;
+mod format;
 mod history;
 pub mod limits;
 mod modes;
@@ -17,6 +18,7 @@ mod touched;
 pub use bytes::Bytes;
 pub use edit_bytes::EditBytes;
 pub use edits::{Edit, edits_of};
+pub use format::Format;
 pub use history::History;
 pub use modes::{LockMode, Mode};
 pub use numbers::{CtrNo, LogPos, OpNo, PageNo, RecordName, RelNo, TxnNo};

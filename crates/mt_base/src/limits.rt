@@ -16,7 +16,10 @@ pub const MAX_PAGES: u16 = 4000;
 pub const MAX_KEY_BYTES: usize = 64;
 
 /// The most bytes of a value; a value may be empty.
-pub const MAX_VALUE_BYTES: usize = 1024;
+pub const MAX_VALUE_BYTES: usize = 3000;
+
+/// The most bytes of a value on a device of format 1.
+pub const FIRST_VALUE_BYTES: usize = 1024;
 
 /// The most relations; there is at least one.
 pub const MAX_RELATIONS: u16 = 64;
@@ -88,8 +91,9 @@ pub const BATCH_HEAD_BYTES: u64 = 5;
 /// and the new ones.
 pub const LARGEST_PAGE_RECORD: u64 = 12_312;
 
-/// Bytes of the largest record of an operation's end.
-pub const LARGEST_OP_END: u64 = 2_144;
+/// Bytes of the largest record of an operation's end: its head, and an update's tag, relation, key and two values, with
+/// the lengths of these.
+pub const LARGEST_OP_END: u64 = 6_096;
 
 /// Log bytes that an operation which may write reserves for itself, and as many again for its
 /// inverse: more than the largest operation takes.
@@ -116,9 +120,11 @@ pub const DELETE_INVERSE_PAGES: u16 = 2;
 // The largest operation: a record for each page that it may write, its end, and a head for each.
 const _: () = prove!(MAX_WRITTEN_PAGES == 8);
 
-const _: () = prove!(
-    8 * LARGEST_PAGE_RECORD + LARGEST_OP_END + 9 * BATCH_HEAD_BYTES <= OPERATION_LOG_BYTES
-);
+const LARGEST_OPERATION: u64 = 8 * LARGEST_PAGE_RECORD + LARGEST_OP_END + 9 * BATCH_HEAD_BYTES;
+
+const _: () = prove!(LARGEST_OP_END as usize == 25 + 7 + MAX_KEY_BYTES + 2 * MAX_VALUE_BYTES);
+
+const _: () = prove!(LARGEST_OPERATION == 104_637 && LARGEST_OPERATION <= OPERATION_LOG_BYTES);
 
 /// Whether a key has a length within its limits: 1 to 64 bytes.
 pub fn key_fits(key: &[u8]) -> bool
@@ -127,7 +133,7 @@ pub fn key_fits(key: &[u8]) -> bool
     !key.is_empty() && key.len() <= MAX_KEY_BYTES
 }
 
-/// Whether a value has a length within its limit: at most 1024 bytes.
+/// Whether a value has a length within its limit: at most 3000 bytes.
 pub fn value_fits(value: &[u8]) -> bool
     ensures { IsTrue result ↔ IsValue value.now }
 {

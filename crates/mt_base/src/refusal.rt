@@ -51,10 +51,12 @@ pub enum Refusal {
     TooManyOperations,
     /// 18: this line of a script is not in its grammar; lines count from 1.
     BadLine(u64),
+    /// 20: the device is of another format than the call is for.
+    WrongFormat,
 }
 
 impl Refusal {
-    /// The refusal's number, 1 to 18.
+    /// The refusal's number, 1 to 18, or 20.
     pub fn number(&self) -> u8
         ensures { result ≡ number_of self.now }
     {
@@ -77,6 +79,7 @@ impl Refusal {
             Refusal::Busy => 16,
             Refusal::TooManyOperations => 17,
             Refusal::BadLine(_) => 18,
+            Refusal::WrongFormat => 20,
         }
     }
 
@@ -103,6 +106,7 @@ impl Refusal {
             Refusal::Busy => "Busy",
             Refusal::TooManyOperations => "TooManyOperations",
             Refusal::BadLine(_) => "BadLine",
+            Refusal::WrongFormat => "WrongFormat",
         }
     }
 }

@@ -6,7 +6,7 @@ use Rattle.mt_disk.specs.declared.device.Device.{Ghosts}
 use Rattle.mt_script.specs.Answers.{AppendsFront}
 use Rattle.mt_script.proofs.TextLemmas.{appends_kept}
 use Rattle.mt_args.specs.declared.command.Command.{Command}
-use Rattle.mt_args.specs.declared.command.Command.TheVariants.{Try, Schedule, Check, Format, Dump, Explain, Run, Show}
+use Rattle.mt_args.specs.declared.command.Command.TheVariants.{Try, Schedule, Check, Format, Dump, Explain, Migrate, Run, Show}
 use Rattle.mt_report.specs.declared.faults.Fault.{Fault}
 use Rattle.mt_report.specs.declared.faults.Fault.TheVariants.{Output}
 use Rattle.mt_cli.specs.Performs.{Around, HaveRun, IsDone, IsGivenUp, IsReported, IsScheduled, IsTried, IsUndone, IsUnscheduled, unheard}
@@ -96,6 +96,7 @@ module _ {D : Type 0} (g : Ghosts D) where
   done_kept (Format file numbers wait) a was mid now done kept = (done.0, keeps_kept was mid now done.1 kept)
   done_kept (Dump file wait) a was mid now done kept = (dumped_kept _ was mid now done.0 kept, done.1)
   done_kept (Explain file wait) a was mid now done kept = (explained_kept _ was mid now done.0 kept, done.1)
+  done_kept (Migrate file growth wait) a was mid now done kept = (done.0, keeps_kept was mid now done.1 kept)
   done_kept (Run s wait) a was mid now done kept = run_kept s.stop s.workers _ _ _ _ _ was mid now done kept
   done_kept (Show text) a was mid now done kept = (appends_kept was mid now _ done.0 kept, done.1)
 

@@ -2,7 +2,7 @@
 use Rattle.std.proofs.Common.{ℕ, List, Option, Some, None, sym, subst, arith}
 use Rattle.mt_args.specs.CommandLines.{AreFrames, IsCommandOf, IsServingIn}
 use Rattle.mt_args.specs.declared.command.Command.{Command}
-use Rattle.mt_args.specs.declared.command.Command.TheVariants.{Try, Schedule, Check, Format, Dump, Explain, Run, Show}
+use Rattle.mt_args.specs.declared.command.Command.TheVariants.{Try, Schedule, Check, Format, Dump, Explain, Migrate, Run, Show}
 use Rattle.mt_args.specs.declared.run_words.Serving.{Serving}
 use Rattle.mt_restart.specs.Frames.{IsFrameCount}
 use Rattle.mt_cli.specs.Performs.{HasFrameCount}
@@ -22,5 +22,6 @@ framed words (Check file pages wait) is = tt
 framed words (Format file numbers wait) is = tt
 framed words (Dump file wait) is = tt
 framed words (Explain file wait) is = tt
+framed words (Migrate file growth wait) is = tt
 framed words (Run s wait) is = serving_framed _ s is.1
 framed words (Show text) is = tt

@@ -14,7 +14,7 @@ use Rattle.mt_script.specs.declared.answers.Answer.{Answer}
 use Rattle.mt_script.specs.declared.lines.Line.{Line}
 use Rattle.mt_script.specs.declared.words.ScriptWord.{ScriptWord}
 use Rattle.mt_args.specs.declared.command.Command.{Command}
-use Rattle.mt_args.specs.declared.command.Command.TheVariants.{Try, Schedule, Check, Format, Dump, Explain, Run, Show}
+use Rattle.mt_args.specs.declared.command.Command.TheVariants.{Try, Schedule, Check, Format, Dump, Explain, Migrate, Run, Show}
 use Rattle.mt_report.specs.declared.faults.Fault.{Fault}
 use Rattle.mt_report.specs.declared.faults.Fault.TheVariants.{Output, Refused, Stopped, Unread, Unscheduled}
 use Rattle.mt_alone.specs.declared.alone.RunFault.{RunFault}
@@ -32,6 +32,7 @@ use Rattle.mt_report.specs.Events.{IsEvent, IsSchedule, event_text}
 use Rattle.mt_folder.specs.Folders.{AreKept, Files, IsUnmade, known_in}
 use Rattle.mt_folder.specs.declared.reason.Reason.{Reason}
 use Rattle.mt_device_commands.specs.Formattings.{Formats, IsFormatFault}
+use Rattle.mt_device_commands.specs.Migrations.{additions, AreMigrateFiles, IsMigrateFault, IsRewritten, StandsGrown}
 use Rattle.mt_report.specs.EventWords.{event_word}
 use Rattle.mt_cli.specs.Reads.{IsUnread, IsUnreadScript, source_of}
 use Rattle.mt_report.specs.declared.event_words.EventWord.{EventWord}
@@ -127,6 +128,8 @@ IsDone g (Dump file wait) a was now =
     HasDumped (known_in a.before (string_bytes file)) was now × IsRestarted a.before a.after (string_bytes file)
 IsDone g (Explain file wait) a was now =
     HasExplained (known_in a.before (string_bytes file)) was now × AreKept a.before a.after
+IsDone g (Migrate file growth wait) a was now =
+    IsRewritten (StandsGrown (additions growth)) a.before a.after (string_bytes file) × Keeps was now
 IsDone g (Run s wait) a was now = HasRunScripts s.stop s.workers a.before a.after (string_bytes s.file)
     (map string_bytes s.scripts.items) a.input was now
 IsDone g (Show text) a was now = Appends was now (string_bytes text) × AreKept a.before a.after
@@ -200,6 +203,9 @@ IsUndone g (Dump file wait) a was now fault = IsUndumped (known_in a.before (str
     × AreLeftBy a.before a.after (string_bytes file) fault
 IsUndone g (Explain file wait) a was now fault =
     IsUnexplained (known_in a.before (string_bytes file)) was now fault × AreKept a.before a.after
+IsUndone g (Migrate file growth wait) a was now fault =
+    IsMigrateFault (additions growth) (known_in a.before (string_bytes file)) fault
+    × AreMigrateFiles (additions growth) a.before a.after (string_bytes file) fault × Keeps was now
 IsUndone g (Run s wait) a was now fault = HasNotRun s.stop s.workers a.before a.after (string_bytes s.file)
     (map string_bytes s.scripts.items) a.input was now fault
 IsUndone g (Show text) a was now fault =

@@ -1,5 +1,5 @@
 -- Scripts that are read by name: from files, and from the input if the name is a dash.
-use Rattle.std.specs.Prelude.{ℕ, ◌≡◌, Bool, cond, false, true, List, [], ◌∷◌, ◌++◌, Option, Some, None, IfSome, codes, length, nat_eq, nat_lt}
+use Rattle.std.specs.Prelude.{ℕ, ◌≡◌, ◌||◌, Bool, cond, false, true, List, [], ◌∷◌, ◌++◌, Option, Some, None, IfSome, codes, length, nat_eq, nat_lt}
 use Rattle.std.specs.List.{starts_with}
 use Rattle.mt_frame.specs.declared.TheConstants.{OPEN_GATE}
 use Rattle.mt_script.specs.Grammars.{IsFirstBad}
@@ -42,9 +42,10 @@ abbrev pub held_by : Files → Option (List ℕ) → Option (List ℕ) → Optio
 held_by files None input = input
 held_by files (Some name) input = known_in files name
 
--- the bytes begin as a device does: an open gate, and letters
+-- the bytes begin as a device does: an open gate, and the letters of a format
 abbrev pub is_device : List ℕ → Bool
-is_device bytes = starts_with nat_eq bytes (OPEN_GATE ∷ codes "MTK1")
+is_device bytes =
+    starts_with nat_eq bytes (OPEN_GATE ∷ codes "MTK1") || starts_with nat_eq bytes (OPEN_GATE ∷ codes "MTK2")
 
 -- the bytes are more than any script or schedule has
 abbrev pub is_overlong : List ℕ → Bool

@@ -19,7 +19,9 @@ use mt_alone::run_script;
 use mt_args::{CliFault, Command, command_of};
 use mt_base::Refusal;
 use mt_base::limits::device_bytes;
-use mt_device_commands::{Patience, perform_check, perform_dump, perform_explain, perform_format};
+use mt_device_commands::{
+    Patience, perform_check, perform_dump, perform_explain, perform_format, perform_migrate,
+};
 use mt_disk::{Device, MemDevice};
 use mt_folder::{Folder, Reason};
 use mt_report::{Fault, ScheduleGrammar, tell, tell_unread, write_all_reported};
@@ -310,6 +312,9 @@ fn do_command<
         Command::Explain { file, .. } => {
             perform_explain(alloc, &patience, folder, file.as_str(), out)
         }
+        Command::Migrate { file, growth, .. } => {
+            perform_migrate(alloc, &patience, folder, file.as_str(), growth)
+        }
         Command::Run { serving, .. } => {
             perform_run(rt, alloc, &patience, folder, serving, input, out, gate)
         }
@@ -324,13 +329,13 @@ fn do_command<
 /// in a line after it, and what to do or why the folder's call failed. An input that cannot be read, and a file that
 /// is not there or cannot be read, is refusal 2.
 ///
-/// A script or a schedule is read whole before any of it runs, and all scripts of `run` before the first of them
-/// runs. A device is only read by `check` and `explain`, and if `format` is refused each file is as it was. A device
-/// that is opened by `dump` is written to, and represents what it represented. `run` serves one script after the
-/// other if it has one worker, and else all at once, by threads; it may wait then. It gives the device back to its
-/// file, but if serving by several workers is refused: what the file has is not stated then. Each other file is as it
-/// was. By one worker `run`, and `try`, stop at a refused line if they are to: at the first that is not refused with
-/// `Escrow` or `Die`.
+/// A script or a schedule is read whole before any of it runs, and all scripts of `run` before the first of them runs.
+/// A device is only read by `check` and `explain`, and if `format` is refused each file is as it was. A device that is
+/// opened by `dump` is written to, and represents what it represented. One that `migrate` carries over represents it
+/// with the counters more. `run` serves one script after the other if it has one worker, and else all at once, by
+/// threads; it may wait then. It gives the device back to its file, but if serving by several workers is refused: what
+/// the file has is not stated then. Each other file is as it was. By one worker `run`, and `try`, stop at a refused
+/// line if they are to: at the first that is not refused with `Escrow` or `Die`.
 ///
 /// The gate is called at the points of sessions served at once that it wants to see.
 pub fn perform<

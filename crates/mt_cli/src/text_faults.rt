@@ -10,14 +10,17 @@ use mt_script::{Grammar, line_fault};
 /// The most bytes of a text: no script and no schedule is longer.
 pub(crate) const MAX_TEXT_BYTES: usize = MAX_LINES * (MAX_LINE_BYTES + 1);
 
-/// What a device begins with: an open gate, and letters.
-const DEVICE_LETTERS: [u8; 5] = [OPEN_GATE, b'M', b'T', b'K', b'1'];
+/// What a device of format 1 begins with: an open gate, and letters.
+const FIRST_DEVICE_LETTERS: [u8; 5] = [OPEN_GATE, b'M', b'T', b'K', b'1'];
+
+/// What one of format 2 begins with.
+const DEVICE_LETTERS: [u8; 5] = [OPEN_GATE, b'M', b'T', b'K', b'2'];
 
 /// Whether a text begins as a device does.
 fn is_device(bytes: &[u8]) -> bool
     ensures { result ≡ is_device bytes.now }
 {
-    bytes.starts_with(&DEVICE_LETTERS)
+    bytes.starts_with(&FIRST_DEVICE_LETTERS) || bytes.starts_with(&DEVICE_LETTERS)
 }
 
 /// What is wrong with a text whose line of this number, counted from 1, is its first that is not in the grammar.

@@ -1,5 +1,5 @@
 -- What a step of one operation leaves of all.
-use Rattle.std.proofs.Common.{◌≡◌, ◌≢◌, is_some, inl, inr, ⊎_elim, ℕ, ◌<◌, ◌≤◌, ◌+◌, ◌==◌, ◌++◌, true, false, List, length, get_or, set, Some, refl, sym, ap, ◌∙◌, subst, arith}
+use Rattle.std.proofs.Common.{◌≡◌, ◌≢◌, inl, inr, ⊎_elim, ℕ, ◌<◌, ◌≤◌, ◌+◌, ◌==◌, ◌++◌, true, false, List, length, get_or, set, Some, refl, sym, ap, ◌∙◌, subst, arith}
 use Rattle.std.specs.Prelude.{All, AllPairs, Result, Ok, Err}
 use Rattle.std.specs.List.{sum_by}
 use Rattle.std.specs.Option.{option_map}
@@ -17,7 +17,7 @@ use Rattle.mt_live.specs.Members.{Member, last_operation}
 use Rattle.mt_log.specs.Words.{appended, used, area_size}
 use Rattle.mt_model.specs.declared.operations.Op.{Op}
 use Rattle.mt_model.specs.declared.operations.Reply.{Reply}
-use Rattle.mt_model.specs.Model.{Base, reply_of, base_after, inverse_of}
+use Rattle.mt_model.specs.Model.{Base, reply_of, base_after}
 use Rattle.mt_op.specs.Holds.{IsNext, KeepsLocks}
 use Rattle.mt_op.specs.Moves.{SameOp}
 use Rattle.mt_op.specs.Operations.{world, IsRight, HasBudget, Goes, Steps, GivesBack, claimed}
@@ -44,7 +44,7 @@ use Rattle.mt_core.proofs.Lists.{all_set, pair_at, pairs_set}
 use Rattle.mt_core.proofs.Underway.{IsSame, apart_flip, running_set}
 use Rattle.mt_core.proofs.Holders.{way_at, held_set, held_step}
 use Rattle.mt_core.proofs.Numbers.{AddsNoInverse, adds_none, adds_pages, numbered_step}
-use Rattle.mt_core.proofs.Effects.{weighs_last, inverse_pages}
+use Rattle.mt_core.proofs.Effects.{weighs_effect, weighs_last, inverse_pages}
 use Rattle.mt_core.proofs.Inverses.{none_undone}
 use Rattle.mt_core.proofs.Reported.{reported_more}
 use Rattle.mt_core.proofs.Queued.{queued_records}
@@ -114,6 +114,7 @@ module _ {D : Type 0} (g : Ghosts D) (origin : Origin) (base : Base) where
     running = λ t. (sym (running_set k.running.items place r q within there same t) ∙ ap (λ (rs : List OpScope). running_in rs t) (sym items)) i;
     held = held_of k.locks;
     pending = k.escrow.pending;
+    aside = k.escrow.aside;
     base = base;
   }
 
@@ -282,10 +283,9 @@ module _ {D : Type 0} (g : Ghosts D) (origin : Origin) (base : Base) where
       omega arith)
       (λ (back : r.undoes ≡ 0 → ⊥).
       let t = owned.inverse back in
-      let some : is_some (inverse_of t.entry.op t.entry.reply) ≡ true = rw t.inverse refl in
       let of_entry = weighs_last undo_pages r.txn k.live.standing t.entry t.last in
       let less = inverse_pages t.entry.op t.entry.reply r.op t.inverse in
-      let is : entry_pages t.entry ≡ undo_pages t.entry.op = rw some refl in
+      let is : entry_pages t.entry ≡ undo_pages t.entry.op = weighs_effect undo_pages r.txn k.live.standing t.entry t.last in
       let unsplit : own_needs r.op r.split ≡ own_needs r.op false = ap (own_needs r.op) t.unsplit in
       omega arith) (cases_eq r.undoes 0)
 

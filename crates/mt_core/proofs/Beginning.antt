@@ -104,6 +104,7 @@ module _ {D : Type 0} (g : Ghosts D) (origin : Origin) (base : Base) where
         running = running_in k.running.items;
         held = held_of k.locks;
         pending = k.escrow.pending;
+        aside = k.escrow.aside;
         base = base;
       } in
       let other : (i : ℕ) (d : OpScope) → i < length k.running.items → member_of n.live.members (get_or k.running.items i d).txn ≡ member_of k.live.members (get_or k.running.items i d).txn =
@@ -177,6 +178,7 @@ module _ {D : Type 0} (g : Ghosts D) (origin : Origin) (base : Base) where
         running = running_in k.running.items;
         held = held_of k.locks;
         pending = k.escrow.pending;
+        aside = k.escrow.aside;
         base = base;
       } in
       let claims = safe.claims in let reserves = fit.reserves in

@@ -133,6 +133,7 @@ module _ {D : Type 0} (g : Ghosts D) (origin : Origin) (base : Base) where
         running = λ u. runs u i;
         held = sym granted.locked i;
         pending = sym granted.more i;
+        aside = sym granted.aside i;
         base = base;
       } in
       let w_same : world g origin.pages k.operations ≡ world g origin.pages n.operations = world_same g k.operations n.operations origin.pages h.store h.locks in
@@ -225,5 +226,6 @@ module _ {D : Type 0} (g : Ghosts D) (origin : Origin) (base : Base) where
     free = granted.free;
     committed = granted.committed;
     more = granted.more;
+    aside = granted.aside;
     admitted = granted.admitted;
   }

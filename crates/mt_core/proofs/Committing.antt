@@ -68,6 +68,7 @@ module _ {D : Type 0} (g : Ghosts D) (origin : Origin) (base : Base) where
         running = running_in k.running.items;
         held = held_of k.locks;
         pending = k.escrow.pending;
+        aside = k.escrow.aside;
         base = base;
       } in
       let other : (u : ℕ) → u ≢ t → member_of n.live.members u ≡ member_of k.live.members u = changed_other (λ m. with_state m Committing) k.live.members n.live.members t changed in

@@ -1,5 +1,5 @@
 -- A core that is attached to its device again, which was only read or synced, is in the state in which it was.
-use Rattle.std.proofs.Common.{ℕ, List, refl, arith}
+use Rattle.std.proofs.Common.{refl, arith}
 use Rattle.mt_disk.specs.declared.device.Device.{Ghosts}
 use Rattle.mt_log.specs.Quiet.{OnlyReadsOrSyncs}
 use Rattle.mt_op.proofs.Detached as operations

@@ -1,20 +1,24 @@
 -- Entries that did something, among those of several transactions, and the records' tellings of them.
-use Rattle.std.proofs.Common.{◌≡◌, ◌≢◌, ◌⊎◌, inl, inr, ℕ, suc, ◌<◌, ◌==◌, Bool, true, false, not, cond, List, [], ◌∷◌, ◌++◌, Option, Some, None, length, take, get_or, map, filter, refl, sym, ap, ◌∙◌, subst, arith, append-nil, append_assoc}
+use Rattle.std.proofs.Common.{◌≡◌, ◌≢◌, ◌⊎◌, inl, inr, ℕ, suc, ◌<◌, ◌==◌, Bool, true, false, not, ◌&&◌, is_some, cond, List, [], ◌∷◌, ◌++◌, Option, Some, None, length, take, get_or, map, filter, refl, sym, ap, ◌∙◌, subst, arith, append-nil, append_assoc}
 use Rattle.std.specs.Prelude.{AllPairs, All}
 use Rattle.std.specs.List.{AllByRecursion}
 use Rattle.std.proofs.lemmas.Bool.{cases_Bool, cases_eq, eqb-true, eq-eqb, ne_eqb}
 use Rattle.std.proofs.lemmas.List.{map-append}
-use Rattle.std.proofs.lemmas.List.Elements.{All-head, All-tail, filter-append}
+use Rattle.std.proofs.lemmas.List.Elements.{All-head, All-tail, All-filter, filter-append}
+use Rattle.mt_live.proofs.Entries.{calls-append}
 use Rattle.mt_live.specs.Entries.{Entry, calls, kept}
 use Rattle.mt_live.specs.Laws.{in_turn, without_all}
-use Rattle.mt_live.specs.Members.{has_inverse, later, last_place}
+use Rattle.mt_live.specs.Machine.{put}
+use Rattle.mt_live.specs.Members.{Noted, has_inverse, later, last_place}
 use Rattle.mt_live.specs.Undoing.{only, others}
 use Rattle.mt_model.proofs.Split.{filter-swap}
 use Rattle.mt_model.specs.History.{Call}
 use Rattle.mt_replay.proofs.Walking.{map_filter}
 use Rattle.mt_replay.specs.Recorded.{Recorded, Finished, its, others as others_of, is_but, without, call_of, calls_of}
 use Rattle.mt_core.proofs.Lists.{pairs_head, pairs_tail}
-use Rattle.mt_core.specs.Restartable.{did, effects_of, entry_of, numbers_did}
+use Rattle.mt_live.specs.declared.transactions.TxnState.{TxnState}
+use Rattle.mt_live.specs.declared.transactions.TxnState.TheVariants.{Open, Committing}
+use Rattle.mt_core.specs.Restartable.{did, did_call, effects_of, its_effects, entry_of, numbers_did, HasEnds}
 
 -- ---- lists
 
@@ -122,42 +126,6 @@ pub without_did : (ts : List ℕ) (es : List Entry) → filter did (without_all 
 without_did [] es = refl
 without_did (t ∷ ts) es = without_did ts (kept (others t) es) ∙ ap (without_all ts) (filter-swap did (λ (e : Entry). others t e.txn) es)
 
--- ---- the calls of each in turn
-
-abbrev pub turn : List ℕ → List Entry → List (List Call)
-turn [] es = []
-turn (t ∷ ts) es = calls (kept (only t) es) ∷ turn ts (kept (others t) es)
-
-pub calls_did : (es : List Entry) → filter has_inverse (calls es) ≡ calls (filter did es)
-calls_did es = sym (map_filter (λ (e : Entry). (e.op, e.reply)) did has_inverse (λ e. refl) es)
-
-pub effects_only : (t : ℕ) (es : List Entry) → filter has_inverse (calls (kept (only t) es)) ≡ calls (kept (only t) (filter did es))
-effects_only t es = calls_did (kept (only t) es) ∙ ap calls (filter-swap did (λ (e : Entry). only t e.txn) es)
-
-pub effects_turn : (session : ℕ → ℕ) (ts : List ℕ) (es : List Entry) → map effects_of (in_turn session ts es) ≡ turn ts (filter did es)
-effects_turn session [] es = refl
-effects_turn session (t ∷ ts) es =
-    let rest = effects_turn session ts (kept (others t) es) ∙ ap (turn ts) (filter-swap did (λ (e : Entry). others t e.txn) es) in
-    λ i. effects_only t es i ∷ rest i
-
-turn_out : (ts : List ℕ) (xs : List Entry) (e : Entry) (ys : List Entry) → AreApartFrom e.txn ts → turn ts (xs ++ e ∷ ys) ≡ turn ts (xs ++ ys)
-turn_out [] xs e ys apart = refl
-turn_out (t ∷ ts) xs e ys apart =
-    let mine : kept (only t) (xs ++ e ∷ ys) ≡ kept (only t) (xs ++ ys) = filter-append (λ (x : Entry). only t x.txn) xs (e ∷ ys) ∙ ap (λ (zs : List Entry). kept (only t) xs ++ zs) (only_one t e ys apart.0) ∙ sym (filter-append (λ (x : Entry). only t x.txn) xs ys) in
-    let rest : kept (others t) (xs ++ e ∷ ys) ≡ kept (others t) xs ++ e ∷ kept (others t) ys = filter-append (λ (x : Entry). others t x.txn) xs (e ∷ ys) ∙ ap (λ (zs : List Entry). kept (others t) xs ++ zs) (kept_one t e ys apart.0) in
-    let after : turn ts (kept (others t) (xs ++ e ∷ ys)) ≡ turn ts (kept (others t) (xs ++ ys)) = ap (turn ts) rest ∙ turn_out ts (kept (others t) xs) e (kept (others t) ys) apart.1 ∙ ap (turn ts) (sym (filter-append (λ (x : Entry). others t x.txn) xs ys)) in
-    λ i. calls (mine i) ∷ after i
-
-turn_kept : (ts : List ℕ) (t : ℕ) (es : List Entry) → AreApartFrom t ts → turn ts (kept (others t) es) ≡ turn ts es
-turn_kept [] t es apart = refl
-turn_kept (s ∷ ts) t es apart =
-    let rest = ap (turn ts) (filter-swap (λ (e : Entry). others s e.txn) (λ (e : Entry). others t e.txn) es) ∙ turn_kept ts t (kept (others s) es) apart.1 in
-    λ i. calls (only_kept s t es apart.0 i) ∷ rest i
-
-turn_push : (ts : List ℕ) (t : ℕ) (es : List Entry) → turn (ts ++ t ∷ []) es ≡ turn ts es ++ calls (kept (only t) (without_all ts es)) ∷ []
-turn_push [] t es = refl
-turn_push (s ∷ ts) t es = ap (λ (cs : List (List Call)). calls (kept (only s) es) ∷ cs) (turn_push ts t (kept (others s) es))
-
 -- ---- as the records tell them
 
 pub calls_entries : (fs : List Finished) → calls (map entry_of fs) ≡ calls_of fs
@@ -188,41 +156,195 @@ but_absent t u (f ∷ fs) all = elim (cases_Bool (f.txn == t)) [
 but_own : (t u : ℕ) (f : Finished) (fs : List Finished) → f.txn ≡ t → f.op ≡ u → without t u (f ∷ fs) ≡ without t u fs
 but_own t u f fs txn op = rw (eq-eqb f.txn t txn, eq-eqb f.op u op) refl
 
+-- ---- the effects of each in turn
+
+all_map : (P Q : ℕ → Type 0) → ((t : ℕ) → P t → Q t) → (ts : List ℕ) → AllByRecursion P ts → AllByRecursion Q ts
+all_map P Q so [] all = tt
+all_map P Q so (t ∷ ts) all = (so t all.0, all_map P Q so ts all.1)
+
+pub effects_gone : (t : ℕ) (es : List Entry) → its_effects t (kept (others t) es) ≡ []
+effects_gone t es = ap (λ (fs : List Entry). filter did_call (calls fs)) (only_gone t es)
+
+pub effects_kept : (s t : ℕ) (es : List Entry) → s ≢ t → its_effects s (kept (others t) es) ≡ its_effects s es
+effects_kept s t es apart = ap (λ (fs : List Entry). filter did_call (calls fs)) (only_kept s t es apart)
+
+-- entries with the same ones of others
+pub effects_beside : (u t : ℕ) (es fs : List Entry) → kept (others t) fs ≡ kept (others t) es → u ≢ t → its_effects u fs ≡ its_effects u es
+effects_beside u t es fs same apart = sym (effects_kept u t fs apart) ∙ (ap (its_effects u) same ∙ effects_kept u t es apart)
+
+pub others_cut : (t : ℕ) (front : List Entry) (e : Entry) (rest : List Entry) → e.txn ≡ t → kept (others t) (front ++ kept (others t) rest) ≡ kept (others t) (front ++ e ∷ rest)
+others_cut t front e rest own =
+    filter-append (λ (x : Entry). others t x.txn) front (kept (others t) rest)
+    ∙ (ap (λ (es : List Entry). kept (others t) front ++ es) (filter_within (λ (x : Entry). others t x.txn) (λ (x : Entry). others t x.txn) (λ x is. is) rest
+    ∙ ap (λ (c : Bool). cond (not c) (e ∷ kept (others t) rest) (kept (others t) rest)) (sym (eq-eqb e.txn t own)))
+    ∙ sym (filter-append (λ (x : Entry). others t x.txn) front (e ∷ rest)))
+
+pub effects_push : (t : ℕ) (es : List Entry) (e : Entry) → e.txn ≡ t → its_effects t (es ++ e ∷ []) ≡ its_effects t es ++ cond (did_call (e.op, e.reply)) ((e.op, e.reply) ∷ []) []
+effects_push t es e own =
+    ap (λ (fs : List Entry). filter did_call (calls fs)) (filter-append (λ (x : Entry). only t x.txn) es (e ∷ []) ∙ ap (λ (c : Bool). kept (only t) es ++ cond c (e ∷ []) []) (eq-eqb e.txn t own))
+    ∙ (ap (filter did_call) (calls-append (kept (only t) es) (e ∷ [])) ∙ filter-append did_call (calls (kept (only t) es)) ((e.op, e.reply) ∷ []))
+
+pub effects_other : (u : ℕ) (es : List Entry) (e : Entry) → u ≢ e.txn → its_effects u (es ++ e ∷ []) ≡ its_effects u es
+effects_other u es e apart =
+    ap (λ (fs : List Entry). filter did_call (calls fs)) (filter-append (λ (x : Entry). only u x.txn) es (e ∷ []) ∙ ap (λ (c : Bool). kept (only u) es ++ cond c (e ∷ []) []) (away e.txn u apart) ∙ append-nil (kept (only u) es))
+
+abbrev pub turn : List ℕ → List Entry → List (List Call)
+turn [] es = []
+turn (t ∷ ts) es = its_effects t es ∷ turn ts (kept (others t) es)
+
+pub effects_turn : (session : ℕ → ℕ) (ts : List ℕ) (es : List Entry) → map effects_of (in_turn session ts es) ≡ turn ts es
+effects_turn session [] es = refl
+effects_turn session (t ∷ ts) es = ap (λ (cs : List (List Call)). its_effects t es ∷ cs) (effects_turn session ts (kept (others t) es))
+
+-- entries with the same effects of each of them
+turn_like : (ts : List ℕ) (es fs : List Entry) → AllByRecursion (λ (u : ℕ). its_effects u es ≡ its_effects u fs) ts → turn ts es ≡ turn ts fs
+turn_like [] es fs same = refl
+turn_like (t ∷ ts) es fs same =
+    let rest = turn_like ts (kept (others t) es) (kept (others t) fs) (all_map (λ (u : ℕ). its_effects u es ≡ its_effects u fs) (λ (u : ℕ). its_effects u (kept (others t) es) ≡ its_effects u (kept (others t) fs)) left ts same.1) in
+    λ i. same.0 i ∷ rest i
+  where
+    left : (u : ℕ) → its_effects u es ≡ its_effects u fs → its_effects u (kept (others t) es) ≡ its_effects u (kept (others t) fs)
+    left u is = go (cases_eq u t)
+      where
+        go : (u ≡ t) ⊎ (u ≡ t → ⊥) → its_effects u (kept (others t) es) ≡ its_effects u (kept (others t) fs)
+        go (inl own) = ap (λ (v : ℕ). its_effects v (kept (others t) es)) own ∙ (effects_gone t es ∙ sym (ap (λ (v : ℕ). its_effects v (kept (others t) fs)) own ∙ effects_gone t fs))
+        go (inr apart) = effects_kept u t es apart ∙ (is ∙ sym (effects_kept u t fs apart))
+
+turn_push : (ts : List ℕ) (t : ℕ) (es : List Entry) → turn (ts ++ t ∷ []) es ≡ turn ts es ++ its_effects t (without_all ts es) ∷ []
+turn_push [] t es = refl
+turn_push (s ∷ ts) t es = ap (λ (cs : List (List Call)). its_effects s es ∷ cs) (turn_push ts t (kept (others s) es))
+
+effects_without : (ts : List ℕ) (t : ℕ) (es : List Entry) → AreApartFrom t ts → its_effects t (without_all ts es) ≡ its_effects t es
+effects_without [] t es apart = refl
+effects_without (s ∷ ts) t es apart = effects_without ts t (kept (others s) es) apart.1 ∙ effects_kept t s es (λ is. apart.0 (sym is))
+
+-- ---- what has committed, and what has ended
+
+-- the books and what has ended of each
+pub record Books (done : List (List Call)) (ts : List ℕ) (states : ℕ → Option TxnState) (es : List Entry) (x : Recorded) : Type 0 where
+  pub books : map calls_of x.books ≡ done ++ turn ts es
+  pub ends : (t : ℕ) → HasEnds (states t) (calls_of (its t x.ends)) (its_effects t es)
+
+-- what the records have of a transaction in one state, they have of it in another
+abbrev pub Eases : (ℕ → Option TxnState) → (ℕ → Option TxnState) → Type 0
+Eases old new = (t : ℕ) (ends mine : List Call) → HasEnds (old t) ends mine → HasEnds (new t) ends mine
+
+pub eases_same : (old new : ℕ → Option TxnState) → ((t : ℕ) → new t ≡ old t) → Eases old new
+eases_same old new same t ends mine k = subst (λ s. HasEnds s ends mine) (sym (same t)) k
+
+pub eases_put : (old new : ℕ → Option TxnState) (t : ℕ) (s : Option TxnState) → ((u : ℕ) → new u ≡ put old t s u) → ((ends mine : List Call) → HasEnds (old t) ends mine → HasEnds s ends mine) → Eases old new
+eases_put old new t s changed one u ends mine k = subst (λ z. HasEnds z ends mine) (sym (changed u)) (go (u == t) refl)
+  where
+    go : (c : Bool) → (u == t) ≡ c → HasEnds (cond c s (old u)) ends mine
+    go true is = one ends mine (subst (λ v. HasEnds (old v) ends mine) (eqb-true u t is) k)
+    go false is = k
+
+same_ends : (s z : Option TxnState) (a b m n : List Call) → z ≡ s → b ≡ a → n ≡ m → HasEnds s a m → HasEnds z b n
+same_ends s z a b m n state ends mine k = subst (λ (X : Type 0). X) (λ i. HasEnds (sym state i) (sym ends i) (sym mine i)) k
+
+its_ends : (t : ℕ) (fs : List Finished) (f : Finished) → f.txn ≡ t → calls_of (its t (fs ++ f ∷ [])) ≡ calls_of (its t fs) ++ call_of f.done ∷ []
+its_ends t fs f own =
+    ap calls_of (filter-append (λ (g : Finished). g.txn == t) fs (f ∷ []) ∙ ap (λ (c : Bool). its t fs ++ cond c (f ∷ []) []) (eq-eqb f.txn t own))
+    ∙ map-append (λ (g : Finished). call_of g.done) (its t fs) (f ∷ [])
+
+other_ends : (u : ℕ) (fs : List Finished) (f : Finished) → u ≢ f.txn → calls_of (its u (fs ++ f ∷ [])) ≡ calls_of (its u fs)
+other_ends u fs f apart = ap calls_of (filter-append (λ (g : Finished). g.txn == u) fs (f ∷ []) ∙ ap (λ (c : Bool). its u fs ++ cond c (f ∷ []) []) (away f.txn u apart) ∙ append-nil (its u fs))
+
+module _ (done : List (List Call)) (ts : List ℕ) (old new : ℕ → Option TxnState) (es : List Entry) (x : Recorded) (k : Books done ts old es x) where
+  -- nothing has ended, and the entries have the same effects
+  pub books_still : (fs : List Entry) → ((t : ℕ) → its_effects t fs ≡ its_effects t es) → Eases old new → Books done ts new fs x
+  books_still fs same eases = record {
+    books = k.books ∙ ap (λ (cs : List (List Call)). done ++ cs) (turn_like ts es fs (each ts));
+    ends = λ t. eases t (calls_of (its t x.ends)) (its_effects t fs) (same_ends (old t) (old t) (calls_of (its t x.ends)) (calls_of (its t x.ends)) (its_effects t es) (its_effects t fs) refl refl (same t) (k.ends t));
+  }
+    where
+      each : (ss : List ℕ) → AllByRecursion (λ (u : ℕ). its_effects u es ≡ its_effects u fs) ss
+      each [] = tt
+      each (s ∷ ss) = (sym (same s), each ss)
+
+  -- an operation of a transaction that is not among those that commit has ended
+  pub books_end : (f : Finished) (fs : List Entry) (live : List Finished) → AreApartFrom f.txn ts → ((u : ℕ) → u ≢ f.txn → its_effects u fs ≡ its_effects u es) → ((u : ℕ) → new u ≡ old u)
+      → HasEnds (old f.txn) (calls_of (its f.txn x.ends) ++ call_of f.done ∷ []) (its_effects f.txn fs) → Books done ts new fs (record { live = live; ends = x.ends ++ f ∷ []; books = x.books })
+  books_end f fs live apart same states own = record {
+    books = k.books ∙ ap (λ (cs : List (List Call)). done ++ cs) (turn_like ts es fs (all_map (λ (s : ℕ). s ≢ f.txn) (λ (u : ℕ). its_effects u es ≡ its_effects u fs) (λ u far. sym (same u far)) ts apart));
+    ends = λ u. elim (cases_eq u f.txn) [
+      | inl is ↦ subst (λ (v : ℕ). HasEnds (new v) (calls_of (its v (x.ends ++ f ∷ []))) (its_effects v fs)) (sym is)
+          (same_ends (old f.txn) (new f.txn) (calls_of (its f.txn x.ends) ++ call_of f.done ∷ []) (calls_of (its f.txn (x.ends ++ f ∷ []))) (its_effects f.txn fs) (its_effects f.txn fs) (states f.txn) (its_ends f.txn x.ends f refl) refl own)
+      | inr far ↦ same_ends (old u) (new u) (calls_of (its u x.ends)) (calls_of (its u (x.ends ++ f ∷ []))) (its_effects u es) (its_effects u fs) (states u) (other_ends u x.ends f far) (same u far) (k.ends u)
+    ];
+  }
+
+  -- a commit is appended
+  pub books_commit : (t : ℕ) (live : List Finished) → AreApartFrom t ts → old t ≡ Some Open → new t ≡ Some Committing → ((u : ℕ) → u ≢ t → new u ≡ old u)
+      → Books done (ts ++ t ∷ []) new es (record { live = live; ends = others_of t x.ends; books = x.books ++ its t x.ends ∷ [] })
+  books_commit t live apart opened commits rest =
+      let mine : calls_of (its t x.ends) ≡ its_effects t es = subst (λ s. HasEnds s (calls_of (its t x.ends)) (its_effects t es)) opened (k.ends t) in
+      record {
+        books = map-append calls_of x.books (its t x.ends ∷ []) ∙ (λ i. k.books i ++ (mine ∙ sym (effects_without ts t es apart)) i ∷ []) ∙ append_assoc done (turn ts es) (its_effects t (without_all ts es) ∷ []) ∙ ap (λ (cs : List (List Call)). done ++ cs) (sym (turn_push ts t es));
+        ends = λ u. elim (cases_eq u t) [
+          | inl is ↦ subst (λ (v : ℕ). HasEnds (new v) (calls_of (its v (others_of t x.ends))) (its_effects v es)) (sym is) (subst (λ s. HasEnds s (calls_of (its t (others_of t x.ends))) (its_effects t es)) (sym commits) (ap calls_of (its_gone t x.ends)))
+          | inr far ↦ same_ends (old u) (new u) (calls_of (its u x.ends)) (calls_of (its u (others_of t x.ends))) (its_effects u es) (its_effects u es) (rest u far) (ap calls_of (its_kept u t x.ends far)) refl (k.ends u)
+        ];
+      }
+
+  -- an abort has ended
+  pub books_abort : (t : ℕ) (live : List Finished) → AreApartFrom t ts → new t ≡ None → ((u : ℕ) → u ≢ t → new u ≡ old u)
+      → Books done ts new (kept (others t) es) (record { live = live; ends = others_of t x.ends; books = x.books })
+  books_abort t live apart gone rest = record {
+    books = k.books ∙ ap (λ (cs : List (List Call)). done ++ cs) (turn_like ts es (kept (others t) es) (all_map (λ (s : ℕ). s ≢ t) (λ (u : ℕ). its_effects u es ≡ its_effects u (kept (others t) es)) (λ u far. sym (effects_kept u t es far)) ts apart));
+    ends = λ u. elim (cases_eq u t) [
+      | inl is ↦ subst (λ (v : ℕ). HasEnds (new v) (calls_of (its v (others_of t x.ends))) (its_effects v (kept (others t) es))) (sym is)
+          (subst (λ s. HasEnds s (calls_of (its t (others_of t x.ends))) (its_effects t (kept (others t) es))) (sym gone) (ap calls_of (its_gone t x.ends) ∙ sym (effects_gone t es)))
+      | inr far ↦ same_ends (old u) (new u) (calls_of (its u x.ends)) (calls_of (its u (others_of t x.ends))) (its_effects u es) (its_effects u (kept (others t) es)) (rest u far) (ap calls_of (its_kept u t x.ends far)) (effects_kept u t es far) (k.ends u)
+    ];
+  }
+
+-- the first commit under way is booked
+pub books_booked : (done : List (List Call)) (t : ℕ) (ts : List ℕ) (old new : ℕ → Option TxnState) (es : List Entry) (x : Recorded) → Books done (t ∷ ts) old es x → old t ≡ Some Committing → new t ≡ None → ((u : ℕ) → u ≢ t → new u ≡ old u)
+    → Books (done ++ its_effects t es ∷ []) ts new (kept (others t) es) x
+books_booked done t ts old new es x k commits gone rest =
+    let none : calls_of (its t x.ends) ≡ [] = subst (λ s. HasEnds s (calls_of (its t x.ends)) (its_effects t es)) commits (k.ends t) in
+    record {
+      books = k.books ∙ sym (append_assoc done (its_effects t es ∷ []) (turn ts (kept (others t) es)));
+      ends = λ u. elim (cases_eq u t) [
+        | inl is ↦ subst (λ (v : ℕ). HasEnds (new v) (calls_of (its v x.ends)) (its_effects v (kept (others t) es))) (sym is)
+            (subst (λ s. HasEnds s (calls_of (its t x.ends)) (its_effects t (kept (others t) es))) (sym gone) (none ∙ sym (effects_gone t es)))
+        | inr far ↦ same_ends (old u) (new u) (calls_of (its u x.ends)) (calls_of (its u x.ends)) (its_effects u es) (its_effects u (kept (others t) es)) (rest u far) refl (effects_kept u t es far) (k.ends u)
+      ];
+    }
+
 -- ---- in all
 
--- The books and, of the transactions at work, what each has done, and under which numbers.
-pub record Tallies (done : List (List Call)) (ts : List ℕ) (numbers : ℕ → List ℕ) (es : List Entry) (x : Recorded) : Type 0 where
-  pub books : map calls_of x.books ≡ done ++ turn ts es
-  pub live : map entry_of x.live ≡ without_all ts es
-  pub its : (t : ℕ) → map (λ (f : Finished). f.op) (its t x.live) ≡ numbers t
+-- Of the transactions at work, what stands of each and did something, and under which numbers.
+pub record Tallies (ts : List ℕ) (numbers : ℕ → List ℕ) (es : List Entry) (fs : List Finished) : Type 0 where
+  pub live : map entry_of fs ≡ without_all ts es
+  pub its : (t : ℕ) → map (λ (f : Finished). f.op) (its t fs) ≡ numbers t
 
-module _ (books : List (List Call)) (ts : List ℕ) (old new : ℕ → List ℕ) (es : List Entry) (x : Recorded) (k : Tallies books ts old es x) where
-  pub tally_same : ((t : ℕ) → new t ≡ old t) → Tallies books ts new es x
-  tally_same same = record { books = k.books; live = k.live; its = λ t. k.its t ∙ sym (same t) }
+module _ (ts : List ℕ) (old new : ℕ → List ℕ) (es : List Entry) (live : List Finished) (k : Tallies ts old es live) where
+  pub tally_same : ((t : ℕ) → new t ≡ old t) → Tallies ts new es live
+  tally_same same = record { live = k.live; its = λ t. k.its t ∙ sym (same t) }
 
   -- an operation that did something has ended
   pub tally_end : (f : Finished) → AreApartFrom f.txn ts → new f.txn ≡ old f.txn ++ f.op ∷ [] → ((u : ℕ) → u ≢ f.txn → new u ≡ old u)
-      → Tallies books ts new (es ++ entry_of f ∷ []) (record { live = x.live ++ f ∷ []; books = x.books })
+      → Tallies ts new (es ++ entry_of f ∷ []) (live ++ f ∷ [])
   tally_end f apart mine rest = record {
-    books = k.books ∙ ap (λ (cs : List (List Call)). books ++ cs) (ap (turn ts) (sym (append-nil es)) ∙ sym (turn_out ts es (entry_of f) [] apart));
-    live = map-append entry_of x.live (f ∷ []) ∙ ap (λ (gs : List Entry). gs ++ entry_of f ∷ []) k.live ∙ sym (without_append ts es (entry_of f ∷ []) ∙ ap (λ (gs : List Entry). without_all ts es ++ gs) (without_one ts (entry_of f) [] apart ∙ ap (λ (gs : List Entry). entry_of f ∷ gs) (none ts)));
-    its = λ u. ap (map (λ (g : Finished). g.op)) (filter-append (λ (g : Finished). g.txn == u) x.live (f ∷ [])) ∙ map-append (λ (g : Finished). g.op) (its u x.live) (its u (f ∷ [])) ∙ go u (cases_eq f.txn u);
+    live = map-append entry_of live (f ∷ []) ∙ ap (λ (gs : List Entry). gs ++ entry_of f ∷ []) k.live ∙ sym (without_append ts es (entry_of f ∷ []) ∙ ap (λ (gs : List Entry). without_all ts es ++ gs) (without_one ts (entry_of f) [] apart ∙ ap (λ (gs : List Entry). entry_of f ∷ gs) (none ts)));
+    its = λ u. ap (map (λ (g : Finished). g.op)) (filter-append (λ (g : Finished). g.txn == u) live (f ∷ [])) ∙ map-append (λ (g : Finished). g.op) (its u live) (its u (f ∷ [])) ∙ go u (cases_eq f.txn u);
   }
     where
       none : (ss : List ℕ) → without_all ss [] ≡ []
       none [] = refl
       none (s ∷ ss) = none ss
 
-      go : (u : ℕ) → (f.txn ≡ u) ⊎ (f.txn ≡ u → ⊥) → map (λ (g : Finished). g.op) (its u x.live) ++ map (λ (g : Finished). g.op) (its u (f ∷ [])) ≡ new u
+      go : (u : ℕ) → (f.txn ≡ u) ⊎ (f.txn ≡ u → ⊥) → map (λ (g : Finished). g.op) (its u live) ++ map (λ (g : Finished). g.op) (its u (f ∷ [])) ≡ new u
       go u (inl own) = rw (eq-eqb f.txn u own) (ap (λ (ns : List ℕ). ns ++ f.op ∷ []) (k.its u) ∙ ap (λ (v : ℕ). old v ++ f.op ∷ []) (sym own) ∙ sym mine ∙ ap new own)
-      go u (inr apart_u) = rw (ne_eqb f.txn u apart_u) (append-nil (map (λ (g : Finished). g.op) (its u x.live)) ∙ k.its u ∙ sym (rest u (λ is. apart_u (sym is))))
+      go u (inr apart_u) = rw (ne_eqb f.txn u apart_u) (append-nil (map (λ (g : Finished). g.op) (its u live)) ∙ k.its u ∙ sym (rest u (λ is. apart_u (sym is))))
 
   -- the inverse of the last of a transaction's has ended
   pub tally_undone : (t u : ℕ) (front : List Entry) (e : Entry) (back : List Entry) → es ≡ front ++ e ∷ back → e.txn ≡ t → kept (only t) back ≡ [] → AreApartFrom t ts
       → old t ≡ new t ++ u ∷ [] → AllByRecursion (λ (n : ℕ). n ≢ u) (new t) → ((v : ℕ) → v ≢ t → new v ≡ old v)
-      → Tallies books ts new (front ++ back) (record { live = without t u x.live; books = x.books })
+      → Tallies ts new (front ++ back) (without t u live)
   tally_undone t u front e back is own none apart mine less rest = record {
-    books = k.books ∙ ap (λ (cs : List (List Call)). books ++ cs) (ap (turn ts) is ∙ turn_out ts front e back apart_e);
     live = ap (map entry_of) cut ∙ map-append entry_of p.front p.back ∙ (λ i. p.front_is i ++ p.back_is i) ∙ sym (without_append ts front back);
     its = λ v. ap (λ (gs : List Finished). map (λ (g : Finished). g.op) (its v gs)) cut ∙ go v (cases_eq v t);
   }
@@ -230,11 +352,11 @@ module _ (books : List (List Call)) (ts : List ℕ) (old new : ℕ → List ℕ)
       apart_e : AreApartFrom e.txn ts
       apart_e = subst (λ (v : ℕ). AreApartFrom v ts) (sym own) apart
 
-      split : map entry_of x.live ≡ without_all ts front ++ e ∷ without_all ts back
+      split : map entry_of live ≡ without_all ts front ++ e ∷ without_all ts back
       split = k.live ∙ ap (without_all ts) is ∙ without_append ts front (e ∷ back) ∙ ap (λ (gs : List Entry). without_all ts front ++ gs) (without_one ts e back apart_e)
 
-      p : Parted entry_of x.live (without_all ts front) e (without_all ts back)
-      p = parted entry_of x.live (without_all ts front) e (without_all ts back) split
+      p : Parted entry_of live (without_all ts front) e (without_all ts back)
+      p = parted entry_of live (without_all ts front) e (without_all ts back) split
 
       mid_txn : p.mid.txn ≡ t
       mid_txn = ap (λ (y : Entry). y.txn) p.mid_is ∙ own
@@ -245,10 +367,10 @@ module _ (books : List (List Call)) (ts : List ℕ) (old new : ℕ → List ℕ)
       ops : List Finished → List ℕ
       ops gs = map (λ (g : Finished). g.op) gs
 
-      its_parts : (v : ℕ) → its v x.live ≡ its v p.front ++ its v (p.mid ∷ p.back)
+      its_parts : (v : ℕ) → its v live ≡ its v p.front ++ its v (p.mid ∷ p.back)
       its_parts v = ap (its v) p.is ∙ filter-append (λ (g : Finished). g.txn == v) p.front (p.mid ∷ p.back)
 
-      own_parts : its t x.live ≡ its t p.front ++ p.mid ∷ []
+      own_parts : its t live ≡ its t p.front ++ p.mid ∷ []
       own_parts = its_parts t ∙ ap (λ (gs : List Finished). its t p.front ++ gs) (ap (λ (c : Bool). cond c (p.mid ∷ its t p.back) (its t p.back)) (eq-eqb p.mid.txn t mid_txn) ∙ ap (λ (gs : List Finished). p.mid ∷ gs) none_back)
 
       numbers : ops (its t p.front) ++ p.mid.op ∷ [] ≡ new t ++ u ∷ []
@@ -267,7 +389,7 @@ module _ (books : List (List Call)) (ts : List ℕ) (old new : ℕ → List ℕ)
       both : (ops (its t p.front) ≡ new t) × (p.mid.op ≡ u)
       both = last (ops (its t p.front)) (new t) p.mid.op u numbers
 
-      cut : without t u x.live ≡ p.front ++ p.back
+      cut : without t u live ≡ p.front ++ p.back
       cut = ap (without t u) p.is ∙ filter-append (is_but t u) p.front (p.mid ∷ p.back)
           ∙ (λ i. but_absent t u p.front (subst (AllByRecursion (λ (n : ℕ). n ≢ u)) (sym both.0) less) i ++ (but_own t u p.mid p.back mid_txn both.1 ∙ but_absent t u p.back (subst (λ (gs : List Finished). AllByRecursion (λ (n : ℕ). n ≢ u) (ops gs)) (sym none_back) tt)) i)
 
@@ -277,42 +399,36 @@ module _ (books : List (List Call)) (ts : List ℕ) (old new : ℕ → List ℕ)
 
   -- a commit is appended
   pub tally_commit : (t : ℕ) → new t ≡ [] → ((u : ℕ) → u ≢ t → new u ≡ old u)
-      → Tallies books (ts ++ t ∷ []) new es (record { live = others_of t x.live; books = x.books ++ its t x.live ∷ [] })
+      → Tallies (ts ++ t ∷ []) new es (others_of t live)
   tally_commit t mine rest = record {
-    books = map-append calls_of x.books (its t x.live ∷ []) ∙ (λ i. k.books i ++ (sym (calls_entries (its t x.live)) ∙ ap calls (entries_its t x.live ∙ ap (kept (only t)) k.live)) i ∷ []) ∙ append_assoc books (turn ts es) (calls (kept (only t) (without_all ts es)) ∷ []) ∙ ap (λ (cs : List (List Call)). books ++ cs) (sym (turn_push ts t es));
-    live = entries_others t x.live ∙ ap (kept (others t)) k.live ∙ sym (without_push ts t es);
+    live = entries_others t live ∙ ap (kept (others t)) k.live ∙ sym (without_push ts t es);
     its = λ u. gone_its t u (cases_eq u t) mine rest;
   }
     where
-      gone_its : (t u : ℕ) → (u ≡ t) ⊎ (u ≡ t → ⊥) → new t ≡ [] → ((v : ℕ) → v ≢ t → new v ≡ old v) → map (λ (g : Finished). g.op) (its u (others_of t x.live)) ≡ new u
-      gone_its t u (inl same) mine rest = ap (λ (v : ℕ). map (λ (g : Finished). g.op) (its v (others_of t x.live))) same ∙ ap (map (λ (g : Finished). g.op)) (its_gone t x.live) ∙ sym mine ∙ ap new (sym same)
-      gone_its t u (inr other) mine rest = ap (map (λ (g : Finished). g.op)) (its_kept u t x.live other) ∙ k.its u ∙ sym (rest u other)
+      gone_its : (t u : ℕ) → (u ≡ t) ⊎ (u ≡ t → ⊥) → new t ≡ [] → ((v : ℕ) → v ≢ t → new v ≡ old v) → map (λ (g : Finished). g.op) (its u (others_of t live)) ≡ new u
+      gone_its t u (inl same) mine rest = ap (λ (v : ℕ). map (λ (g : Finished). g.op) (its v (others_of t live))) same ∙ ap (map (λ (g : Finished). g.op)) (its_gone t live) ∙ sym mine ∙ ap new (sym same)
+      gone_its t u (inr other) mine rest = ap (map (λ (g : Finished). g.op)) (its_kept u t live other) ∙ k.its u ∙ sym (rest u other)
 
   -- an abort has ended
   pub tally_abort : (t : ℕ) → AreApartFrom t ts → new t ≡ [] → ((u : ℕ) → u ≢ t → new u ≡ old u)
-      → Tallies books ts new (kept (others t) es) (record { live = others_of t x.live; books = x.books })
+      → Tallies ts new (kept (others t) es) (others_of t live)
   tally_abort t apart mine rest = record {
-    books = k.books ∙ ap (λ (cs : List (List Call)). books ++ cs) (sym (turn_kept ts t es apart));
-    live = entries_others t x.live ∙ ap (kept (others t)) k.live ∙ sym (without_kept ts t es);
+    live = entries_others t live ∙ ap (kept (others t)) k.live ∙ sym (without_kept ts t es);
     its = λ u. gone_its u (cases_eq u t);
   }
     where
-      gone_its : (u : ℕ) → (u ≡ t) ⊎ (u ≡ t → ⊥) → map (λ (g : Finished). g.op) (its u (others_of t x.live)) ≡ new u
-      gone_its u (inl same) = ap (λ (v : ℕ). map (λ (g : Finished). g.op) (its v (others_of t x.live))) same ∙ ap (map (λ (g : Finished). g.op)) (its_gone t x.live) ∙ sym mine ∙ ap new (sym same)
-      gone_its u (inr other) = ap (map (λ (g : Finished). g.op)) (its_kept u t x.live other) ∙ k.its u ∙ sym (rest u other)
+      gone_its : (u : ℕ) → (u ≡ t) ⊎ (u ≡ t → ⊥) → map (λ (g : Finished). g.op) (its u (others_of t live)) ≡ new u
+      gone_its u (inl same) = ap (λ (v : ℕ). map (λ (g : Finished). g.op) (its v (others_of t live))) same ∙ ap (map (λ (g : Finished). g.op)) (its_gone t live) ∙ sym mine ∙ ap new (sym same)
+      gone_its u (inr other) = ap (map (λ (g : Finished). g.op)) (its_kept u t live other) ∙ k.its u ∙ sym (rest u other)
 
 -- the first commit under way is booked
-pub tally_booked : (books : List (List Call)) (t : ℕ) (ts : List ℕ) (old new : ℕ → List ℕ) (es : List Entry) (x : Recorded) → Tallies books (t ∷ ts) old es x → ((u : ℕ) → new u ≡ old u)
-    → Tallies (books ++ calls (kept (only t) es) ∷ []) ts new (kept (others t) es) x
-tally_booked books t ts old new es x k same = record {
-  books = k.books ∙ sym (append_assoc books (calls (kept (only t) es) ∷ []) (turn ts (kept (others t) es)));
-  live = k.live;
-  its = λ u. k.its u ∙ sym (same u);
-}
+pub tally_booked : (t : ℕ) (ts : List ℕ) (old new : ℕ → List ℕ) (es : List Entry) (live : List Finished) → Tallies (t ∷ ts) old es live → ((u : ℕ) → new u ≡ old u)
+    → Tallies ts new (kept (others t) es) live
+tally_booked t ts old new es live k same = record { live = k.live; its = λ u. k.its u ∙ sym (same u) }
 
 -- ---- numbers
 
-none_did : (cs : List Call) (ns : List ℕ) → last_place cs ≡ None → numbers_did cs ns ≡ []
+none_did : (cs : List Noted) (ns : List ℕ) → last_place cs ≡ None → numbers_did cs ns ≡ []
 none_did [] ns is = refl
 none_did (c ∷ cs) [] is = refl
 none_did (c ∷ cs) (n ∷ ns) is = go (last_place cs) refl (has_inverse c) refl is (λ k. none_did cs ns k)
@@ -323,7 +439,7 @@ none_did (c ∷ cs) (n ∷ ns) is = go (last_place cs) refl (has_inverse c) refl
     go None at false test none rec = rec at
 
 -- the last of them is that of the last place
-pub did_last : (cs : List Call) (ns : List ℕ) (n : ℕ) → length ns ≡ length cs → last_place cs ≡ Some n → numbers_did cs ns ≡ numbers_did (take n cs) (take n ns) ++ get_or ns n 0 ∷ []
+pub did_last : (cs : List Noted) (ns : List ℕ) (n : ℕ) → length ns ≡ length cs → last_place cs ≡ Some n → numbers_did cs ns ≡ numbers_did (take n cs) (take n ns) ++ get_or ns n 0 ∷ []
 did_last [] ns n len is = absurd cc
 did_last (c ∷ cs) [] n len is = absurd (omega (arith, len))
 did_last (c ∷ cs) (m ∷ ns) n len is = go (last_place cs) refl (has_inverse c) refl is (λ k at. did_last cs ns k (omega (arith, len)) at)
@@ -335,7 +451,7 @@ did_last (c ∷ cs) (m ∷ ns) n len is = go (last_place cs) refl (has_inverse c
     go None at true test some rec = let same : 0 ≡ n = cc in subst (λ (j : ℕ). m ∷ numbers_did cs ns ≡ numbers_did (take j (c ∷ cs)) (take j (m ∷ ns)) ++ get_or (m ∷ ns) j 0 ∷ []) same (ap (λ (xs : List ℕ). m ∷ xs) (none_did cs ns at))
     go None at false test some rec = absurd cc
 
-pub did_push : (cs : List Call) (ns : List ℕ) (c : Call) (n : ℕ) → length ns ≡ length cs → numbers_did (cs ++ c ∷ []) (ns ++ n ∷ []) ≡ numbers_did cs ns ++ cond (has_inverse c) (n ∷ []) []
+pub did_push : (cs : List Noted) (ns : List ℕ) (c : Noted) (n : ℕ) → length ns ≡ length cs → numbers_did (cs ++ c ∷ []) (ns ++ n ∷ []) ≡ numbers_did cs ns ++ cond (has_inverse c) (n ∷ []) []
 did_push [] [] c n len = refl
 did_push [] (m ∷ ns) c n len = absurd (omega (arith, len))
 did_push (d ∷ cs) [] c n len = absurd (omega (arith, len))
@@ -347,7 +463,7 @@ did_push (d ∷ cs) (m ∷ ns) c n len = go (has_inverse d) (did_push cs ns c n 
     go false rec = rec
 
 -- numbers that rise are above those before them
-all_did : (P : ℕ → Type 0) (cs : List Call) (ns : List ℕ) → AllByRecursion P ns → AllByRecursion P (numbers_did cs ns)
+all_did : (P : ℕ → Type 0) (cs : List Noted) (ns : List ℕ) → AllByRecursion P ns → AllByRecursion P (numbers_did cs ns)
 all_did P [] ns all = tt
 all_did P (c ∷ cs) [] all = tt
 all_did P (c ∷ cs) (n ∷ ns) all = go (has_inverse c) (all_did P cs ns all.1)
@@ -360,7 +476,7 @@ all_each : (P : ℕ → Type 0) (ns : List ℕ) → All P ns → AllByRecursion 
 all_each P [] all = tt
 all_each P (n ∷ ns) all = (All-head P n ns all, all_each P ns (All-tail P n ns all))
 
-pub rising_apart : (cs : List Call) (ns front : List ℕ) (u : ℕ) → AllPairs (λ (a b : ℕ). a < b) ns → numbers_did cs ns ≡ front ++ u ∷ [] → AllByRecursion (λ (n : ℕ). n ≢ u) front
+pub rising_apart : (cs : List Noted) (ns front : List ℕ) (u : ℕ) → AllPairs (λ (a b : ℕ). a < b) ns → numbers_did cs ns ≡ front ++ u ∷ [] → AllByRecursion (λ (n : ℕ). n ≢ u) front
 rising_apart cs ns [] u rising is = tt
 rising_apart [] ns (f ∷ front) u rising is = absurd cc
 rising_apart (c ∷ cs) [] (f ∷ front) u rising is = absurd cc

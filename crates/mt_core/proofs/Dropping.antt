@@ -50,9 +50,9 @@ module _ {D : Type 0} (g : Ghosts D) (origin : Origin) (base : Base) where
   -- an operation that is no inverse is dropped out; its claims and those for its inverse are given back, and the log bytes kept for that
   pub dropped_in : (k n : Core D) (place : ℕ) (r : OpScope) → IsCleared g origin base k place r → r.undoes ≡ 0 → n.running.items ≡ remove k.running.items place
       → HasEnded g origin.pages origin.relations origin.counters k.operations n.operations r → claimed n.operations + pages_of r ≡ claimed k.operations → n.reserved + undo_bytes r.op ≡ k.reserved
-      → GivesBack r.txn r.op k.escrow.pending n.escrow.pending → n.escrow.committed ≡ k.escrow.committed
+      → GivesBack r.txn r.op k.escrow.pending n.escrow.pending → n.escrow.committed ≡ k.escrow.committed → n.escrow.aside ≡ k.escrow.aside
       → DropsIn g origin base (state_of k base) (record k { operations = n.operations; running = n.running; escrow = n.escrow; reserved = n.reserved }) r.txn
-  dropped_in k n place r y fore items h back freed given committed =
+  dropped_in k n place r y fore items h back freed given committed aside =
       let fit = y.fit in let alone = y.alone in
       let z : Core D = record k { operations = n.operations; running = n.running; escrow = n.escrow; reserved = n.reserved } in
       let s : State = state_of k base in
@@ -68,6 +68,7 @@ module _ {D : Type 0} (g : Ghosts D) (origin : Origin) (base : Base) where
         running = λ t. gone t i;
         held = s.held;
         pending = n.escrow.pending;
+        aside = sym aside i;
         base = base;
       } in
       let pages = l.pages in let keeps = l.keeps in let takes = l.takes in

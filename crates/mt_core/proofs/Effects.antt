@@ -1,20 +1,48 @@
 -- The last effect of a transaction among entries that change, and what inverses take.
-use Rattle.std.proofs.Common.{◌≡◌, ◌≢◌, ℕ, ◌≤◌, ◌+◌, ◌==◌, cond, not, Bool, true, false, List, [], ◌∷◌, ◌++◌, Option, Some, None, is_some, refl, sym, ap, ◌∙◌, subst, arith}
+use Rattle.std.proofs.Common.{◌≡◌, ◌≢◌, ℕ, ◌≤◌, ◌+◌, ◌==◌, cond, not, ◌&&◌, Bool, true, false, List, [], ◌∷◌, ◌++◌, Option, Some, None, is_some, refl, sym, ap, ◌∙◌, subst, arith}
 use Rattle.std.specs.List.{sum_by}
 use Rattle.std.specs.Prelude.{neg_ℤ}
 use Rattle.std.proofs.lemmas.List.Sums.{sum_by-cons, sum_by_push}
 use Rattle.std.proofs.lemmas.Bool.{eq-eqb, eqb-true, ne_eqb, and_left, and_parts}
 use Rattle.std.specs.Prelude.{All}
 use Rattle.std.proofs.lemmas.List.Elements.{All-head, All-tail, All-cons, All-filter}
-use Rattle.mt_live.specs.Entries.{Entry, calls, kept}
-use Rattle.mt_live.specs.Undoing.{only, others, is_effect, last_of, last_effect, cut_back}
+use Rattle.mt_live.specs.Entries.{Entry, is_standing, kept}
+use Rattle.mt_live.specs.Undoing.{only, others, is_counted, is_effect, last_of, last_effect, cut_back}
 use Rattle.mt_model.specs.declared.operations.Op.{Op}
 use Rattle.mt_model.specs.declared.operations.Op.TheVariants.{Get, Insert, Update, Delete, Add, Read, Scan}
 use Rattle.mt_model.specs.declared.operations.Reply.{Reply}
 use Rattle.mt_model.specs.declared.operations.Reply.TheVariants.{Found, Missing, Exists, Done, Was, Value, Rows, OutOfBounds}
 use Rattle.mt_model.specs.Model.{inverse_of}
 use Rattle.mt_steps.specs.Plans.{own_needs, undo_pages}
-use Rattle.mt_core.specs.Runs.{undo_bytes, weighed, call_weighed}
+use Rattle.mt_core.specs.Runs.{undo_bytes, weighed}
+
+-- ---- the last of a transaction's entries that stand and did something
+
+pub record Effect (t : ℕ) (e : Entry) : Type 0 where
+  pub own : e.txn ≡ t
+  pub stands : is_standing e.role ≡ true
+  pub did : is_some (inverse_of e.op e.reply) ≡ true
+
+parts_of_effect : (t : ℕ) (e : Entry) → is_effect t e ≡ true → Effect t e
+parts_of_effect t e is =
+    let both = and_parts (is_counted t e) (is_some (inverse_of e.op e.reply)) is in
+    let mine = and_parts (e.txn == t) (is_standing e.role) both.0 in
+    record { own = eqb-true e.txn t mine.0; stands = mine.1; did = both.1 }
+
+pub last_is : (t : ℕ) (es : List Entry) (e : Entry) → last_effect t es ≡ Some e → Effect t e
+last_is t [] e is = absurd cc
+last_is t (x ∷ es) e is = go (last_effect t es) refl (is_effect t x) refl is (λ k. last_is t es e k)
+  where
+    go : (o : Option Entry) → last_effect t es ≡ o → (b : Bool) → is_effect t x ≡ b → last_of o b x ≡ Some e → (last_effect t es ≡ Some e → Effect t e) → Effect t e
+    go (Some later) was b test k rec = rec (was ∙ k)
+    go None was true test k rec = let same : x ≡ e = cc in subst (Effect t) same (parts_of_effect t x test)
+    go None was false test k rec = absurd cc
+
+pub last_did : (t : ℕ) (es : List Entry) (e : Entry) → last_effect t es ≡ Some e → is_some (inverse_of e.op e.reply) ≡ true
+last_did t es e is = (last_is t es e is).did
+
+pub weighs_effect : (weight : Op → ℕ) (t : ℕ) (es : List Entry) (e : Entry) → last_effect t es ≡ Some e → weighed weight e ≡ weight e.op
+weighs_effect weight t es e is = let k = last_is t es e is in let stands = k.stands in let did = k.did in rw (stands, did) refl
 
 -- ---- what entries weigh that did something, whatever that is
 
@@ -31,13 +59,8 @@ module _ (weight : Op → ℕ) where
   pub weighs_push : (es : List Entry) (e : Entry) → sum_by (weighed weight) (es ++ e ∷ []) ≡ sum_by (weighed weight) es + weighed weight e
   weighs_push es e = let whole = sum_by_push (weighed weight) es e in omega arith
 
-  -- of the calls of entries
-  pub weighs_calls : (es : List Entry) → sum_by (call_weighed weight) (calls es) ≡ sum_by (weighed weight) es
-  weighs_calls [] = refl
-  weighs_calls (x ∷ es) = let rest = weighs_calls es in let whole = sum_by-cons (weighed weight) x es in let all = sum_by-cons (call_weighed weight) (x.op, x.reply) (calls es) in omega arith
-
   pub weighs_less : (e : Entry) → weighed weight e ≤ weight e.op
-  weighs_less e = go (is_some (inverse_of e.op e.reply))
+  weighs_less e = go (is_standing e.role && is_some (inverse_of e.op e.reply))
     where
       go : (c : Bool) → cond c (weight e.op) 0 ≤ weight e.op
       go true = omega arith
@@ -45,9 +68,9 @@ module _ (weight : Op → ℕ) where
 
   -- an entry of a transaction that did nothing
   weightless : (t : ℕ) (x : Entry) → x.txn ≡ t → is_effect t x ≡ false → weighed weight x ≡ 0
-  weightless t x own not = go (is_some (inverse_of x.op x.reply)) refl
+  weightless t x own not = go (is_standing x.role && is_some (inverse_of x.op x.reply)) refl
     where
-      go : (c : Bool) → is_some (inverse_of x.op x.reply) ≡ c → cond c (weight x.op) 0 ≡ 0
+      go : (c : Bool) → (is_standing x.role && is_some (inverse_of x.op x.reply)) ≡ c → cond c (weight x.op) 0 ≡ 0
       go true is = let mine : (x.txn == t) ≡ true = eq-eqb x.txn t own in let whole : is_effect t x ≡ true = rw (mine, is) refl in absurd cc
       go false is = refl
 
@@ -159,8 +182,11 @@ all_cut P t (x ∷ es) k = go (is_some (last_effect t es)) (is_effect t x) (all_
 
 -- ---- another transaction's entries come and go
 
+away : (t : ℕ) (e : Entry) → (e.txn == t) ≡ false → is_effect t e ≡ false
+away t e is = and_left (is_counted t e) (is_some (inverse_of e.op e.reply)) (and_left (e.txn == t) (is_standing e.role) is)
+
 none_here : (u : ℕ) (e : Entry) → u ≢ e.txn → is_effect u e ≡ false
-none_here u e apart = and_left (e.txn == u) (is_some (inverse_of e.op e.reply)) (ne_eqb e.txn u (λ is. apart (sym is)))
+none_here u e apart = away u e (ne_eqb e.txn u (λ is. apart (sym is)))
 
 pub last_push : (u : ℕ) (es : List Entry) (e : Entry) → u ≢ e.txn → last_effect u (es ++ e ∷ []) ≡ last_effect u es
 last_push u [] e apart = ap (λ (c : Bool). cond c (Some e) None) (none_here u e apart)
@@ -176,8 +202,8 @@ last_kept u t (x ∷ es) apart = go (last_kept u t es apart) (x.txn == t) refl
   where
     go : last_effect u (kept (others t) es) ≡ last_effect u es → (c : Bool) → (x.txn == t) ≡ c → last_effect u (cond (not c) (x ∷ kept (others t) es) (kept (others t) es)) ≡ last_of (last_effect u es) (is_effect u x) x
     go rec true is =
-        let away : is_effect u x ≡ false = none_here u x (λ e. apart (e ∙ eqb-true x.txn t is)) in
-        rec ∙ sym (ap (λ (c : Bool). last_of (last_effect u es) c x) away ∙ last_skips (last_effect u es) x)
+        let gone : is_effect u x ≡ false = none_here u x (λ e. apart (e ∙ eqb-true x.txn t is)) in
+        rec ∙ sym (ap (λ (c : Bool). last_of (last_effect u es) c x) gone ∙ last_skips (last_effect u es) x)
     go rec false is = ap (λ (o : Option Entry). last_of o (is_effect u x) x) rec
 
 -- its own entries tell as much of it
@@ -188,8 +214,7 @@ last_only t (x ∷ es) = go (last_only t es) (x.txn == t) refl
     go : last_effect t (kept (only t) es) ≡ last_effect t es → (c : Bool) → (x.txn == t) ≡ c → last_effect t (cond c (x ∷ kept (only t) es) (kept (only t) es)) ≡ last_of (last_effect t es) (is_effect t x) x
     go rec true is = ap (λ (o : Option Entry). last_of o (is_effect t x) x) rec
     go rec false is =
-        let away : is_effect t x ≡ false = and_left (x.txn == t) (is_some (inverse_of x.op x.reply)) is in
-        rec ∙ sym (ap (λ (c : Bool). last_of (last_effect t es) c x) away ∙ last_skips (last_effect t es) x)
+        rec ∙ sym (ap (λ (c : Bool). last_of (last_effect t es) c x) (away t x is) ∙ last_skips (last_effect t es) x)
 
 pub last_cut : (u t : ℕ) (es : List Entry) → u ≢ t → last_effect u (cut_back t es) ≡ last_effect u es
 last_cut u t [] apart = refl
@@ -198,17 +223,7 @@ last_cut u t (x ∷ es) apart = go (last_cut u t es apart) (is_some (last_effect
     go : last_effect u (cut_back t es) ≡ last_effect u es → (a c : Bool) → is_effect t x ≡ c → last_effect u (cond a (x ∷ cut_back t es) (cond c (kept (others t) es) (x ∷ es))) ≡ last_of (last_effect u es) (is_effect u x) x
     go rec true c is = ap (λ (o : Option Entry). last_of o (is_effect u x) x) rec
     go rec false true is =
-        let own : x.txn ≡ t = eqb-true x.txn t (and_parts (x.txn == t) (is_some (inverse_of x.op x.reply)) is).0 in
-        let away : is_effect u x ≡ false = none_here u x (λ e. apart (e ∙ own)) in
-        last_kept u t es apart ∙ sym (ap (λ (c : Bool). last_of (last_effect u es) c x) away ∙ last_skips (last_effect u es) x)
+        let own : x.txn ≡ t = (parts_of_effect t x is).own in
+        let gone : is_effect u x ≡ false = none_here u x (λ e. apart (e ∙ own)) in
+        last_kept u t es apart ∙ sym (ap (λ (c : Bool). last_of (last_effect u es) c x) gone ∙ last_skips (last_effect u es) x)
     go rec false false is = refl
-
--- the last of a transaction's entries that did something, did
-pub last_did : (t : ℕ) (es : List Entry) (e : Entry) → last_effect t es ≡ Some e → is_some (inverse_of e.op e.reply) ≡ true
-last_did t [] e is = absurd cc
-last_did t (x ∷ es) e is = go (last_effect t es) refl (is_effect t x) refl is (λ k. last_did t es e k)
-  where
-    go : (o : Option Entry) → last_effect t es ≡ o → (b : Bool) → is_effect t x ≡ b → last_of o b x ≡ Some e → (last_effect t es ≡ Some e → is_some (inverse_of e.op e.reply) ≡ true) → is_some (inverse_of e.op e.reply) ≡ true
-    go (Some later) was b test k rec = rec (was ∙ k)
-    go None was true test k rec = let same : x ≡ e = cc in let both : is_some (inverse_of x.op x.reply) ≡ true = (and_parts (x.txn == t) (is_some (inverse_of x.op x.reply)) test).1 in ap (λ (y : Entry). is_some (inverse_of y.op y.reply)) (sym same) ∙ both
-    go None was false test k rec = absurd cc

@@ -16,7 +16,7 @@ use Rattle.mt_live.specs.Adds.{GivesBack}
 use Rattle.mt_live.specs.Entries.{Entry}
 use Rattle.mt_live.specs.Lives.{member_of, has_room, IsChanged, IsAbove}
 use Rattle.mt_live.specs.Machine.{State, put, IsKept, ended, undone}
-use Rattle.mt_live.specs.Members.{Member, with_call, taken_back, cut_to, last_place, last_operation, has_inverse}
+use Rattle.mt_live.specs.Members.{Member, noted, with_call, taken_back, cut_to, last_place, last_operation, has_inverse}
 use Rattle.mt_live.specs.Undoing.{cut_back}
 use Rattle.mt_log.specs.Words.{appended, used, area_size}
 use Rattle.mt_model.specs.declared.operations.Op.{Op}
@@ -50,10 +50,11 @@ use Rattle.mt_core.proofs.Lists.{all_remove, pair_at}
 use Rattle.mt_core.proofs.Underway.{apart_flip, running_at, running_remove, running_back, running_without}
 use Rattle.mt_core.proofs.Holders.{held_without}
 use Rattle.mt_core.proofs.Numbers.{numbered_without}
-use Rattle.mt_core.proofs.Effects.{last_push, last_cut, weighs_push, weighs_cut, weighs_less, inverse_pages, inverse_bytes, all_cut}
+use Rattle.mt_core.proofs.Effects.{weighs_effect, last_push, last_cut, weighs_push, weighs_cut, weighs_less, inverse_pages, inverse_bytes, all_cut}
 use Rattle.mt_core.proofs.Members.{changed_keeps, changed_other}
 use Rattle.mt_core.proofs.Reported.{due_more, some_back, end_undoes_fore, end_undoes_other, end_undoes_txn, end_finishes, reported_on_more, reported_call, reported_cut, reported_changed}
 use Rattle.mt_core.proofs.Queued.{queued_members}
+use Rattle.mt_live.specs.declared.transactions.Role.TheVariants.{Stands}
 
 -- what `end` says of an operation that ends
 pub record HasEnded {D : Type 0} (g : Ghosts D) (opening : PageBytes) (relations counters : ℕ) (o n : Operations D) (s : OpScope) : Type 0 where
@@ -144,15 +145,15 @@ module _ {D : Type 0} (g : Ghosts D) (origin : Origin) (base : Base) where
 
   pub noted_in : (k n : Core D) (place : ℕ) (r : OpScope) (reply : Reply) → IsReady g origin base k place r reply → r.undoes ≡ 0 → n.running.items ≡ remove k.running.items place
       → HasEnded g origin.pages origin.relations origin.counters k.operations n.operations r
-      → claimed n.operations + undo_pages r.op ≡ claimed k.operations + entry_pages (record { txn = r.txn; op = r.op; reply = reply }) → n.reserved + undo_bytes r.op ≡ k.reserved + entry_bytes (record { txn = r.txn; op = r.op; reply = reply })
-      → n.live.standing ≡ k.live.standing ++ record { txn = r.txn; op = r.op; reply = reply } ∷ []
+      → claimed n.operations + undo_pages r.op ≡ claimed k.operations + entry_pages (record { txn = r.txn; op = r.op; reply = reply; role = Stands }) → n.reserved + undo_bytes r.op ≡ k.reserved + entry_bytes (record { txn = r.txn; op = r.op; reply = reply; role = Stands })
+      → n.live.standing ≡ k.live.standing ++ record { txn = r.txn; op = r.op; reply = reply; role = Stands } ∷ []
       → IsChanged k.live.members n.live.members r.txn (λ m. with_call m r.number (r.op, reply)) → n.live.begun ≡ k.live.begun → length n.live.members ≡ length k.live.members
       → IsIn g origin (base_after base r.op) (ended (state_of k base) r.txn r.op) (record k { operations = n.operations; running = n.running; live = n.live; reserved = n.reserved })
   noted_in k n place r reply y fore items h claims_now reserves_now standing changed begun count =
       let fit = y.fit in let alone = y.alone in
       let z : Core D = record k { operations = n.operations; running = n.running; live = n.live; reserved = n.reserved } in
       let s : State = state_of k base in
-      let e : Entry = record { txn = r.txn; op = r.op; reply = reply } in
+      let e : Entry = record { txn = r.txn; op = r.op; reply = reply; role = Stands } in
       let owned : IsOwned k.live.members k.live.standing r = subst (IsOwned k.live.members k.live.standing) (sym alone.there) (fit.owned place r alone.within) in
       let runs : s.running r.txn ≡ Some r.op = running_at k.running.items place r alone.within alone.there fore fit.apart in
       let l = left k n place r Ready fit alone items h in
@@ -160,8 +161,8 @@ module _ {D : Type 0} (g : Ghosts D) (origin : Origin) (base : Base) where
       changed_keeps (option_map (λ (m : Member). m.session)) (λ m. with_call m r.number (r.op, reply)) k.live.members n.live.members r.txn (λ m. refl) changed in
       let open_same : (t : ℕ) → is_open (member_of n.live.members t) ≡ is_open (member_of k.live.members t) = changed_keeps is_open (λ m. with_call m r.number (r.op, reply)) k.live.members n.live.members r.txn (λ m. refl) changed in
       let states : (t : ℕ) → state_in n.live.members t ≡ state_in k.live.members t = changed_keeps (option_map (λ (m : Member). m.state)) (λ m. with_call m r.number (r.op, reply)) k.live.members n.live.members r.txn (λ m. refl) changed in
-      let stands : k.live.standing ++ record { txn = r.txn; op = r.op; reply = reply_of base r.op } ∷ [] ≡ n.live.standing =
-      (λ i. k.live.standing ++ record { txn = r.txn; op = r.op; reply = y.replies i } ∷ []) ∙ sym standing in
+      let stands : k.live.standing ++ record { txn = r.txn; op = r.op; reply = reply_of base r.op; role = Stands } ∷ [] ≡ n.live.standing =
+      (λ i. k.live.standing ++ record { txn = r.txn; op = r.op; reply = y.replies i; role = Stands } ∷ []) ∙ sym standing in
       let gone : (t : ℕ) → put (running_in k.running.items) r.txn None t ≡ running_in n.running.items t =
       λ t. sym (running_remove k.running.items place r alone.within alone.there fore fit.apart t) ∙ ap (λ (rs : List OpScope). running_in rs t) (sym items) in
       let state : ended s r.txn r.op ≡ state_of z (base_after base r.op) = λ i. record {
@@ -172,6 +173,7 @@ module _ {D : Type 0} (g : Ghosts D) (origin : Origin) (base : Base) where
         running = λ t. gone t i;
         held = held_of k.locks;
         pending = k.escrow.pending;
+        aside = k.escrow.aside;
         base = base_after base r.op;
       } in
       let pages = l.pages in let keeps = l.keeps in let takes = l.takes in
@@ -220,13 +222,13 @@ module _ {D : Type 0} (g : Ghosts D) (origin : Origin) (base : Base) where
           let t = y.outcome in
           let records : t.was ++ end_of r reply ≡ appended n.operations.store.log = sym t.ended ∙ (λ i. appended (sym h.store i).log) in
           let none : (u v : ℕ) → some_record (undoes_op u v) (end_of r reply) ≡ false = λ u v. end_undoes_fore u v r.txn r.number r.undoes (logged_of r.op reply) fore in
-          let due : has_inverse (r.op, reply) ≡ true → IsDue (t.was ++ end_of r reply) r.txn r.number = λ has. record {
+          let due : has_inverse (noted Stands (r.op, reply)) ≡ true → IsDue (t.was ++ end_of r reply) r.txn r.number = λ has. record {
             ended = some_back _ t.was (end_of r reply) (end_finishes r.txn r.number r.undoes r.op reply fore has);
             standing = no_records (undoes_op r.txn r.number) t.was (end_of r reply) (t.standing fore) (none r.txn r.number);
           } in
           subst (AreReported k.last n.live.members) records
           (reported_changed k.last t.was (t.was ++ end_of r reply) k.live.members n.live.members r.txn (λ m. with_call m r.number (r.op, reply))
-          (λ m is was. reported_call k.last (t.was ++ end_of r reply) r.txn r.number m (r.op, reply) (reported_on_more k.last t.was (end_of r reply) r.txn m (none r.txn) was) (subst (IsAbove r.number) is (owned.newest fore)) y.alone.own.op.0 y.alone.known due)
+          (λ m is was. reported_call k.last (t.was ++ end_of r reply) r.txn r.number m (noted Stands (r.op, reply)) (reported_on_more k.last t.was (end_of r reply) r.txn m (none r.txn) was) (subst (IsAbove r.number) is (owned.newest fore)) y.alone.own.op.0 y.alone.known due)
           (λ u m apart was. reported_on_more k.last t.was (end_of r reply) u m (none u) was) changed t.outcome)
 
   -- ---- an inverse
@@ -261,9 +263,9 @@ module _ {D : Type 0} (g : Ghosts D) (origin : Origin) (base : Base) where
   pub undone_in : (k n : Core D) (place : ℕ) (r : OpScope) (reply : Reply) → IsReady g origin base k place r reply → r.undoes ≢ 0 → n.running.items ≡ remove k.running.items place
       → HasEnded g origin.pages origin.relations origin.counters k.operations n.operations r → claimed n.operations ≡ claimed k.operations
       → n.live.standing ≡ cut_back r.txn k.live.standing → IsChanged k.live.members n.live.members r.txn taken_back → n.live.begun ≡ k.live.begun → length n.live.members ≡ length k.live.members
-      → ((o : Op) (u : Reply) → inverse_of o u ≡ Some r.op → GivesBack r.txn o k.escrow.pending n.escrow.pending) → n.escrow.committed ≡ k.escrow.committed
+      → ((o : Op) (u : Reply) → inverse_of o u ≡ Some r.op → GivesBack r.txn o k.escrow.pending n.escrow.pending) → n.escrow.committed ≡ k.escrow.committed → n.escrow.aside ≡ k.escrow.aside
       → UndoesIn g origin base (state_of k base) (record k { operations = n.operations; running = n.running; live = n.live; escrow = n.escrow }) r.txn r.op
-  undone_in k n place r reply y back items h claims_now standing changed begun count given committed =
+  undone_in k n place r reply y back items h claims_now standing changed begun count given committed aside =
       let fit = y.fit in let alone = y.alone in
       let z : Core D = record k { operations = n.operations; running = n.running; live = n.live; escrow = n.escrow } in
       let s : State = state_of k base in
@@ -285,6 +287,7 @@ module _ {D : Type 0} (g : Ghosts D) (origin : Origin) (base : Base) where
         running = λ u. gone u i;
         held = held_of k.locks;
         pending = n.escrow.pending;
+        aside = sym aside i;
         base = base_after base r.op;
       } in
       let given_entry : GivesBack r.txn t.entry.op k.escrow.pending n.escrow.pending = given t.entry.op t.entry.reply t.inverse in
@@ -295,9 +298,8 @@ module _ {D : Type 0} (g : Ghosts D) (origin : Origin) (base : Base) where
       let taken_r : taken_bytes r ≡ 106496 = rw test refl in
       let cut_pages = weighs_cut undo_pages r.txn k.live.standing t.entry t.last in
       let cut_bytes = weighs_cut undo_bytes r.txn k.live.standing t.entry t.last in
-      let some : is_some (inverse_of t.entry.op t.entry.reply) ≡ true = rw t.inverse refl in
-      let entry_p : entry_pages t.entry ≡ undo_pages t.entry.op = rw some refl in
-      let entry_b : entry_bytes t.entry ≡ undo_bytes t.entry.op = rw some refl in
+      let entry_p : entry_pages t.entry ≡ undo_pages t.entry.op = weighs_effect undo_pages r.txn k.live.standing t.entry t.last in
+      let entry_b : entry_bytes t.entry ≡ undo_bytes t.entry.op = weighs_effect undo_bytes r.txn k.live.standing t.entry t.last in
       let whole = inverse_bytes t.entry.op t.entry.reply r.op t.inverse in
       let same_pages = inverse_pages t.entry.op t.entry.reply r.op t.inverse in
       let unsplit : own_needs r.op r.split ≡ own_needs r.op false = ap (own_needs r.op) t.unsplit in

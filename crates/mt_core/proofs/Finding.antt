@@ -1,30 +1,26 @@
 -- The inverse of a transaction's last effect finds what its record says.
-use Rattle.std.proofs.Common.{◌≡◌, inl, inr, ℕ, ◌==◌, Bool, true, false, not, cond, List, [], ◌∷◌, ◌++◌, Option, Some, None, is_some, filter, refl, sym, ap, ◌∙◌, subst}
+use Rattle.std.proofs.Common.{◌≡◌, inl, inr, ℕ, ◌==◌, Bool, true, false, not, ◌&&◌, cond, List, [], ◌∷◌, ◌++◌, Option, Some, None, is_some, filter, refl, sym, ap, ◌∙◌, subst}
 use Rattle.std.proofs.lemmas.Bool.{cases_Bool, eq-eqb, eqb-true}
 use Rattle.std.proofs.lemmas.List.Elements.{filter-append}
 use Rattle.mt_frame.specs.declared.records.LoggedOp.{LoggedOp}
 use Rattle.mt_frame.specs.declared.records.LoggedOp.TheVariants as logged
 use Rattle.mt_live.proofs.Cuts.{IsIdle, cut_of}
-use Rattle.mt_live.proofs.Entries.{runs-append}
-use Rattle.mt_live.proofs.Events.{commits, sound_later}
-use Rattle.mt_live.proofs.Moving.{room_bounds}
-use Rattle.mt_live.specs.Adds.{adds}
-use Rattle.mt_live.specs.Entries.{Entry, calls, runs, kept}
+use Rattle.mt_live.proofs.Entries.{runs-append, acted_back}
+use Rattle.mt_live.proofs.Events.{commits, within_after}
+use Rattle.mt_live.proofs.Standing.{effects_sound, effects_run}
+use Rattle.mt_live.specs.declared.transactions.Role.{Role}
+use Rattle.mt_live.specs.declared.transactions.Role.TheVariants.{Stands, TakenBack, Back}
+use Rattle.mt_live.specs.Entries.{Entry, is_standing, runs, kept}
 use Rattle.mt_live.specs.Machine.{State, committed_base, IsKept}
-use Rattle.mt_live.specs.Members.{has_inverse}
 use Rattle.mt_live.specs.Sound.{Each, IsSound}
 use Rattle.mt_live.specs.Undoing.{others, last_effect}
-use Rattle.mt_model.specs.History.{run}
 use Rattle.mt_model.specs.Model.{Base, IsBase, reply_of, base_after, inverse_of}
-use Rattle.mt_model.specs.Pending.{steps_at}
 use Rattle.mt_model.specs.declared.operations.Op.{Op}
 use Rattle.mt_replay.proofs.Inverses.{inverse_is}
 use Rattle.mt_replay.proofs.Undone.{reply_after}
 use Rattle.mt_replay.specs.Recorded.{op_of, undo_of, reply_back}
 use Rattle.mt_steps.specs.Logged.{logged_of}
-use Rattle.mt_core.proofs.Did.{calls_did}
 use Rattle.mt_core.proofs.Leads.{logged_did, logged_is}
-use Rattle.mt_core.proofs.Recovering.{effects_acted}
 use Rattle.mt_core.specs.Restartable.{did}
 
 -- the base is that of an operation that has just acted, as its entry says
@@ -40,19 +36,30 @@ mine t u = not (others t u)
 is_mine : (t u : ℕ) → u ≡ t → mine t u ≡ true
 is_mine t u is = rw (eq-eqb u t is) refl
 
+idle_not : (e : Entry) → (e.role ≡ Stands → inverse_of e.op e.reply ≡ None) → did e ≡ false
+idle_not e idle = go e.role refl
+  where
+    go : (r : Role) → e.role ≡ r → is_standing r && is_some (inverse_of e.op e.reply) ≡ false
+    go Stands is = ap is_some (idle is)
+    go TakenBack is = refl
+    go Back is = refl
+
 none_mine : (t : ℕ) (es : List Entry) → Each (IsIdle t) es → filter did (kept (mine t) es) ≡ []
 none_mine t [] idle = refl
 none_mine t (e ∷ es) idle = elim (cases_Bool (e.txn == t)) [
-  | inl own ↦ let none : did e ≡ false = ap is_some (idle.0 (eqb-true e.txn t own)) in rw (own, none) (none_mine t es idle.1)
+  | inl own ↦ let none : did e ≡ false = idle_not e (idle.0 (eqb-true e.txn t own)) in rw (own, none) (none_mine t es idle.1)
   | inr other ↦ rw other (none_mine t es idle.1)
 ]
 
 pub idle_did : (t : ℕ) (es : List Entry) → Each (IsIdle t) es → filter did (kept (others t) es) ≡ filter did es
 idle_did t [] idle = refl
 idle_did t (e ∷ es) idle = elim (cases_Bool (e.txn == t)) [
-  | inl own ↦ let none : did e ≡ false = ap is_some (idle.0 (eqb-true e.txn t own)) in rw (own, none) (idle_did t es idle.1)
+  | inl own ↦ let none : did e ≡ false = idle_not e (idle.0 (eqb-true e.txn t own)) in rw (own, none) (idle_did t es idle.1)
   | inr other ↦ rw other (ap (λ (fs : List Entry). cond (did e) (e ∷ fs) fs) (idle_did t es idle.1))
 ]
+
+mine_did : (t : ℕ) (e : Entry) (i : Op) → e.txn ≡ t → e.role ≡ Stands → inverse_of e.op e.reply ≡ Some i → did e ≡ true
+mine_did t e i own stands inverse = let some : is_some (inverse_of e.op e.reply) ≡ true = ap is_some inverse in ap (λ r. is_standing r && is_some (inverse_of e.op e.reply)) stands ∙ some
 
 pub acted_last : (b : Base) (s : State) (t : ℕ) (e : Entry) (i : Op) → IsKept b s → last_effect t s.standing ≡ Some e → inverse_of e.op e.reply ≡ Some i → ActedLast e s.base
 acted_last b s t e i k last inverse =
@@ -60,19 +67,19 @@ acted_last b s t e i k last inverse =
     let m = committed_base b s in
     let moved = commits s.held k.locks m s.standing k.sound (others t) in
     let m2 = runs m (kept (others t) s.standing) in
-    let front = kept (mine t) c.front in
-    let rest = kept (mine t) c.rest in
-    let here : kept (mine t) (e ∷ c.rest) ≡ e ∷ rest = ap (λ (h : Bool). cond h (e ∷ rest) rest) (is_mine t e.txn c.done.its) in
-    let parts : kept (mine t) s.standing ≡ front ++ e ∷ rest = ap (kept (mine t)) c.done.place ∙ filter-append (λ (x : Entry). mine t x.txn) c.front (e ∷ c.rest) ∙ ap (λ (xs : List Entry). front ++ xs) here in
-    let sound = sound_later s.held m2 front (e ∷ rest) (subst (IsSound s.held m2) parts moved.rest) in
-    let before = runs m2 front in
-    let effects = effects_acted (base_after before e.op) (calls rest) sound.acted.1 in
-    let none : filter has_inverse (calls rest) ≡ [] = calls_did rest ∙ ap calls (none_mine t c.rest c.done.idle) in
+    let own = kept (mine t) s.standing in
+    let front = filter did (kept (mine t) c.front) in
+    let here : kept (mine t) (e ∷ c.rest) ≡ e ∷ kept (mine t) c.rest = ap (λ (h : Bool). cond h (e ∷ kept (mine t) c.rest) (kept (mine t) c.rest)) (is_mine t e.txn c.done.its) in
+    let parts : own ≡ kept (mine t) c.front ++ e ∷ kept (mine t) c.rest = ap (kept (mine t)) c.done.place ∙ filter-append (λ (x : Entry). mine t x.txn) c.front (e ∷ c.rest) ∙ ap (λ (xs : List Entry). kept (mine t) c.front ++ xs) here in
+    let ends : filter did (e ∷ kept (mine t) c.rest) ≡ e ∷ [] = ap (λ (h : Bool). cond h (e ∷ filter did (kept (mine t) c.rest)) (filter did (kept (mine t) c.rest))) (mine_did t e i c.done.its c.done.role inverse) ∙ ap (λ (xs : List Entry). e ∷ xs) (none_mine t c.rest c.done.idle) in
+    let effects : filter did own ≡ front ++ e ∷ [] = ap (filter did) parts ∙ filter-append did (kept (mine t) c.front) (e ∷ kept (mine t) c.rest) ∙ ap (λ (xs : List Entry). front ++ xs) ends in
+    let sound : IsSound s.held m2 (front ++ e ∷ []) = subst (IsSound s.held m2) effects (effects_sound s.held k.locks m2 own moved.rest) in
+    let led : runs m2 (front ++ e ∷ []) ≡ runs m2 own = ap (runs m2) (sym effects) ∙ effects_run s.held k.locks m2 own moved.rest in
     record {
-      before = before;
-      bounds = λ x. room_bounds (before.counts x) (steps_at x (adds (e ∷ rest))) (sound.room x);
-      reply = sound.acted.0;
-      is = sym k.base ∙ sym moved.same ∙ ap (runs m2) parts ∙ runs-append m2 front (e ∷ rest) ∙ sym effects.1 ∙ ap (run (base_after before e.op)) none;
+      before = runs m2 front;
+      bounds = λ x. within_after s.held m2 front (e ∷ []) sound x;
+      reply = (acted_back m2 front (e ∷ []) sound.acted).0;
+      is = sym k.base ∙ sym moved.same ∙ sym led ∙ runs-append m2 front (e ∷ []);
     }
 
 -- so its inverse does something there, which is logged

@@ -1,5 +1,5 @@
 -- Core that begin.
-use Rattle.std.proofs.Common.{◌≡◌, ℕ, ◌+◌, ◌∷◌, [], List, length, None, refl, sym, ap, subst, arith}
+use Rattle.std.proofs.Common.{◌≡◌, ◌+◌, ◌∷◌, [], List, length, None, refl, sym, ap, subst, arith}
 use Rattle.std.specs.Prelude.{vec_len}
 use Rattle.std.specs.List.{sum_by}
 use Rattle.std.specs.Option.{option_map}
@@ -55,6 +55,7 @@ module _ {D : Type 0} (g : Ghosts D) (origin : Origin) where
         running = running_in (sym empty.running i);
         held = sym empty.held i;
         pending = sym fresh.pending i;
+        aside = sym fresh.aside i;
         base = origin.first;
       } in
       let records = appended k.operations.store.log in

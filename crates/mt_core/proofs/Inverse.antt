@@ -14,10 +14,9 @@ use Rattle.mt_live.proofs.Lasts.{last_within}
 use Rattle.mt_live.specs.Adds.{GivesBack}
 use Rattle.mt_live.specs.Entries.{Entry}
 use Rattle.mt_live.specs.Lives.{member_of}
-use Rattle.mt_live.specs.Members.{Member, has_inverse, later, last_place, last_operation}
+use Rattle.mt_live.specs.Members.{Noted, Member, has_inverse, later, last_place, last_operation}
 use Rattle.mt_live.specs.Undoing.{is_effect, last_of, last_effect}
 use Rattle.mt_log.specs.Words.{appended}
-use Rattle.mt_model.specs.History.{Call}
 use Rattle.mt_model.specs.Model.{Base, inverse_of, IsWithin}
 use Rattle.mt_model.specs.Pending.{TakesOut}
 use Rattle.mt_model.specs.declared.pending_add.Pending.{Pending}
@@ -67,7 +66,7 @@ pub inverse_within : (relations counters : ℕ) (op : Op) (reply : Reply) (i : O
 inverse_within relations counters op reply i within small is = subst (λ (o : Option Op). IfSome o (IsWithin relations counters)) is (some_within relations counters op reply within small)
 
 -- the last call that did something did
-last_did : (cs : List Call) (n : ℕ) (d : Call) → last_place cs ≡ Some n → has_inverse (get_or cs n d) ≡ true
+last_did : (cs : List Noted) (n : ℕ) (d : Noted) → last_place cs ≡ Some n → has_inverse (get_or cs n d) ≡ true
 last_did [] n d is = absurd cc
 last_did (c ∷ cs) n d is = go (last_place cs) refl (has_inverse c) refl is (λ m h. last_did cs m d h)
   where
@@ -80,7 +79,7 @@ last_did (c ∷ cs) n d is = go (last_place cs) refl (has_inverse c) refl is (λ
 reported_due : (last : ℕ) (records : List Record) (t u : ℕ) (m : Member) → IsReported last records t m → last_operation (Some m) ≡ Some u → IsDue records t u × (1 ≤ u)
 reported_due last records t u m k named = go (last_place m.calls) refl named
   where
-    first : (cs : List Call) → 0 < length cs → (c : Call) × (c ≡ get_or cs 0 c)
+    first : (cs : List Noted) → 0 < length cs → (c : Noted) × (c ≡ get_or cs 0 c)
     first [] lt = absurd (omega (arith, lt))
     first (c ∷ cs) lt = (c, refl)
 
@@ -90,8 +89,8 @@ reported_due last records t u m k named = go (last_place m.calls) refl named
         let this : get_or m.operations n 0 ≡ u = cc in
         let within : n < length m.calls = subst (λ o. IfSome o (λ i. i < length m.calls)) at (last_within m.calls) in
         let many = k.many in
-        let some : (c : Call) × (c ≡ get_or m.calls 0 c) = first m.calls (omega (arith, within)) in
-        let it : Call = get_or m.calls n some.0 in
+        let some : (c : Noted) × (c ≡ get_or m.calls 0 c) = first m.calls (omega (arith, within)) in
+        let it : Noted = get_or m.calls n some.0 in
         let due = k.due n it within (get_or_default m.calls n some.0 (get_or m.calls n some.0) within) (last_did m.calls n some.0 at) in
         (subst (IsDue records t) this due, subst (λ (x : ℕ). 1 ≤ x) this (k.numbers n 0 (omega (arith, within, many))).0)
 

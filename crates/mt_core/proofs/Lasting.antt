@@ -9,7 +9,7 @@ use Rattle.mt_frame.specs.declared.records.Record.TheVariants as record_of
 use Rattle.mt_log.specs.Words.{appended, durable, in_flight, waiting, Moves}
 use Rattle.mt_model.specs.declared.history.Committed.{Committed}
 use Rattle.mt_replay.proofs.Walking.{tell_more}
-use Rattle.mt_replay.specs.Recorded.{Recorded, its, tells}
+use Rattle.mt_replay.specs.Recorded.{Recorded, nothing, its, tells}
 use Rattle.mt_core.proofs.Lists.{pairs_head, pairs_tail}
 use Rattle.mt_core.proofs.Prefixed.{tells_more}
 use Rattle.mt_core.specs.Booked.{durable_count}
@@ -104,7 +104,7 @@ next_count (c ∷ cs) p rising = ⊎_elim behind (before (next_count cs p (pairs
 commit_reported : (front : List Record) (t : ℕ) → length (tells (front ++ record_of.Commit t ∷ [])).books ≡ length (tells front).books + 1
 commit_reported front t =
     let x = tells front in
-    ap (λ (y : Recorded). length y.books) (tell_more (record { live = []; books = [] }) front (record_of.Commit t ∷ [])) ∙ length_push x.books (its t x.live)
+    ap (λ (y : Recorded). length y.books) (tell_more nothing front (record_of.Commit t ∷ [])) ∙ length_push x.books (its t x.ends)
 
 record_at : (front back : List Record) (r d : Record) (i : ℕ) → length front ≡ i → get_or (front ++ r ∷ back) i d ≡ r
 record_at front back r d i is =

@@ -41,6 +41,7 @@ use Rattle.mt_core.proofs.Effects.{last_kept, weighs_apart, weighs_others}
 use Rattle.mt_core.proofs.Reported.{reported_put}
 use Rattle.mt_core.proofs.Queued.{queued_first, queued_members}
 use Rattle.mt_live.proofs.Alone.{put_other}
+use Rattle.mt_live.specs.declared.transactions.Role.TheVariants.{Stands}
 
 -- nothing runs of a transaction that is not at work
 pub none_runs : (ms : List Member) (standing : List Entry) (rs : List OpScope) (t : ℕ) → is_open (member_of ms t) ≡ false → All (IsOwned ms standing) rs → All (λ (r : OpScope). r.txn ≢ t) rs
@@ -107,11 +108,11 @@ module _ {D : Type 0} (g : Ghosts D) (origin : Origin) (base : Base) where
       → n.book.items ≡ k.book.items ++ done ∷ [] → vec_len n.book ≡ vec_len k.book + 1 → vec_capacity n.book ≡ vec_capacity k.book → done.calls ≡ calls (kept (only c.txn) k.live.standing) → n.live.standing ≡ kept (others c.txn) k.live.standing
       → ((u : ℕ) → member_of n.live.members u ≡ put (member_of k.live.members) c.txn None u) → n.live.begun ≡ k.live.begun → length n.live.members + 1 ≡ length k.live.members
       → held_of n.locks ≡ without_holder (held_of k.locks) c.txn
-      → length n.escrow.committed ≡ length k.escrow.committed → ((x : ℕ) → count_at n.escrow.committed x ≡ moved_by c.txn x k.escrow.pending (count_at k.escrow.committed x)) → n.escrow.pending ≡ pending_without c.txn k.escrow.pending
+      → length n.escrow.committed ≡ length k.escrow.committed → ((x : ℕ) → count_at n.escrow.committed x ≡ moved_by c.txn x k.escrow.pending (count_at k.escrow.committed x)) → n.escrow.pending ≡ pending_without c.txn k.escrow.pending → n.escrow.aside ≡ pending_without c.txn k.escrow.aside
       → IsRight g origin.pages origin.relations origin.counters n.operations → n.operations.store ≡ k.operations.store → n.operations.locks ≡ k.operations.locks → claimed n.operations + sum_by entry_pages (kept (only c.txn) k.live.standing) ≡ claimed k.operations
       → n.reserved + 114 + sum_by entry_bytes (kept (only c.txn) k.live.standing) ≡ k.reserved
       → IsIn g origin base (booked (state_of k base) c.txn done.session) (record k { operations = n.operations; live = n.live; book = n.book; locks = n.locks; escrow = n.escrow; commits = n.commits; reserved = n.reserved })
-  booked_in k n c cs done safe queue rest book len capacity its standing members begun count locks all moved pending right store page_locks claims_now reserved =
+  booked_in k n c cs done safe queue rest book len capacity its standing members begun count locks all moved pending aside right store page_locks claims_now reserved =
       let fit = safe.fit in
       let t = c.txn in
       let z : Core D = record k { operations = n.operations; live = n.live; book = n.book; locks = n.locks; escrow = n.escrow; commits = n.commits; reserved = n.reserved } in
@@ -129,6 +130,7 @@ module _ {D : Type 0} (g : Ghosts D) (origin : Origin) (base : Base) where
         running = running_in k.running.items;
         held = sym locks i;
         pending = sym pending i;
+        aside = sym aside i;
         base = base;
       } in
       let w_same : world g origin.pages k.operations ≡ world g origin.pages n.operations = world_same g k.operations n.operations origin.pages store page_locks in
@@ -180,9 +182,9 @@ module _ {D : Type 0} (g : Ghosts D) (origin : Origin) (base : Base) where
   -- a transaction of which nothing is left to undo goes
   pub gone_in : (k n : Core D) (t : ℕ) → IsConsistent g origin base k → is_open (member_of k.live.members t) ≡ true → All (λ (r : OpScope). r.txn ≢ t) k.running.items → last_effect t k.live.standing ≡ None
       → n.live.standing ≡ kept (others t) k.live.standing → ((u : ℕ) → member_of n.live.members u ≡ put (member_of k.live.members) t None u) → n.live.begun ≡ k.live.begun → length n.live.members + 1 ≡ length k.live.members
-      → held_of n.locks ≡ without_holder (held_of k.locks) t → n.escrow.committed ≡ k.escrow.committed → n.escrow.pending ≡ pending_without t k.escrow.pending → n.reserved + 128 ≡ k.reserved
+      → held_of n.locks ≡ without_holder (held_of k.locks) t → n.escrow.committed ≡ k.escrow.committed → n.escrow.pending ≡ pending_without t k.escrow.pending → n.escrow.aside ≡ pending_without t k.escrow.aside → n.reserved + 128 ≡ k.reserved
       → IsIn g origin base (gone (state_of k base) t) (record k { live = n.live; locks = n.locks; escrow = n.escrow; reserved = n.reserved })
-  gone_in k n t safe at_work none nothing standing members begun count locks committed pending reserved =
+  gone_in k n t safe at_work none nothing standing members begun count locks committed pending aside reserved =
       let fit = safe.fit in
       let z : Core D = record k { live = n.live; locks = n.locks; escrow = n.escrow; reserved = n.reserved } in
       let s : State = state_of k base in
@@ -195,6 +197,7 @@ module _ {D : Type 0} (g : Ghosts D) (origin : Origin) (base : Base) where
         running = running_in k.running.items;
         held = sym locks i;
         pending = sym pending i;
+        aside = sym aside i;
         base = base;
       } in
       let apart_pages = weighs_others undo_pages t k.live.standing nothing in

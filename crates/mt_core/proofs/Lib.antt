@@ -2,6 +2,7 @@ pub mod Lists
 pub mod Underway
 pub mod Holders
 pub mod Numbers
+pub mod Weighing
 pub mod Effects
 pub mod Reserves
 pub mod Enough
@@ -42,6 +43,7 @@ pub mod Between
 pub mod Finding
 pub mod Prefixed
 pub mod Lasting
+pub mod Marking
 pub mod Restarts
 pub mod Turning
 pub mod Detached

@@ -2,7 +2,7 @@
 use Rattle.std.proofs.Common.{◌≡◌, ℕ, ◌<◌, ◌+◌, List, [], ◌∷◌, ◌++◌, sym, ap, ◌∙◌, subst}
 use Rattle.std.specs.Option.{option_map}
 use Rattle.mt_disk.specs.declared.device.Device.{Ghosts}
-use Rattle.mt_escrow.specs.Seen.{Escrowed, add_of}
+use Rattle.mt_escrow.specs.Seen.{Escrowed, all_adds, add_of}
 use Rattle.mt_live.specs.Adds.{add_before}
 use Rattle.mt_live.specs.Lives.{member_of}
 use Rattle.mt_live.specs.Machine.{IsKept, IsAdmitted}
@@ -27,8 +27,8 @@ use Rattle.mt_core.specs.Runs.{running_in}
 use Rattle.mt_core.specs.declared.parts.Core.{Core}
 use Rattle.mt_core.proofs.Calling.{claims_consistent}
 
-admitted_of : (relations counters : ℕ) (m : Base) (e : Escrowed) (t : ℕ) (op : Op) → IsWithin relations counters op → ((c : ℕ) → c < counters → count_at e.committed c ≡ m.counts c) → IsAskedFor e t op → IsAdmitted m e.pending t op
-admitted_of relations counters m e t (Add c d) within same asked = subst (λ (n : Count). IsAdmissible n (steps_at c (e.pending ++ add_of t c d ∷ []))) (same c within.0) asked
+admitted_of : (relations counters : ℕ) (m : Base) (e : Escrowed) (t : ℕ) (op : Op) → IsWithin relations counters op → ((c : ℕ) → c < counters → count_at e.committed c ≡ m.counts c) → IsAskedFor e t op → IsAdmitted m (all_adds e) t op
+admitted_of relations counters m e t (Add c d) within same asked = subst (λ (n : Count). IsAdmissible n (steps_at c (all_adds e ++ add_of t c d ∷ []))) (same c within.0) asked
 admitted_of relations counters m e t (Get r k) within same asked = tt
 admitted_of relations counters m e t (Insert r k v) within same asked = tt
 admitted_of relations counters m e t (Update r k v) within same asked = tt
@@ -37,15 +37,16 @@ admitted_of relations counters m e t (Read c) within same asked = tt
 admitted_of relations counters m e t (Scan r) within same asked = tt
 
 module _ {D : Type 0} (g : Ghosts D) (origin : Origin) (base : Base) where
-  pub granted_from : (was : List (Object × List Holder)) (k n : Core D) (t : ℕ) (op : Op) → IsLocked g origin base was k t op → n.escrow.pending ≡ k.escrow.pending ++ add_before t op [] → n.escrow.committed ≡ k.escrow.committed → IsAskedFor k.escrow t op
+  pub granted_from : (was : List (Object × List Holder)) (k n : Core D) (t : ℕ) (op : Op) → IsLocked g origin base was k t op → n.escrow.pending ≡ k.escrow.pending ++ add_before t op [] → n.escrow.committed ≡ k.escrow.committed → n.escrow.aside ≡ k.escrow.aside → IsAskedFor k.escrow t op
       → IsGranted g origin base was k.escrow (record k { escrow = n.escrow }) t op
-  granted_from was k n t op l more committed asked = record {
+  granted_from was k n t op l more committed aside asked = record {
     was = l.was;
     may = record { within = l.may.within; at_work = l.may.at_work; room = l.may.room; idle = l.may.idle };
     locked = l.locked;
     free = l.free;
     committed = committed;
     more = more;
+    aside = aside;
     admitted = admitted_of origin.relations origin.counters (after origin.first k.book.items) k.escrow t op l.may.within l.was.fit.escrowed.counts asked;
   }
 
@@ -60,6 +61,7 @@ module _ {D : Type 0} (g : Ghosts D) (origin : Origin) (base : Base) where
         running = running_in k.running.items;
         held = sym held i;
         pending = k.escrow.pending;
+        aside = k.escrow.aside;
         base = base;
       } in
       record {

@@ -1,5 +1,5 @@
 -- What a beginning of the records tells of commits.
-use Rattle.std.proofs.Common.{◌≡◌, ◌≤◌, ◌==◌, Bool, true, false, cond, List, [], ◌∷◌, ◌++◌, length, take, drop, map, refl, sym, ap, ◌∙◌, subst, arith, append-nil, append_assoc, length-append}
+use Rattle.std.proofs.Common.{◌≡◌, ◌≤◌, List, [], ◌∷◌, ◌++◌, length, take, drop, map, refl, sym, ap, ◌∙◌, subst, arith, append-nil, append_assoc, length-append}
 use Rattle.std.proofs.Math.Seq.{take-append_seam}
 use Rattle.std.proofs.lemmas.List.{take-append-drop, take-map}
 use Rattle.mt_frame.specs.declared.records.Record.{Record}
@@ -9,7 +9,7 @@ use Rattle.mt_model.specs.History.{after, IsLegal}
 use Rattle.mt_model.specs.Model.{Base}
 use Rattle.mt_model.specs.declared.history.Committed.{Committed}
 use Rattle.mt_replay.proofs.Walking.{tell_more}
-use Rattle.mt_replay.specs.Recorded.{Recorded, Finished, calls_of, its, without, plus_record, tell, tells, stands_for}
+use Rattle.mt_replay.specs.Recorded.{Recorded, Finished, nothing, calls_of, its, plus_record, tell, tells, stands_for}
 use Rattle.mt_core.proofs.Recovering.{books_run}
 use Rattle.mt_core.specs.Restartable.{effects_of}
 
@@ -23,13 +23,9 @@ same_books x y same = record { more = []; is = same ∙ sym (append-nil x.books)
 
 reported_follows : (x : Recorded) (r : Record) → Follows x (plus_record x r)
 reported_follows x (Page txn op page image start old new) = same_books x x refl
-reported_follows x (OpEnd txn op undoes done) = go (undoes == 0)
-  where
-    go : (c : Bool) → Follows x (cond c (record { live = x.live ++ record { txn = txn; op = op; done = done } ∷ []; books = x.books }) (record { live = without txn undoes x.live; books = x.books }))
-    go true = record { more = []; is = sym (append-nil x.books) }
-    go false = record { more = []; is = sym (append-nil x.books) }
+reported_follows x (OpEnd txn op undoes done) = record { more = []; is = sym (append-nil x.books) }
 reported_follows x (OpDropped txn op) = same_books x x refl
-reported_follows x (Commit txn) = record { more = its txn x.live ∷ []; is = refl }
+reported_follows x (Commit txn) = record { more = its txn x.ends ∷ []; is = refl }
 reported_follows x (AbortEnd txn) = record { more = []; is = sym (append-nil x.books) }
 
 tell_follows : (x : Recorded) (rs : List Record) → Follows x (tell x rs)
@@ -40,7 +36,7 @@ tell_follows x (r ∷ rs) =
     record { more = one.more ++ rest.more; is = rest.is ∙ ap (λ (bs : List (List Finished)). bs ++ rest.more) one.is ∙ append_assoc x.books one.more rest.more }
 
 front_follows : (front back : List Record) → Follows (tells front) (tells (front ++ back))
-front_follows front back = subst (Follows (tells front)) (sym (tell_more (record { live = []; books = [] }) front back)) (tell_follows (tells front) back)
+front_follows front back = subst (Follows (tells front)) (sym (tell_more nothing front back)) (tell_follows (tells front) back)
 
 pub tells_more : (front back : List Record) → length (tells front).books ≤ length (tells (front ++ back)).books
 tells_more front back =

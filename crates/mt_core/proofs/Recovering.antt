@@ -11,13 +11,13 @@ use Rattle.mt_disk.specs.declared.device.Device.{Ghosts}
 use Rattle.mt_frame.specs.declared.records.LoggedOp.{LoggedOp}
 use Rattle.mt_frame.specs.declared.records.LoggedOp.TheVariants as logged
 use Rattle.mt_frame.specs.declared.records.Record.{Record}
-use Rattle.mt_live.proofs.Moving.{room_bounds}
+use Rattle.mt_live.proofs.Events.{within_after}
 use Rattle.mt_live.proofs.Schedule.{moved_in_turn}
-use Rattle.mt_live.specs.Adds.{adds}
+use Rattle.mt_live.proofs.Standing.{effects_sound, effects_run}
 use Rattle.mt_live.specs.Entries.{Entry, calls, runs, kept}
 use Rattle.mt_live.specs.Laws.{in_turn, without_all}
 use Rattle.mt_live.specs.Lives.{member_of}
-use Rattle.mt_live.specs.Members.{Member, has_inverse}
+use Rattle.mt_live.specs.Members.{Member}
 use Rattle.mt_live.specs.Sound.{IsSound}
 use Rattle.mt_live.specs.Undoing.{others}
 use Rattle.mt_live.specs.declared.transactions.TxnState.TheVariants.{Committing}
@@ -26,7 +26,6 @@ use Rattle.mt_model.proofs.Appends.{after-append, legal_append, legal_back}
 use Rattle.mt_model.proofs.Undo.{base_effectless}
 use Rattle.mt_model.specs.History.{Call, run, IsActed, after, IsLegal}
 use Rattle.mt_model.specs.Model.{Base, IsBase, IsWithin, reply_of, base_after, inverse_of}
-use Rattle.mt_model.specs.Pending.{steps_at}
 use Rattle.mt_model.specs.declared.history.Committed.{Committed}
 use Rattle.mt_pool.specs.Views.{pages}
 use Rattle.mt_replay.specs.Recoverable.{IsSerial, IsOf, LeadsOn, all_pages, inverse_pages, pages_held}
@@ -35,10 +34,10 @@ use Rattle.mt_space.specs.Rooms.{free_in, free_of}
 use Rattle.mt_steps.specs.Plans.{free_pages}
 use Rattle.mt_core.proofs.Calling.{open_some}
 use Rattle.mt_core.proofs.Counted.{at_most}
-use Rattle.mt_core.proofs.Did.{calls_did, calls_entries}
+use Rattle.mt_core.proofs.Did.{calls_entries}
 use Rattle.mt_core.specs.Booked.{txns_of}
 use Rattle.mt_core.specs.Consistent.{Origin, state_of, session_in, IsConsistent, IsWithinSchema}
-use Rattle.mt_core.specs.Restartable.{did, effects_of, entry_of, TellsOf, Recovers}
+use Rattle.mt_core.specs.Restartable.{did, did_call, effects_of, entry_of, TellsOf, Recovers}
 use Rattle.mt_core.specs.Runs.{entry_pages, entry_bytes, taken_bytes}
 use Rattle.mt_core.specs.declared.parts.Commit.{Commit}
 use Rattle.mt_core.specs.declared.parts.Core.{Core}
@@ -53,16 +52,16 @@ none_of : {A : Type 0} (o : Option A) → is_some o ≡ false → o ≡ None
 none_of None is = refl
 none_of (Some x) is = absurd cc
 
-pub effects_acted : (b : Base) (cs : List Call) → IsActed b cs → Same b cs (filter has_inverse cs)
+pub effects_acted : (b : Base) (cs : List Call) → IsActed b cs → Same b cs (filter did_call cs)
 effects_acted b [] acted = (tt, refl)
-effects_acted b (c ∷ cs) acted = go (has_inverse c) refl (effects_acted (base_after b c.0) cs acted.1)
+effects_acted b (c ∷ cs) acted = go (did_call c) refl (effects_acted (base_after b c.0) cs acted.1)
   where
-    go : (h : Bool) → has_inverse c ≡ h → Same (base_after b c.0) cs (filter has_inverse cs) → Same b (c ∷ cs) (cond h (c ∷ filter has_inverse cs) (filter has_inverse cs))
+    go : (h : Bool) → did_call c ≡ h → Same (base_after b c.0) cs (filter did_call cs) → Same b (c ∷ cs) (cond h (c ∷ filter did_call cs) (filter did_call cs))
     go true is rest = ((acted.0, rest.0), rest.1)
     go false is rest =
         let none : inverse_of c.0 (reply_of b c.0) ≡ None = rw acted.0 (none_of (inverse_of c.0 c.1) is) in
         let stays : base_after b c.0 ≡ b = base_effectless b c.0 none in
-        subst (λ (x : Base). IsActed x (filter has_inverse cs) × (run x (filter has_inverse cs) ≡ run (base_after b c.0) cs)) stays rest
+        subst (λ (x : Base). IsActed x (filter did_call cs) × (run x (filter did_call cs) ≡ run (base_after b c.0) cs)) stays rest
 
 pub books_run : (b : Base) (books : List (List Finished)) (cs : List Committed) → map calls_of books ≡ map effects_of cs → IsLegal b cs → run_all b books ≡ after b cs
 books_run b [] [] same legal = refl
@@ -197,12 +196,14 @@ module _ {D : Type 0} (g : Ghosts D) (origin : Origin) (base : Base) (n : Core D
     serial =
         let led : stands_for origin.begun records ≡ after booked_base turned = books_run origin.begun (tells records).books commits_since tells_of.telling.books since_legal ∙ after-append origin.begun tells_of.since turned ∙ ap (λ (b : Base). after b turned) since_booked in
         let whole = without_all ts es in
-        let effects = effects_acted (after booked_base turned) (calls whole) moved.1.acted in
-        let done : filter has_inverse (calls whole) ≡ calls_of (losers records) = calls_did whole ∙ ap calls (sym tells_of.telling.live) ∙ calls_entries (losers records) in
+        let m = after booked_base turned in
+        let still = effects_sound (state_of n base).held safe.fit.kept.locks m whole moved.1 in
+        let led_on = effects_run (state_of n base).held safe.fit.kept.locks m whole moved.1 in
+        let done : calls (filter did whole) ≡ calls_of (losers records) = ap calls (sym tells_of.telling.live) ∙ calls_entries (losers records) in
         record {
-          same = tells_of.calls ∙ sym moved.2 ∙ sym effects.1 ∙ (λ i. run (sym led i) (done i));
-          acted = subst (λ (X : Type 0). X) (λ i. IsActed (sym led i) (done i)) effects.0;
-          bounds = subst IsBase (sym led) (λ c. room_bounds ((after booked_base turned).counts c) (steps_at c (adds whole)) (moved.1.room c));
+          same = tells_of.calls ∙ sym moved.2 ∙ sym led_on ∙ (λ i. run (sym led i) (done i));
+          acted = subst (λ (X : Type 0). X) (λ i. IsActed (sym led i) (done i)) still.acted;
+          bounds = subst IsBase (sym led) (within_after (state_of n base).held (after booked_base turned) [] whole moved.1);
         }
 
     weighs : (w : Entry → ℕ) → sum_by w (map entry_of (losers records)) ≤ sum_by w es

@@ -60,6 +60,7 @@ module _ {D : Type 0} (g : Ghosts D) (origin : Origin) (k : Core D) (kept t : â„
   behind refusal.Busy a u = absurd u
   behind refusal.TooManyOperations a u = absurd u
   behind (refusal.BadLine x) a u = absurd u
+  behind refusal.WrongFormat a u = absurd u
 
   -- nobody was in the way
   pub refused_call : (why : Refusal) â†’ AreAllFree (held_of k.locks) t (locks_of op) â†’ IsRefusedBehind g origin k kept t op split why â†’ IsRefusedCall g origin k kept t op split why
@@ -81,6 +82,7 @@ module _ {D : Type 0} (g : Ghosts D) (origin : Origin) (k : Core D) (kept t : â„
   refused_call refusal.Busy f b = (f, b)
   refused_call refusal.TooManyOperations f b = (f, b)
   refused_call (refusal.BadLine x) f b = (f, b)
+  refused_call refusal.WrongFormat f b = (f, b)
 
   -- somebody was
   pub barred_call : (why : Refusal) â†’ IsRefused (held_of k.locks) t (asks_of op) why â†’ IsRefusedCall g origin k kept t op split why
@@ -102,3 +104,4 @@ module _ {D : Type 0} (g : Ghosts D) (origin : Origin) (k : Core D) (kept t : â„
   barred_call refusal.Busy b = absurd b
   barred_call refusal.TooManyOperations b = absurd b
   barred_call (refusal.BadLine x) b = absurd b
+  barred_call refusal.WrongFormat b = absurd b

@@ -12,8 +12,7 @@ use Rattle.mt_frame.specs.declared.records.LoggedOp.{LoggedOp}
 use Rattle.mt_frame.specs.declared.records.Record.TheVariants.{OpEnd}
 use Rattle.mt_live.specs.Lives.{member_of, IsChanged}
 use Rattle.mt_live.specs.Machine.{put}
-use Rattle.mt_live.specs.Members.{Member, fresh, with_call, cut_at, has_inverse}
-use Rattle.mt_model.specs.History.{Call}
+use Rattle.mt_live.specs.Members.{Noted, Member, fresh, with_noted, cut_at, has_inverse}
 use Rattle.mt_model.specs.Model.{inverse_of}
 use Rattle.mt_model.specs.declared.operations.Op.{Op}
 use Rattle.mt_model.specs.declared.operations.Op.TheVariants.{Get, Insert, Update, Delete, Add, Read, Scan}
@@ -120,7 +119,7 @@ pub reported_fresh : (last : ℕ) (records : List Record) (t u session : ℕ) �
 reported_fresh last records t u session = record { many = refl; numbers = λ i d lt. absurd (omega (arith, lt)); rising = λ i j d less lt. absurd (omega (arith, lt)); due = λ i c lt. absurd (omega (arith, lt)) }
 
 -- a call more, of a number above the others
-pub reported_call : (last : ℕ) (records : List Record) (t n : ℕ) (m : Member) (c : Call) → IsReported last records t m → All (λ x. x < n) m.operations → 1 ≤ n → n ≤ last → (has_inverse c ≡ true → IsDue records t n) → IsReported last records t (with_call m n c)
+pub reported_call : (last : ℕ) (records : List Record) (t n : ℕ) (m : Member) (c : Noted) → IsReported last records t m → All (λ x. x < n) m.operations → 1 ≤ n → n ≤ last → (has_inverse c ≡ true → IsDue records t n) → IsReported last records t (with_noted m n c)
 reported_call last records t n m c k below some low due =
     let calls = length_push m.calls c in let numbers = length_push m.operations n in let many = k.many in
     record {

@@ -9,12 +9,11 @@ use Rattle.mt_live.specs.Entries.{Entry, kept}
 use Rattle.mt_live.specs.Lives.{member_of, is_member}
 use Rattle.mt_live.specs.Members.{Member}
 use Rattle.mt_live.specs.Undoing.{only, others, last_effect}
-use Rattle.mt_model.specs.Model.{inverse_of}
 use Rattle.mt_core.specs.Runs.{AreApart, IsOwned, undo_bytes, entry_bytes, taken_bytes}
 use Rattle.mt_core.specs.declared.parts.Commit.{Commit}
 use Rattle.mt_op.specs.declared.scope.OpScope.{OpScope}
 use Rattle.mt_core.proofs.Lists.{pairs_head, pairs_tail}
-use Rattle.mt_core.proofs.Effects.{weighs_apart, weighs_last, last_kept, last_only, inverse_bytes}
+use Rattle.mt_core.proofs.Effects.{weighs_effect, weighs_apart, weighs_last, last_kept, last_only, inverse_bytes}
 
 -- ---- the inverses that run have each taken what was kept for an entry
 
@@ -27,8 +26,7 @@ pub record HasEntry (es : List Entry) (r : OpScope) : Type 0 where
 pub has_entry : (ms : List Member) (es : List Entry) (r : OpScope) → IsOwned ms es r → r.undoes ≢ 0 → HasEntry es r
 has_entry ms es r o back =
     let t = o.inverse back in
-    let some : is_some (inverse_of t.entry.op t.entry.reply) ≡ true = rw t.inverse refl in
-    let of_entry : entry_bytes t.entry ≡ undo_bytes t.entry.op = rw some refl in
+    let of_entry : entry_bytes t.entry ≡ undo_bytes t.entry.op = weighs_effect undo_bytes r.txn es t.entry t.last in
     record { entry = t.entry; last = t.last; weighs = of_entry ∙ inverse_bytes t.entry.op t.entry.reply r.op t.inverse }
 
 -- the last effect of a transaction is among its own entries

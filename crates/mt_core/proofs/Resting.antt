@@ -102,6 +102,7 @@ module _ {D : Type 0} (g : Ghosts D) (origin : Origin) (base : Base) where
         running = λ u. runs u i;
         held = held_of k.locks;
         pending = k.escrow.pending;
+        aside = k.escrow.aside;
         base = base;
       } in
       let still : All (IsRunning origin.relations origin.counters (world g origin.pages k.operations) (k.last + 1)) k.running.items =

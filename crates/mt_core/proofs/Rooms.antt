@@ -1,5 +1,5 @@
 -- Lists that have got more room, and are as they were.
-use Rattle.std.proofs.Common.{◌≡◌, ℕ, ◌≤◌, ◌+◌, List, length, sym, ap, subst, arith}
+use Rattle.std.proofs.Common.{◌≡◌, ◌≤◌, ◌+◌, List, length, sym, ap, subst, arith}
 use Rattle.std.specs.Prelude.{All, AllPairs, vec_len}
 use Rattle.std.specs.List.{sum_by}
 use Rattle.std.specs.Option.{option_map}
@@ -34,6 +34,7 @@ module _ {D : Type 0} (g : Ghosts D) (origin : Origin) (base : Base) where
         running = running_in (sym running i);
         held = held_of k.locks;
         pending = k.escrow.pending;
+        aside = k.escrow.aside;
         base = base;
       } in
       let log = fit.log in let reserves = fit.reserves in let room = fit.booked in let claims = safe.claims in

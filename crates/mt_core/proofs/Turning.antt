@@ -73,6 +73,13 @@ module _ {D : Type 0} (g : Ghosts D) (origin : Origin) (base : Base) (k : Core D
       ∙ ap (λ (es : List Entry). pending_of t (adds es) ++ add_of t (running_in k.running.items t)) none_stands
       ∙ ap (λ (rs : List OpScope). pending_of t (adds []) ++ add_of t (running_in rs t)) none_runs)
 
+  none_aside : k.escrow.aside ≡ []
+  none_aside = go k.escrow.aside safe.fit.kept.owned.aside
+    where
+      go : (ps : List Pending) → Each (λ (p : Pending). is_some (option_map (λ (m : Member). m.session) (member_of k.live.members p.txn)) ≡ true) ps → ps ≡ []
+      go [] each = refl
+      go (p ∷ ps) each = absurd (let none : is_some (option_map (λ (m : Member). m.session) (member_of k.live.members p.txn)) ≡ false = ap (λ (o : Option Member). is_some (option_map (λ (m : Member). m.session) o)) (none_lives p.txn) in let is = each.0 in cc)
+
   -- the pages hold what the book leaves
   pub booked_holds : base ≡ after origin.first k.book.items
   booked_holds = sym (ap (λ (es : List Entry). runs (after origin.first k.book.items) es) (sym none_stands) ∙ safe.fit.kept.base)
@@ -104,6 +111,7 @@ module _ {D : Type 0} (g : Ghosts D) (origin : Origin) (base : Base) (k : Core D
       running = running_in ((none_runs ∙ sym running) i);
       held = held_of k.locks;
       pending = (none_pending ∙ sym fresh.pending) i;
+      aside = (none_aside ∙ sym fresh.aside) i;
       base = base;
     }
 

@@ -9,7 +9,7 @@ use Rattle.std.proofs.lemmas.List.Elements.{All-head, All-tail}
 use Rattle.std.proofs.lemmas.List.Sums.{sum_by-cons}
 use Rattle.mt_disk.specs.declared.device.Device.{Ghosts}
 use Rattle.mt_base.specs.declared.refusal.Refusal.{Refusal}
-use Rattle.mt_live.specs.Entries.{Entry, kept}
+use Rattle.mt_live.specs.Entries.{Entry, is_standing, kept}
 use Rattle.mt_live.specs.Undoing.{only, others, is_effect, last_of, last_effect, cut_back}
 use Rattle.mt_live.specs.declared.transactions.TxnState.TheVariants.{Open, Aborting}
 use Rattle.mt_model.specs.Model.{Base, inverse_of}
@@ -190,12 +190,13 @@ few_of f t w each (x ∷ es) = go (x.txn == t) (each x) (few_of f t w each es)
     go false here rest = let whole = sum_by-cons f x es in omega (arith, here, rest, whole)
 
 effect_of : (all t : ℕ) (e : Entry) → effect_steps all t e ≤ cond (e.txn == t) (2 * all + 10) 0
-effect_of all t e = go (e.txn == t) (is_some (inverse_of e.op e.reply))
+effect_of all t e = go (e.txn == t) (is_standing e.role) (is_some (inverse_of e.op e.reply))
   where
-    go : (a b : Bool) → (if a && b then 2 * all + 10 else 0) ≤ cond a (2 * all + 10) 0
-    go true true = omega arith
-    go true false = omega arith
-    go false b = omega arith
+    go : (a s b : Bool) → (if (a && s) && b then 2 * all + 10 else 0) ≤ cond a (2 * all + 10) 0
+    go true true true = omega arith
+    go true true false = omega arith
+    go true false b = omega arith
+    go false s b = omega arith
 
 -- none of its operations under way is an inverse
 under_way : (all effects t : ℕ) (rs : List OpScope) → All (λ (r : OpScope). r.txn ≡ t → (r.undoes ≡ 0) × (r.standing ≤ 8)) rs → abort_steps all rs t effects ≤ effects + 9

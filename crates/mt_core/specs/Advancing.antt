@@ -38,6 +38,7 @@ use Rattle.mt_core.specs.Seen.{core_device, core_log, core_page_locks, core_pool
 pub record AsksLeave {T : Type 0} (was now : Escrowed) (txn : ℕ) (op : Op) (r : Result T Refusal) : Type 0 where
   pub granted : OnOk r (now.pending ≡ was.pending ++ add_before txn op [])
   pub committed : now.committed ≡ was.committed
+  pub aside : now.aside ≡ was.aside
   pub admitted : OnOk r (IsAskedFor was txn op)
   pub cause : IfErr r (λ why. (why ≡ Refusal.NoMemory) ⊎ ((why ≡ Refusal.Escrow) × ¬ IsAskedFor was txn op))
   pub kept : OnErr r (now ≡ was)
@@ -50,6 +51,7 @@ module _ {D : Type 0} (g : Ghosts D) where
         → r ≡ slice_index_or k.running.items place r → q ≡ slice_index_or n.running.items place q → SameOp r q
     pub live : n.live ≡ k.live
     pub commits : n.commits ≡ k.commits
+    pub numbers : n.last ≡ k.last
     pub full : result ≡ Ok stepped.Flush → WantsFrame k n
     pub works : (r q : OpScope) → r ≡ slice_index_or k.running.items place r
         → q ≡ slice_index_or n.running.items place q → Works r q result
@@ -75,6 +77,7 @@ module _ {D : Type 0} (g : Ghosts D) where
   pub record IsTakenBack (k n : Core D) (place : ℕ) (result : Result TakenBack Refusal) : Type 0 where
     pub live : n.live ≡ k.live
     pub commits : n.commits ≡ k.commits
+    pub numbers : n.last ≡ k.last
     pub locks : core_page_locks n ≡ core_page_locks k
     pub full : result ≡ Ok back.Flush → WantsFrame k n
     pub length : length n.running.items ≡ length k.running.items
@@ -100,6 +103,7 @@ pub record EndsReady {D : Type 0} (g : Ghosts D) (k n : Core D) (place : ℕ) (r
   pub store : core_store n ≡ core_store k
   pub states : SameStates k n
   pub commits : n.commits ≡ k.commits
+  pub numbers : n.last ≡ k.last
   pub ends : (origin : Origin) (base : Base) → IsReadyAt g origin base k place reply
       → AtPlace k.running.items place (λ r. EndsIn g origin base k n r)
   pub notes : AtPlace k.running.items place (λ r. NotesEnd k n r reply)
@@ -111,6 +115,7 @@ pub record EndsInverse {D : Type 0} (g : Ghosts D) (k n : Core D) (place : ℕ) 
   pub store : core_store n ≡ core_store k
   pub states : SameStates k n
   pub commits : n.commits ≡ k.commits
+  pub numbers : n.last ≡ k.last
   pub ends : (origin : Origin) (base : Base) (reply : Reply) → IsReadyAt g origin base k place reply
       → AtPlace k.running.items place (λ r. UndoesIn g origin base (state_of k base) n r.txn r.op)
   pub notes : AtPlace k.running.items place (NotesUndone k n)
@@ -122,6 +127,7 @@ pub record DropsOut {D : Type 0} (g : Ghosts D) (k n : Core D) (place : ℕ) : T
   pub locks : AtPlace k.running.items place (λ r. core_page_locks n ≡ locks_without r.number (core_page_locks k))
   pub live : n.live ≡ k.live
   pub commits : n.commits ≡ k.commits
+  pub numbers : n.last ≡ k.last
   pub drops : (origin : Origin) (base : Base) → IsClearedAt g origin base k place
       → AtPlace k.running.items place (λ r. DropsIn g origin base (state_of k base) n r.txn)
   pub book : n.book ≡ k.book
@@ -133,6 +139,7 @@ pub record LeavesFirst {D : Type 0} (g : Ghosts D) (k n : Core D) (txn : ℕ) : 
   pub store : core_store n ≡ core_store k
   pub rest : (c : Commit) (cs : List Commit) → k.commits.items ≡ c ∷ cs → (txn ≡ c.txn) × (n.commits.items ≡ cs)
   pub running : n.running ≡ k.running
+  pub numbers : n.last ≡ k.last
   pub states : SameUncommitted k n
   pub undo : LeavesUndo k n
   pub restartable : (c : Commit) (cs : List Commit) → k.commits.items ≡ c ∷ cs → c.place ≤ length (durable (core_log k))

@@ -32,6 +32,7 @@ module _ {D : Type 0} (g : Ghosts D) where
     pub others : AtPlace k.running.items place (λ r. KeepsOthers r.txn k.running.items n.running.items)
     pub states : SameStates k n
     pub commits : n.commits ≡ k.commits
+    pub numbers : n.last ≡ k.last
     pub locks : AtPlace k.running.items place (λ r. KeepsPageLocks k n r result)
     pub other : (origin : Origin) (base : Base) → IsConsistent g origin base k
         → AtPlace k.running.items place (λ r. NamesOther n.running.items r.txn result)
@@ -49,6 +50,7 @@ module _ {D : Type 0} (g : Ghosts D) where
     pub others : AtPlace k.running.items place (λ r. KeepsOthers r.txn k.running.items n.running.items)
     pub live : n.live ≡ k.live
     pub commits : n.commits ≡ k.commits
+    pub numbers : n.last ≡ k.last
     pub locks : AtPlace k.running.items place (λ r. GivesLocksBack k n r result)
     pub durable : durable (core_log n) ≡ durable (core_log k)
     pub full : result ≡ Ok taken.Flush → WantsFrame k n
@@ -71,6 +73,7 @@ module _ {D : Type 0} where
     pub others : SameStatesBut k n t
     pub running : n.running ≡ k.running
     pub commits : n.commits ≡ k.commits
+    pub numbers : n.last ≡ k.last
     pub locks : core_page_locks n ≡ core_page_locks k
     pub durable : durable (core_log n) ≡ durable (core_log k)
     pub device : core_device n ≡ core_device k
@@ -84,6 +87,7 @@ module _ {D : Type 0} where
   -- what stays as a commit begins, or is refused
   pub record KeepsAtCommit (k n : Core D) : Type 0 where
     pub running : SameRunning k n
+    pub numbers : n.last ≡ k.last
     pub durable : durable (core_log n) ≡ durable (core_log k)
     pub under_force : in_flight (core_log n) ≡ in_flight (core_log k)
     pub calls : calls_left (core_log n) ≡ calls_left (core_log k)

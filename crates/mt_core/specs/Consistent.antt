@@ -7,7 +7,7 @@ use Rattle.mt_disk.specs.declared.device.Device.{Ghosts}
 use Rattle.mt_core.specs.declared.commits.TheConstants.{END_LOG_BYTES}
 use Rattle.mt_base.specs.declared.limits.TheConstants.{MAX_AREA_MIB, MAX_BEGUN, MAX_COUNTERS, MAX_RELATIONS, MIB_BYTES, OPERATION_LOG_BYTES, TRANSACTION_LOG_BYTES}
 use Rattle.mt_base.specs.declared.refusal.Refusal.{Refusal}
-use Rattle.mt_escrow.specs.Seen.{Escrowed, CanStand, add_of}
+use Rattle.mt_escrow.specs.Seen.{Escrowed, all_adds, CanStand, add_of}
 use Rattle.mt_frame.specs.declared.records.Record.{Record}
 use Rattle.mt_frame.specs.declared.records.Record.TheVariants as record_of
 use Rattle.mt_area_rules.specs.History.{some_record, ends_txn, ends_op, finishes, undoes_op}
@@ -16,7 +16,7 @@ use Rattle.mt_live.specs.Lives.{member_of, has_room}
 use Rattle.mt_live.specs.Machine.{State, put, committed_base, IsKept, IsAdmitted, called, ended, undone, dropped, booked}
 use Rattle.mt_live.specs.Entries.{Entry}
 use Rattle.mt_live.specs.Undoing.{last_effect}
-use Rattle.mt_live.specs.Members.{Member, has_inverse}
+use Rattle.mt_live.specs.Members.{Member, Noted, has_inverse}
 use Rattle.mt_live.specs.declared.transactions.TxnState.{TxnState}
 use Rattle.mt_live.specs.declared.transactions.TxnState.TheVariants.{Committing}
 use Rattle.mt_log.specs.Words.{appended, used, area_size}
@@ -25,7 +25,7 @@ use Rattle.mt_model.specs.declared.operations.Reply.{Reply}
 use Rattle.mt_model.specs.declared.operations.Op.{Op}
 use Rattle.mt_model.specs.declared.operations.Op.TheVariants.{Get, Insert, Update, Delete, Add, Read, Scan}
 use Rattle.mt_model.specs.declared.objects.Object.{Object}
-use Rattle.mt_model.specs.History.{after, Call}
+use Rattle.mt_model.specs.History.{after}
 use Rattle.mt_model.specs.Locks.{with_locks, AreAllFree}
 use Rattle.mt_model.specs.Model.{Base, reply_of, base_after, inverse_of, locks_of, IsWithin}
 use Rattle.mt_model.specs.Tables.{count_at}
@@ -86,6 +86,7 @@ state_of k base = record {
   running = running_in k.running.items;
   held = held_of k.locks;
   pending = k.escrow.pending;
+  aside = k.escrow.aside;
   base = base;
 }
 
@@ -112,7 +113,7 @@ pub record IsReported (last : ℕ) (records : List Record) (t : ℕ) (m : Member
   pub many : length m.operations ≡ length m.calls
   pub numbers : All (λ n. (1 ≤ n) × (n ≤ last)) m.operations
   pub rising : AllPairs (λ a b. a < b) m.operations
-  pub due : (i : ℕ) (c : Call) → i < length m.calls → c ≡ slice_index_or m.calls i c → has_inverse c ≡ true
+  pub due : (i : ℕ) (c : Noted) → i < length m.calls → c ≡ slice_index_or m.calls i c → has_inverse c ≡ true
       → IsDue records t (slice_index_or m.operations i 0)
 
 abbrev pub AreReported : ℕ → List Member → List Record → Type 0
@@ -157,13 +158,14 @@ pub record IsEscrowed (counters : ℕ) (m : Base) (e : Escrowed) : Type 0 where
   pub counts : (c : ℕ) → c < counters → count_at e.committed c ≡ m.counts c
 
 -- operations of which none has begun, in a log area without records but the images that it began with, and an escrow
--- without pending adds
+-- without adds that are pending or set aside
 pub record IsFresh {D : Type 0} (o : Operations D) (e : Escrowed) : Type 0 where
   pub locks : o.locks ≡ []
   pub unclaimed : claimed o ≡ 0
   pub images : AreImages (appended (operation_log o))
   pub room : used (operation_log o) < area_size (operation_log o)
   pub pending : e.pending ≡ []
+  pub aside : e.aside ≡ []
 
 -- What the parts keep of one another, whatever one of the operations is about: the laws' state is kept; each
 -- operation is its transaction's only one; each page lock is of one of them; numbers are used once; the log has room
@@ -348,7 +350,8 @@ pub record IsGranted {D : Type 0} (g : Ghosts D) (origin : Origin) (base : Base)
   pub free : AreAllFree (held_of was_locks) t (locks_of op)
   pub committed : k.escrow.committed ≡ was_escrow.committed
   pub more : k.escrow.pending ≡ was_escrow.pending ++ add_before t op []
-  pub admitted : IsAdmitted (after origin.first k.book.items) was_escrow.pending t op
+  pub aside : k.escrow.aside ≡ was_escrow.aside
+  pub admitted : IsAdmitted (after origin.first k.book.items) (all_adds was_escrow) t op
 
 -- the parts without what was granted for a call
 abbrev pub without_call : {D : Type 0} → List (Object × List Holder) → Escrowed → Core D → Core D

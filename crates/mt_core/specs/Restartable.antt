@@ -1,17 +1,20 @@
 -- What the log's records say of the transactions, and that a restart over each beginning of them finds its base.
-use Rattle.std.specs.Prelude.{ℕ, ◌*◌, ◌≡◌, ◌≤◌, ◌+◌, ◌++◌, Bool, cond, List, [], ◌∷◌, Option, Some, None, filter, map, length, Result, Ok, Err}
+use Rattle.std.specs.Prelude.{ℕ, ◌*◌, ◌≡◌, ◌≤◌, ◌+◌, ◌++◌, Bool, cond, List, [], ◌∷◌, Option, Some, None, filter, is_some, map, length, Result, Ok, Err, ⊤}
 use Rattle.mt_disk.specs.declared.device.Device.{Ghosts}
 use Rattle.mt_base.specs.declared.limits.TheConstants.{MAX_LIVE, MIB_BYTES, MIN_AREA_MIB}
 use Rattle.mt_base.specs.declared.refusal.Refusal.{Refusal}
 use Rattle.mt_frame.specs.declared.records.Record.{Record}
-use Rattle.mt_live.specs.Entries.{Entry, runs}
+use Rattle.mt_live.specs.Entries.{Entry, calls, kept, runs}
 use Rattle.mt_live.specs.Laws.{in_turn, without_all}
 use Rattle.mt_live.specs.Lives.{member_of, IsChanged}
-use Rattle.mt_live.specs.Members.{Member, has_inverse, with_call, taken_back}
-use Rattle.mt_live.specs.Undoing.{cut_back}
+use Rattle.mt_live.specs.declared.transactions.Role.TheVariants.{Stands, Back}
+use Rattle.mt_live.specs.Members.{Member, Noted, noted, has_inverse, with_call, with_back, taken_back}
+use Rattle.mt_live.specs.Undoing.{only, cut_back, mark_last}
+use Rattle.mt_live.specs.declared.transactions.TxnState.{TxnState}
+use Rattle.mt_live.specs.declared.transactions.TxnState.TheVariants.{Open, Committing, Returning, Aborting}
 use Rattle.mt_log.specs.Words.{appended, durable, area_size}
 use Rattle.mt_model.specs.History.{Call, run, after}
-use Rattle.mt_model.specs.Model.{Base}
+use Rattle.mt_model.specs.Model.{Base, inverse_of}
 use Rattle.mt_model.specs.declared.history.Committed.{Committed}
 use Rattle.mt_model.specs.declared.operations.Reply.{Reply}
 use Rattle.mt_op.specs.Records.{end_of}
@@ -24,23 +27,31 @@ use Rattle.mt_replay.specs.Recorded.{Recorded, Finished, tell, tells, its, op_of
 use Rattle.mt_space.specs.Changes.{PageBytes}
 use Rattle.mt_core.specs.Booked.{txns_of, durable_count}
 use Rattle.mt_core.specs.Consistent.{Origin, session_in, IsConsistent}
-use Rattle.mt_core.specs.Runs.{is_at_work}
+use Rattle.mt_core.specs.Runs.{is_at_work, state_in}
 use Rattle.mt_core.specs.declared.parts.Core.{Core}
 use Rattle.mt_core.specs.Seen.{core_log, core_pool}
 
 -- ---- what did something
 
+-- it stands and did something
 abbrev pub did : Entry → Bool
-did e = has_inverse (e.op, e.reply)
+did e = has_inverse (noted e.role (e.op, e.reply))
+
+abbrev pub did_call : Call → Bool
+did_call c = is_some (inverse_of c.0 c.1)
 
 abbrev pub effects_of : Committed → List Call
-effects_of c = filter has_inverse c.calls
+effects_of c = filter did_call c.calls
+
+-- of a transaction, those taken back and their inverses among them
+abbrev pub its_effects : ℕ → List Entry → List Call
+its_effects t es = filter did_call (calls (kept (only t) es))
 
 abbrev pub entry_of : Finished → Entry
-entry_of f = record { txn = f.txn; op = op_of f.done; reply = reply_in f.done }
+entry_of f = record { txn = f.txn; op = op_of f.done; reply = reply_in f.done; role = Stands }
 
 -- the numbers of the operations whose calls did something
-abbrev pub numbers_did : List Call → List ℕ → List ℕ
+abbrev pub numbers_did : List Noted → List ℕ → List ℕ
 numbers_did [] ns = []
 numbers_did (c ∷ cs) [] = []
 numbers_did (c ∷ cs) (n ∷ ns) = cond (has_inverse c) (n ∷ numbers_did cs ns) (numbers_did cs ns)
@@ -52,13 +63,23 @@ numbers_of (Some m) = cond (is_at_work m.state) (numbers_did m.calls m.operation
 
 -- ---- what the records say
 
+-- What the records have of the ends of a transaction in a state: its effects, until its commit is recorded. Of one that
+-- is being undone they have more than what is left.
+abbrev pub HasEnds : Option TxnState → List Call → List Call → Type 0
+HasEnds None ends mine = ends ≡ mine
+HasEnds (Some Open) ends mine = ends ≡ mine
+HasEnds (Some Committing) ends mine = ends ≡ []
+HasEnds (Some (Returning first)) ends mine = ends ≡ mine
+HasEnds (Some Aborting) ends mine = ⊤
+
 -- Of a book with commits of these transactions after it, in their order, and of the others, which are at work: what
--- each has committed, and what each has done, under its numbers.
+-- each has committed, what stands of each and did something, under its numbers, and what of each has ended.
 pub record IsTelling (book : List Committed) (ts : List ℕ) (ms : List Member) (standing : List Entry)
     (x : Recorded) : Type 0 where
   pub books : map calls_of x.books ≡ map effects_of (book ++ in_turn (session_in ms) ts standing)
   pub live : map entry_of x.live ≡ filter did (without_all ts standing)
   pub numbers : (t : ℕ) → map (λ (f : Finished). f.op) (its t x.live) ≡ numbers_of (member_of ms t)
+  pub ends : (t : ℕ) → HasEnds (state_in ms t) (calls_of (its t x.ends)) (its_effects t standing)
 
 -- The records name what is in the book since the area began, the commits under way and the transactions at work, and
 -- have led to what these leave.
@@ -150,7 +171,8 @@ pub record SameBook {D : Type 0} (k n : Core D) : Type 0 where
 -- an operation stands after all others, with this reply
 pub record NotesEnd {D : Type 0} (k n : Core D) (r : OpScope) (reply : Reply) : Type 0 where
   pub same : SameBook k n
-  pub standing : n.live.standing ≡ k.live.standing ++ record { txn = r.txn; op = r.op; reply = reply } ∷ []
+  pub standing : n.live.standing
+      ≡ k.live.standing ++ record { txn = r.txn; op = r.op; reply = reply; role = Stands } ∷ []
   pub members : IsChanged k.live.members n.live.members r.txn (λ m. with_call m r.number (r.op, reply))
   pub count : length n.live.members ≡ length k.live.members
 
@@ -159,6 +181,14 @@ pub record NotesUndone {D : Type 0} (k n : Core D) (r : OpScope) : Type 0 where
   pub same : SameBook k n
   pub standing : n.live.standing ≡ cut_back r.txn k.live.standing
   pub members : IsChanged k.live.members n.live.members r.txn taken_back
+  pub count : length n.live.members ≡ length k.live.members
+
+-- the last effect of a transaction is taken back, and its inverse stands after all others, with this reply
+pub record NotesBack {D : Type 0} (k n : Core D) (r : OpScope) (reply : Reply) : Type 0 where
+  pub same : SameBook k n
+  pub standing : n.live.standing
+      ≡ mark_last r.txn k.live.standing ++ record { txn = r.txn; op = r.op; reply = reply; role = Back } ∷ []
+  pub members : IsChanged k.live.members n.live.members r.txn (λ m. with_back m r.number (r.op, reply))
   pub count : length n.live.members ≡ length k.live.members
 
 -- parts that are consistent, and become so, stay restartable

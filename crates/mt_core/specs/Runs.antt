@@ -4,10 +4,10 @@ use Rattle.std.specs.List.{list_any}
 use Rattle.std.specs.Option.{option_map}
 use Rattle.mt_base.specs.declared.limits.TheConstants.{OPERATION_LOG_BYTES}
 use Rattle.mt_live.specs.declared.transactions.TxnState.{TxnState}
-use Rattle.mt_live.specs.declared.transactions.TxnState.TheVariants.{Open, Committing, Aborting}
-use Rattle.mt_live.specs.Entries.{Entry}
+use Rattle.mt_live.specs.declared.transactions.TxnState.TheVariants.{Open, Committing, Returning, Aborting}
+use Rattle.mt_live.specs.Entries.{Entry, is_standing}
 use Rattle.mt_live.specs.Lives.{member_of, has_room, IsAbove}
-use Rattle.mt_live.specs.Members.{Member, last_operation}
+use Rattle.mt_live.specs.Members.{Member, Noted, has_inverse, last_operation}
 use Rattle.mt_live.specs.Undoing.{last_effect}
 use Rattle.mt_model.specs.History.{Call}
 use Rattle.mt_model.specs.declared.operations.Op.{Op}
@@ -54,6 +54,7 @@ pub record IsRunning (relations counters : ℕ) (w : World) (last : ℕ) (r : Op
 abbrev pub is_at_work : TxnState → Bool
 is_at_work Open = true
 is_at_work Committing = false
+is_at_work (Returning first) = true
 is_at_work Aborting = true
 
 abbrev pub is_open : Option Member → Bool
@@ -86,9 +87,9 @@ pub record IsOwned (ms : List Member) (standing : List Entry) (r : OpScope) : Ty
 abbrev pub undo_bytes : Op → ℕ
 undo_bytes op = if only_reads op then 0 else OPERATION_LOG_BYTES
 
--- of an entry that did something
+-- of an entry that stands and did something
 abbrev pub weighed : (Op → ℕ) → Entry → ℕ
-weighed weight e = cond (is_some (inverse_of e.op e.reply)) (weight e.op) 0
+weighed weight e = cond (is_standing e.role && is_some (inverse_of e.op e.reply)) (weight e.op) 0
 
 -- of a call, as of its entry
 abbrev pub call_weighed : (Op → ℕ) → Call → ℕ
@@ -99,6 +100,16 @@ call_pages c = call_weighed undo_pages c
 
 abbrev pub call_bytes : Call → ℕ
 call_bytes c = call_weighed undo_bytes c
+
+-- of a call with its role
+abbrev pub noted_weighed : (Op → ℕ) → Noted → ℕ
+noted_weighed weight n = cond (has_inverse n) (weight n.op) 0
+
+abbrev pub noted_pages : Noted → ℕ
+noted_pages n = noted_weighed undo_pages n
+
+abbrev pub noted_bytes : Noted → ℕ
+noted_bytes n = noted_weighed undo_bytes n
 
 abbrev pub entry_pages : Entry → ℕ
 entry_pages e = weighed undo_pages e

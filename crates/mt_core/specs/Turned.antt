@@ -1,5 +1,5 @@
 -- What goes on if the log turns over to its other area.
-use Rattle.std.specs.Prelude.{ℕ, ◌≡◌, List, []}
+use Rattle.std.specs.Prelude.{◌≡◌, []}
 use Rattle.mt_disk.specs.declared.device.Device.{Ghosts}
 use Rattle.mt_escrow.specs.Seen.{Escrowed}
 use Rattle.mt_model.specs.Model.{Base, IsBase}

@@ -76,6 +76,7 @@ impl<D: Device> Core<D> {
             → result ≡ Err Refusal.LogFull }
         ensures opened { IfOk result (λ txn. SetsState self.old self.new txn (Some Open)) }
         ensures same_running { SameRunning self.old self.new }
+        ensures numbers { self.new.last ≡ self.old.last }
         ensures same_commits { SameCommits self.old self.new }
         ensures device { core_device self.new ≡ core_device self.old }
         ensures restartable { length self.old.live.members < MAX_LIVE
@@ -96,6 +97,7 @@ impl<D: Device> Core<D> {
         ensures state { StaysIn D.Device self.old self.new }
         ensures aborts { SetsState self.old self.new txn (Some Aborting) }
         ensures running { self.new.running ≡ self.old.running }
+        ensures numbers { self.new.last ≡ self.old.last }
         ensures same_commits { SameCommits self.old self.new }
         ensures few { (origin : Origin) (base : Base) → IsConsistent D.Device origin base self.old
             → undo_steps self.new txn ≤ most_steps self.old txn }
@@ -105,13 +107,13 @@ impl<D: Device> Core<D> {
         self.live.set_state(txn, TxnState::Aborting);
     }
 
-    /// Begins the commit of a transaction at work that runs nothing: its Commit is appended, and it is the last of
+    /// Begins the commit of an open transaction that runs nothing: its Commit is appended, and it is the last of
     /// the commits under way. Answers its place among all commits, from 1.
     ///
-    /// Refused with 1 for want of memory; the transaction is at work as before.
+    /// Refused with 1 for want of memory; the transaction is open as before.
     pub fn commit_begin(&mut self, txn: TxnNo) -> Result<usize, Refusal>
         requires safe { IsSound D.Device self.old }
-        requires at_work { is_open (member_of self.old.live.members txn) ≡ true }
+        requires opened { state_in self.old.live.members txn ≡ Some Open }
         requires idle { All (λ (r : OpScope). r.txn ≢ txn) self.old.running.items }
         ensures state { StaysIn D.Device self.old self.new }
         ensures begins { IfOk result (BeginsCommit self.old self.new txn) }
@@ -139,10 +141,12 @@ impl<D: Device> Core<D> {
     {
         let reserved = self.reserved;
         let Commit { txn, place: _ } = self.commits.remove(0);
+        let ended = self.live.ended(txn);
+        let pages = all_pages_kept(ended.calls, ended.roles);
+        let bytes = all_bytes_kept(ended.calls, ended.roles);
         let done = self.live.leave(txn);
-        let calls = done.calls.as_slice();
-        self.operations.give_back(all_pages_kept(calls));
-        self.reserved = reserved - (TRANSACTION_LOG_BYTES - END_LOG_BYTES + all_bytes_kept(calls));
+        self.operations.give_back(pages);
+        self.reserved = reserved - (TRANSACTION_LOG_BYTES - END_LOG_BYTES + bytes);
         self.book.push_reserved(done);
         self.locks.release(txn);
         self.escrow.commit(txn);
@@ -162,6 +166,7 @@ impl<D: Device> Core<D> {
         ensures rest { self.new.commits.items
             ≡ drop (durable_count self.old.commits.items place) self.old.commits.items }
         ensures running { self.new.running ≡ self.old.running }
+        ensures numbers { self.new.last ≡ self.old.last }
         ensures states { SameUncommitted self.old self.new }
         ensures undo { LeavesUndo self.old self.new }
         // If the records up to this place are durable: none is booked that a crash may take away.
@@ -226,6 +231,8 @@ impl<D: Device> Core<D> {
         ensures log { core_log self.new ≡ core_log self.old }
         ensures pool { core_pool self.new ≡ core_pool self.old }
         ensures content { D.seen (core_device self.new) ≡ D.seen (core_device self.old) }
+        ensures calls { D.moment (core_device self.new)
+            ≤ D.moment (core_device self.old) + pages (core_pool self.old) + 2 }
         ensures cause { IfErr result (λ why. (why ≡ Refusal.NoMemory) ⊎ (why ≡ Refusal.DeviceFailed)
             × (D.faults (core_device self.old) < D.faults (core_device self.new))) }
         ensures quiet { (result ≡ Err Refusal.DeviceFailed → ⊥)

@@ -27,6 +27,7 @@ pub(crate) fn let_go(escrow: &mut Escrow, txn: TxnNo, op: &Op)
     ensures last { (ps : List Pending) → escrow.old.pending ≡ ps ++ add_before txn op.now []
         → escrow.new.pending ≡ ps }
     ensures committed { escrow.new.committed ≡ escrow.old.committed }
+    ensures aside { escrow.new.aside ≡ escrow.old.aside }
 {
     if let Op::Add(counter, step) = op {
         escrow.taken_back(txn, *counter, *step);
@@ -39,6 +40,7 @@ fn let_inverted_go(escrow: &mut Escrow, txn: TxnNo, inverse: &Op)
     ensures given { (op : Op) (reply : Reply) → inverse_of op reply ≡ Some inverse.now
         → GivesBack txn op escrow.old.pending escrow.new.pending }
     ensures committed { escrow.new.committed ≡ escrow.old.committed }
+    ensures aside { escrow.new.aside ≡ escrow.old.aside }
 {
     if let Op::Add(counter, step) = inverse {
         escrow.taken_back(txn, *counter, -*step);

@@ -88,6 +88,7 @@ impl<D: Device> Core<D> {
         self.operations.append(Record::AbortEnd { txn })?;
         self.live.leave(txn);
         self.locks.release(txn);
+        self.escrow.leave(txn);
         self.reserved -= TRANSACTION_LOG_BYTES;
         Ok(())
     }

@@ -2,3 +2,4 @@ pub mod CheckLemmas
 pub mod DumpLemmas
 pub mod ExplainLemmas
 pub mod HeldLemmas
+pub mod MigrateLemmas

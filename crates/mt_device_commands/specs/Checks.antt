@@ -4,6 +4,7 @@ use Rattle.std.specs.Borrow.{Bor}
 use Rattle.std.specs.Fmt.{decimal}
 use Rattle.std.specs.List.{concat}
 use Rattle.std.specs.Io.KnownBytes.{Appends, Keeps}
+use Rattle.mt_base.specs.Limits.{number_of_format}
 use Rattle.mt_base.specs.declared.refusal.Refusal.{Refusal}
 use Rattle.mt_replay.specs.Refused.{BreaksFormat, BreaksLog, IsCause}
 use Rattle.mt_restart.specs.Inspected.{IsSound}
@@ -25,7 +26,8 @@ figure_line f = number_line f.0.now f.1
 
 -- a line for each figure of a report
 abbrev pub report_text : Report → List ℕ
-report_text r = concat (number_line (codes "epoch ") r.epoch ∷ number_line (codes "area ") r.area
+report_text r = concat (number_line (codes "format ") (number_of_format r.format)
+    ∷ number_line (codes "epoch ") r.epoch ∷ number_line (codes "area ") r.area
     ∷ number_line (codes "batches ") r.batches ∷ number_line (codes "records ") r.records
     ∷ number_line (codes "commits ") r.commits ∷ [])
 

@@ -2,3 +2,4 @@ pub mod Checks
 pub mod Dumps
 pub mod Explains
 pub mod Formattings
+pub mod Migrations

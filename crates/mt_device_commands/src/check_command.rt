@@ -64,13 +64,14 @@ pub(crate) fn write_figures<W: Write>(
     Ok(())
 }
 
-/// Writes a line for each figure of a report.
+/// Writes a line for each figure of a report, the format first.
 fn write_report<W: Write>(writer: &mut W, report: &Report) -> Result<(), Unheard>
     ensures all { OnOk result (Appends (W.contents writer.old) (W.contents writer.new) (report_text report.now)) }
     ensures front { OnErr result (AppendsFront (W.contents writer.old) (W.contents writer.new)
         (report_text report.now)) }
 {
     let figures = [
+        ("format ", u64::from(report.format.number())),
         ("epoch ", report.epoch),
         ("area ", u64::from(report.area)),
         ("batches ", report.batches),
@@ -98,8 +99,8 @@ fn write_check<W: Write>(writer: &mut W, report: &Report, pages: bool) -> Result
     put(writer, last_line(pages).as_bytes())
 }
 
-/// Does `check`: reports what the log of the device in a file holds, and that its pages break no rule if that is asked
-/// for. The file is only read.
+/// Does `check`: reports the format of the device in a file, and what its log holds, and that its pages break no rule
+/// if that is asked for. The file is only read.
 ///
 /// Refused by `NoMemory`, by `DeviceFailed` if there is no such file or it cannot be read, by `NotFormatted`, and by
 /// `BadFormat` with an offset that breaks the format. Nothing is written then. If the output fails, it has a beginning

@@ -31,6 +31,7 @@ fn seconds_of(command: &Command) -> usize {
         Command::Format { wait, .. } => *wait,
         Command::Dump { wait, .. } => *wait,
         Command::Explain { wait, .. } => *wait,
+        Command::Migrate { wait, .. } => *wait,
         Command::Run { wait, .. } => *wait,
         _ => 0,
     }

@@ -1,25 +1,25 @@
 -- The last add that is a given one goes from the list.
-use Rattle.std.proofs.Common.{◌≡◌, ℕ, zero, suc, ◌+◌, ◌-◌, ◌==◌, Bool, true, false, cond, List, [], ◌∷◌, ◌++◌, Contains, take, drop, remove, refl, ap, sym, subst, ◌∙◌, arith}
+use Rattle.std.proofs.Common.{◌≡◌, ℕ, zero, suc, ◌==◌, Bool, true, false, cond, List, [], ◌∷◌, ◌++◌, Contains, take, drop, remove, refl, ap, sym, subst, ◌∙◌, arith}
 use Rattle.std.proofs.lemmas.Bool.Decides.{Decides-eqb}
 use Rattle.std.proofs.lemmas.List.Elements.{filter-append, Contains-append_right}
 use Rattle.mt_base.proofs.Removing.{ends, in_filter, none_behind, parted, removed_last}
 use Rattle.mt_model.specs.declared.pending_add.Pending.{Pending}
 use Rattle.mt_model.specs.Pending.{pending_of, TakesOut}
-use Rattle.mt_escrow.specs.Seen.{LosesLast, IsLastAt}
+use Rattle.mt_escrow.specs.Seen.{LosesLast, IsLastAdd}
 
-pub loses_last : (old : List Pending) (p : Pending) (i : ℕ) → IsLastAt old p i → LosesLast p old (remove old i)
-loses_last old p i at = record { last = removed_last old p i at.there at.is at.last; absent = λ apart. absurd (apart (i, at.there, at.is)) }
+pub loses_last : (old : List Pending) (p : Pending) (i : ℕ) → IsLastAdd old p i → LosesLast p old (remove old i)
+loses_last old p i at = record { last = removed_last old p i at.there at.is at.last; none_there = λ apart. absurd (apart (i, at.there, at.is)) }
 
 pub loses_none : (old : List Pending) (p : Pending) → (Contains old p → ⊥) → LosesLast p old old
 loses_none old p apart = record {
   last = λ front back is clear. absurd (apart (subst (λ xs. Contains xs p) (sym is) (Contains-append_right front (p ∷ back) p (zero, omega arith, refl))));
-  absent = λ none_there. refl;
+  none_there = λ none_there. refl;
 }
 
 self_test : (n : ℕ) → (n == n) ≡ true
 self_test n = (Decides-eqb n n).1 refl
 
-pub takes_out : (old : List Pending) (p : Pending) (i : ℕ) → IsLastAt old p i → TakesOut p old (remove old i)
+pub takes_out : (old : List Pending) (p : Pending) (i : ℕ) → IsLastAdd old p i → TakesOut p old (remove old i)
 takes_out old p i at = record {
   its = λ front is.
       filter-append (λ (q : Pending). q.txn == p.txn) (take i old) (drop (suc i) old)

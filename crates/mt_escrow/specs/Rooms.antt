@@ -1,5 +1,5 @@
 -- What is kept of a counter beside its pending adds.
-use Rattle.std.specs.Prelude.{ℕ, ℤ, pos, neg_ℤ, ◌+ℤ◌, ◌-ℤ◌, ◌≤ℤ◌, ◌≡◌, ◌<◌, List, length, All, slice_index_or}
+use Rattle.std.specs.Prelude.{ℕ, ℤ, pos, neg_ℤ, ◌+ℤ◌, ◌-ℤ◌, ◌≤ℤ◌, ◌≡◌, ◌<◌, ◌≤◌, ◌+◌, List, ◌++◌, length, All, slice_index_or}
 use Rattle.mt_base.specs.Limits.{IsStep}
 use Rattle.mt_model.specs.declared.counters.Count.{Count}
 use Rattle.mt_model.specs.declared.pending_add.Pending.{Pending}
@@ -17,7 +17,7 @@ IsBroad z = (neg_ℤ (pos 10000000000000000) ≤ℤ z) × (z ≤ℤ pos 10000000
 abbrev pub IsModest : Room → Type 0
 IsModest r = IsBroad r.count.number × IsBroad r.lowest × IsBroad r.highest
 
--- a counter to which no add is pending
+-- a counter to which no add is granted
 abbrev pub fresh : Count → Room
 fresh n = record { count = n; lowest = pos 0; highest = pos 0 }
 
@@ -44,7 +44,7 @@ room_at rooms c = slice_index_or rooms c (fresh no_count)
 abbrev pub count_of : Room → Count
 count_of r = r.count
 
--- a room keeps the two sums of the steps that are pending, and these stay in the bounds
+-- a room keeps the two sums of the steps that are granted, and these stay in the bounds
 pub record IsKept (r : Room) (ds : List ℤ) : Type 0 where
   pub limited : IsLimited r.count
   pub lowest : r.lowest ≡ lowest ds
@@ -52,6 +52,19 @@ pub record IsKept (r : Room) (ds : List ℤ) : Type 0 where
   pub fits : HasRoom r.count ds
 
 -- each room does so, and each add is to a counter that is there, by a step within its limits
-pub record AreKept (rooms : List Room) (pending : List Pending) : Type 0 where
-  pub each : (c : ℕ) → IsKept (room_at rooms c) (steps_at c pending)
-  pub adds : All (λ (p : Pending). (p.counter < length rooms) × IsStep p.step) pending
+pub record AreKept (rooms : List Room) (granted : List Pending) : Type 0 where
+  pub each : (c : ℕ) → IsKept (room_at rooms c) (steps_at c granted)
+  pub adds : All (λ (p : Pending). (p.counter < length rooms) × IsStep p.step) granted
+
+-- they do so for these adds and some others
+abbrev pub AreKeptFor : List Room → List Pending → Type 0
+AreKeptFor rooms adds = (others : List Pending) × AreKept rooms (adds ++ others)
+
+-- whichever others there are, rooms that kept the steps of both keep those of the others and of these adds now
+abbrev pub KeepsBeside : List Room → List Pending → List Room → List Pending → Type 0
+KeepsBeside old adds new left = (others : List Pending) → AreKept old (adds ++ others) → AreKept new (left ++ others)
+
+-- what is kept of an escrow: its rooms keep what is granted, and there is memory to set aside each pending add
+pub record IsWell (rooms : List Room) (pending aside : List Pending) (used capacity : ℕ) : Type 0 where
+  pub kept : AreKept rooms (aside ++ pending)
+  pub room : used + length pending ≤ capacity

@@ -1,15 +1,15 @@
-// How far a counter may go while adds to it are pending.
-ghost use Rattle.std.specs.Prelude.{◌≡◌, ℕ, ◌↔◌, IsTrue, MatchOption, Contains};
+// How far a counter may go while adds to it are granted and not settled.
+ghost use Rattle.std.specs.Prelude.{◌≡◌, ℕ, ◌↔◌, IsTrue, MatchOption, Contains, map};
 ghost use Rattle.mt_base.specs.Limits.{IsStep};
 ghost use Rattle.mt_model.specs.Pending.{pending_without, moved_by};
-ghost use Rattle.mt_escrow.specs.Rooms.{IsModest, Fits, fresh, held, let_go, settled, room_at, count_of, AreKept};
-ghost use Rattle.mt_escrow.specs.Seen.{IsLastAt};
+ghost use Rattle.mt_escrow.specs.Rooms.{IsModest, Fits, fresh, held, let_go, settled, room_at, count_of, AreKeptFor, KeepsBeside};
+ghost use Rattle.mt_escrow.specs.Seen.{IsLastAdd};
 
 use crate::arithmetic::{are_between, difference_of, part_above, part_below, sum_of};
 use mt_base::TxnNo;
 use mt_model::{Count, Pending};
 
-/// A counter as it is committed, beside the sum of its pending steps down and that of its pending
+/// A counter as it is committed, beside the sum of its granted steps down and that of its granted
 /// steps up.
 #[derive(Clone, Copy, Debug)]
 pub struct Room {
@@ -19,7 +19,7 @@ pub struct Room {
 }
 
 impl Room {
-    /// A counter to which no add is pending.
+    /// A counter to which no add is granted.
     pub fn new(count: Count) -> Room
         ensures { result ≡ fresh count }
     {
@@ -30,7 +30,7 @@ impl Room {
         }
     }
 
-    /// The room with one more step pending.
+    /// The room with one more step granted.
     pub fn with(self, step: i64) -> Room
         requires modest { IsModest self }
         requires step { IsStep step }
@@ -43,7 +43,7 @@ impl Room {
         }
     }
 
-    /// The room with one of its steps no longer pending.
+    /// The room with one of its steps no longer granted.
     pub fn without(self, step: i64) -> Room
         requires modest { IsModest self }
         requires step { IsStep step }
@@ -67,8 +67,8 @@ impl Room {
         room
     }
 
-    /// Whether the counter stays in its bounds with all its pending steps down, and with all its
-    /// pending steps up, ends included.
+    /// Whether the counter stays in its bounds with all its granted steps down, and with all its
+    /// granted steps up, ends included.
     pub fn fits(self) -> bool
         requires { IsModest self }
         ensures { IsTrue result ↔ Fits self }
@@ -86,8 +86,8 @@ impl Room {
 /// Makes the pending steps of one transaction for good, each in the room of its counter. The rooms
 /// then keep the steps of the others.
 pub fn settle(rooms: &mut [Room], pending: &[Pending], txn: TxnNo)
-    requires { AreKept rooms.old pending.now }
-    ensures kept { AreKept rooms.new (pending_without txn pending.now) }
+    requires { AreKeptFor rooms.old pending.now }
+    ensures kept { KeepsBeside rooms.old pending.now rooms.new (pending_without txn pending.now) }
     ensures counts { (c : ℕ) →
         count_of (room_at rooms.new c) ≡ moved_by txn c pending.now (count_of (room_at rooms.old c)) }
 {
@@ -99,11 +99,26 @@ pub fn settle(rooms: &mut [Room], pending: &[Pending], txn: TxnNo)
     }
 }
 
+/// Takes the steps of one transaction among these out of the rooms of their counters. The rooms then keep the steps of
+/// the others.
+pub fn forget(rooms: &mut [Room], adds: &[Pending], txn: TxnNo)
+    requires { AreKeptFor rooms.old adds.now }
+    ensures kept { KeepsBeside rooms.old adds.now rooms.new (pending_without txn adds.now) }
+    ensures counts { map count_of rooms.new ≡ map count_of rooms.old }
+{
+    for add in adds {
+        if add.txn == txn {
+            let room = &mut rooms[usize::from(add.counter.get())];
+            *room = room.without(add.step);
+        }
+    }
+}
+
 /// The place of the last pending add that is this one.
 pub fn last_place(pending: &[Pending], add: &Pending) -> Option<usize>
     ensures { MatchOption result
         (Contains pending.now add.now → ⊥)
-        (λ i. IsLastAt pending.now add.now i) }
+        (λ i. IsLastAdd pending.now add.now i) }
 {
     for i in (0..pending.len()).rev() {
         if pending[i] == *add {

@@ -22,6 +22,7 @@ module _ {D : Type 0} (g : Ghosts D) (s : Schema) (o : Operations D) (e : Escrow
     images = no_images (appended o.store.log) fresh.operations.empty;
     room = let head = fresh.operations.head in let size = fresh.operations.size in let large = s.area_size.0 in omega (arith, head, size, large);
     pending = fresh.escrow.pending;
+    aside = fresh.escrow.aside;
   }
 
   pub opens_of : (relations counters : ℕ) → relations_in s ≡ relations → length (counters_in s) ≡ counters → Opens g o e relations counters (schema_base s)

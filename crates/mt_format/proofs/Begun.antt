@@ -97,6 +97,7 @@ module _ {D : Type 0} (g : Ghosts D) (s : Schema) (frames : ℕ) (device : D) (l
     place = p.place;
     start = ap start_of named ∙ first_start s ∙ sym l.start;
     end = ap end_of named ∙ first_end s ∙ sym l.end;
+    second = ap (λ (m : MasterSlot). m.format) named;
   }
 
   pub begun_rules : (c : List ℕ) → g.may_leave device c → IsRuling c ruling

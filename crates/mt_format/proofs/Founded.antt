@@ -1,5 +1,6 @@
 -- A device as it is formatted represents the schema's first base.
-use Rattle.std.proofs.Common.{◌<◌, ℕ, List, [], ◌∷◌, length, refl, sym, subst, arith}
+use Rattle.std.proofs.Common.{◌≡◌, ◌<◌, ℕ, List, [], ◌∷◌, length, refl, sym, subst, arith}
+use Rattle.mt_base.specs.declared.format.Format.TheVariants.{One, Two}
 use Rattle.mt_log.specs.Holds.{HoldsBatches}
 use Rattle.mt_log.specs.Masters.{area_size}
 use Rattle.mt_model.specs.Model.{Base, IsBase}
@@ -28,6 +29,7 @@ pub read_first : (s : Schema) (c : List ℕ) → IsFormattedAs s c → IsReadAs 
 read_first s c f = record {
   rules = first_rules s c f;
   held = subst (λ (X : Type 0). X) (λ i. HoldsBatches c (sym (first_start s) i) (sym (first_end s) i) (pages_in s) ([] ∷ [])) f.area;
+  of_its_format = (tt, tt);
   gives = λ p lt. refl;
 }
 
@@ -37,6 +39,8 @@ good_first s c f = formatted_good (relations_in s) (length (counters_in s)) (pag
 pub format_stands : (s : Schema) (c : List ℕ) → IsBase (schema_base s) → IsFormattedAs s c → CanRestart (relations_in s) (length (counters_in s)) c (schema_base s)
 format_stands s c bounds f = record {
   stands = record { slot = first_slot s; opening = slot 8192 c; batches = [] ∷ []; read = read_first s c f; first = schema_base s; holds = f.base; bounds = bounds; is = refl };
+  is_of = refl;
   fits = s.relation_count;
   recoverable = recoverable_none (relations_in s) (length (counters_in s)) (pages_in s) (area_size (first_slot s)) (slot 8192 c) (schema_base s) (good_first s c f) bounds (let some = s.area_size.0 in omega (arith, some));
+  short = λ (first : Two ≡ One). absurd cc;
 }

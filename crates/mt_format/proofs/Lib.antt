@@ -1,6 +1,5 @@
 pub mod Begun
 mod Tears
-mod Counters
 mod Formed
 mod Shut
 mod Zeros

@@ -51,10 +51,11 @@ pub record IsFirstIdle (s : Schema) (idle : Idle) : Type 0 where
       → FitsPages (pages_in s) pages idle
   pub unclaimed : idle_claims idle ≡ 0
 
--- each counter of the schema at its start, and no add pending
+-- each counter of the schema at its start, and no add pending or set aside
 pub record IsFirstEscrow (s : Schema) (e : Escrowed) : Type 0 where
   pub committed : e.committed ≡ counters_in s
   pub pending : e.pending ≡ []
+  pub aside : e.aside ≡ []
 
 -- all that a kernel has beside the device
 pub record AreFirstLayers (s : Schema) (frame_count : ℕ) (layers : FirstLayers) : Type 0 where

@@ -3,6 +3,7 @@ use Rattle.std.specs.Prelude.{◌≡◌, ◌≢◌, ◌⊎◌, ◌+◌, ◌*◌,
 use Rattle.std.proofs.Math.ListN.{get_or}
 use Rattle.mt_disk.specs.declared.device.Device.{Ghosts}
 use Rattle.mt_frame.specs.declared.TheConstants.{OPEN_GATE}
+use Rattle.mt_base.specs.declared.format.Format.TheVariants.{Two}
 use Rattle.mt_base.specs.declared.limits.TheConstants.{MASTER_BYTES, PAGE_BYTES}
 use Rattle.mt_bucket.specs.Page.{depth_of, next_of, entries, IsBucket}
 use Rattle.mt_disk.specs.Disk.{Has, HasCause, LeavesOnly, Only, Torn, Follows}
@@ -13,7 +14,7 @@ use Rattle.mt_log.specs.Holds.{HoldsBatches}
 use Rattle.mt_model.specs.Tables.{count_at}
 use Rattle.mt_pool.specs.Images.{slot}
 use Rattle.mt_space.specs.Changes.{PageBytes}
-use Rattle.mt_steps.specs.Counters.{AreCounters, count_in}
+use Rattle.mt_counters.specs.Counters.{AreCounters, count_in}
 use Rattle.mt_steps.specs.Formatted.{IsFormatted}
 use Rattle.mt_steps.specs.Held.{Holds}
 use Rattle.mt_format.specs.declared.schema.Schema.{Schema}
@@ -66,9 +67,9 @@ HasFirstPages s c = AreFirstPages s (slot MASTER_BYTES c)
 
 -- ---- the whole of it
 
--- the first opening, whose log is in area 0
+-- the first opening, in format 2, whose log is in area 0
 abbrev pub first_slot : Schema → MasterSlot
-first_slot s = record { epoch = 1; area = 0; pages = pages_in s; mib = mib_in s }
+first_slot s = record { format = Two; epoch = 1; area = 0; pages = pages_in s; mib = mib_in s }
 
 -- an empty open batch and a closed gate
 abbrev pub empty_area : List ℕ

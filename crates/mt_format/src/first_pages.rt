@@ -5,17 +5,17 @@ ghost use Rattle.mt_base.specs.Ranges.{Torn};
 ghost use Rattle.mt_index.specs.Checks.{bytes_of};
 ghost use Rattle.mt_index.specs.Pages.{AreZero};
 ghost use Rattle.mt_model.specs.Tables.{IsLimited};
-ghost use Rattle.mt_steps.specs.Counters.{place_of, count_in};
+ghost use Rattle.mt_counters.specs.Counters.{place_of, count_in};
 ghost use Rattle.mt_format.specs.Formats.{AreFirstPages, IsFirstMap, IsFirstDirectory, IsFirstCounters, IsFirstBucket, IsFirstPage};
 ghost use Rattle.mt_format.specs.Schemas.{pages_in};
 
 use crate::Schema;
+use mt_base::CtrNo;
 use mt_base::limits::PAGE_BYTES;
-use mt_base::ranges::{put, put_i64, put_u16};
+use mt_base::ranges::{put, put_u16};
+use mt_counters::put_counter;
 use mt_index::DIRECTORY_HEAD_BYTES;
-use mt_model::Count;
 use mt_space::pages::{BUCKET, COUNTERS, DIRECTORY, FIXED, MAP};
-use mt_steps::{COUNTER_BYTES, COUNTERS_HEAD_BYTES};
 use std::alloc::{AllocError, Global};
 
 // The page of the first bucket.
@@ -39,19 +39,6 @@ fn directory_page() -> [u8; PAGE_BYTES]
     page
 }
 
-// Puts a counter into its place.
-fn put_counter(page: &mut [u8], counter: u16, count: &Count)
-    requires whole { length page.old ≡ PAGE_BYTES }
-    requires there { counter < MAX_COUNTERS }
-    ensures count { count_in page.new counter ≡ count.now }
-    ensures rest { Torn (place_of counter) 24 page.old page.new }
-{
-    let at = COUNTERS_HEAD_BYTES + COUNTER_BYTES * usize::from(counter);
-    put_i64(page, at, count.low);
-    put_i64(page, at + 8, count.high);
-    put_i64(page, at + 16, count.number);
-}
-
 // The counters of the schema, each at its start.
 fn counters_page(schema: &Schema) -> [u8; PAGE_BYTES]
     ensures { IsFirstCounters schema.now result }
@@ -64,7 +51,7 @@ fn counters_page(schema: &Schema) -> [u8; PAGE_BYTES]
         &[schema.relations() as u8, counters.len() as u8],
     );
     for (number, count) in counters.iter().enumerate() {
-        put_counter(&mut page, number as u16, count);
+        put_counter(&mut page, CtrNo::new(number as u16), count);
     }
     page
 }

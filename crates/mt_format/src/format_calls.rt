@@ -11,7 +11,7 @@ ghost use Rattle.mt_format.specs.declared.schema.Schema.{Schema};
 use crate::Schema;
 use crate::first_pages::page_of;
 use mt_base::limits::MASTER_BYTES;
-use mt_base::{PageNo, Refusal};
+use mt_base::{Format, PageNo, Refusal};
 use mt_disk::{Device, DeviceFault};
 use mt_frame::{CLOSED_GATE, MasterSlot, OPEN_GATE};
 use mt_log::{AreaPlace, FIRST_SLOT, SECOND_SLOT, write_master};
@@ -61,11 +61,12 @@ fn write_content<D: Device>(device: &mut D, schema: &Schema) -> Result<(), Devic
     device.sync()
 }
 
-// The master slot of the first opening, over area 0.
+// The master slot of the first opening, of format 2, over area 0.
 pub(crate) fn first_slot_of(schema: &Schema) -> MasterSlot
     ensures { result ≡ first_slot schema.now }
 {
     MasterSlot {
+        format: Format::Two,
         epoch: FIRST_EPOCH,
         area: 0,
         pages: schema.pages,
@@ -83,9 +84,9 @@ fn write_all<D: Device>(device: &mut D, schema: &Schema) -> Result<(), DeviceFau
     write_master(device, FIRST_SLOT, &first_slot_of(schema))
 }
 
-/// Formats a device with a schema, whatever it held. It closes the gates of both master slots, and syncs. It writes
-/// every page and an empty first log area, and syncs. It writes the first master slot after its gate, and syncs;
-/// then it opens the gate, and syncs. It takes no memory.
+/// Formats a device with a schema, in format 2, whatever it held. It closes the gates of both master slots, and syncs.
+/// It writes every page and an empty first log area, and syncs. It writes the first master slot after its gate, and
+/// syncs; then it opens the gate, and syncs. It takes no memory.
 ///
 /// Then the device holds the schema's first base, whatever a crash leaves, and [`open`](crate::open) finds it. A
 /// crash in this call leaves what it might have left before, but for the gates of the master slots. Or it leaves no

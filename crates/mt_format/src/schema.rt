@@ -9,9 +9,9 @@ ghost use Rattle.mt_format.specs.Within.{IsWithinLimits};
 
 use mt_base::Refusal;
 use mt_base::limits::{
-    area_size_fits, counter_count_fits, counter_fits, device_bytes, page_count_fits,
-    relation_count_fits,
+    area_size_fits, counter_count_fits, device_bytes, page_count_fits, relation_count_fits,
 };
+use mt_counters::counters_fit;
 use mt_model::{Base, Count};
 use std::alloc::Global;
 
@@ -28,19 +28,6 @@ pub struct Schema {
     ghost relation_count: { IsRelationCount (relations_of base) },
     ghost counter_count: { IsCounterCount (length (counters_of base)) },
     ghost no_rows: { length (rows_of base) ≡ 0 },
-}
-
-// Whether the bounds and the start of each counter lie within their limits.
-fn counters_fit(counters: &[(i64, i64, i64)]) -> bool
-    ensures { MatchBool result (All (λ t. IsCounter t.0 t.1 t.2) counters.now)
-        (All (λ t. IsCounter t.0 t.1 t.2) counters.now → ⊥) }
-{
-    for &(low, high, start) in counters {
-        if !counter_fits(low, high, start) {
-            return false;
-        }
-    }
-    true
 }
 
 // Whether all of it lies within the limits.

@@ -10,7 +10,8 @@ use Rattle.mt_frame.specs.declared.fields.ReadError.TheVariants as errors
 use Rattle.mt_frame.specs.declared.records.Record.{Record}
 use Rattle.mt_frame.specs.declared.records.Record.TheVariants.{Page, OpEnd, OpDropped, Commit, AbortEnd}
 use Rattle.mt_frame.specs.Codec.{Fails}
-use Rattle.mt_frame.specs.Grammar.{counted, record_text, body_text, batch_text, IsRecord, IsBatchable, IsBody, IsBatch}
+use Rattle.mt_frame.specs.Grammar.{counted, record_text, body_text, batch_text, IsRecord, IsBatchable, IsBody, IsBatch, IsBodyOf, IsBatchOf}
+use Rattle.mt_base.specs.declared.format.Format.{Format}
 use Rattle.mt_frame.specs.Readers.{record_at, framed_at}
 use Rattle.mt_frame.proofs.CodecLaws.{Reads, IsBytes, prefix_free, some_is, wide32, reads_map, reads_then, reads_byte, reads_counted}
 use Rattle.mt_frame.proofs.RecordLaws.{reads_record}
@@ -127,14 +128,20 @@ batch_found bytes body rest rs fits read row =
       length_of = omega (arith, ap length row.text);
     }
 
+pub batch_of_found : (format : Format) (bytes body rest : List ℕ) (rs : List Record) → IsBytes bytes → framed_at bytes ≡ Some (body, rest) → IsBodyOf format body rs
+    → IsBatchOf format bytes rs (5 + length body)
+batch_of_found format bytes body rest rs fits read row = record { batch = batch_found bytes body rest rs fits read row.row; values = row.values }
+
 -- what a batch's bytes are read as
 batch_framed : (bytes : List ℕ) (rs : List Record) (n : ℕ) → (b : IsBatch bytes rs n) → framed_at bytes ≡ Some (body_text rs, b.front.0)
 batch_framed bytes rs n b = ap framed_at b.front.1 ∙ reads_framed.again (body_text rs) b.front.0 (omega arith, omega (arith, b.batchable.short))
 
-pub batch_wrong : (bytes body rest : List ℕ) → framed_at bytes ≡ Some (body, rest) → ((rs : List Record) → IsBody body rs → ⊥) → (rs : List Record) (n : ℕ) → IsBatch bytes rs n → ⊥
-batch_wrong bytes body rest read none rs n b =
+pub batch_wrong : (format : Format) (bytes body rest : List ℕ) → framed_at bytes ≡ Some (body, rest) → ((rs : List Record) → IsBodyOf format body rs → ⊥) → (rs : List Record) (n : ℕ)
+    → IsBatchOf format bytes rs n → ⊥
+batch_wrong format bytes body rest read none rs n of_format =
+    let b = of_format.batch in
     let same = some_is (body, rest) (body_text rs, b.front.0) (sym read ∙ batch_framed bytes rs n b) in
-    none rs (record { each = b.batchable.each; text = ap (λ p. p.0) same })
+    none rs (record { row = record { each = b.batchable.each; text = ap (λ p. p.0) same }; values = of_format.values })
 
 pub frame_fails : (bytes : List ℕ) (e : ReadError) → Fails e (framed_at bytes) → e ≡ errors.Wrong → (rs : List Record) (n : ℕ) → IsBatch bytes rs n → ⊥
 frame_fails bytes e f is rs n b =

@@ -5,7 +5,8 @@ use Rattle.std.specs.Int.{Width, w16, w32, w64, to_be_bytes, cast_unsigned}
 use Rattle.std.specs.List.{flat_map, AllByRecursion}
 use Rattle.mt_frame.specs.declared.TheConstants.{OPEN_GATE}
 use Rattle.mt_base.specs.declared.limits.TheConstants.{MAX_BEGUN, MAX_COUNTERS, MAX_PAGES, MAX_RELATIONS, PAGE_BYTES}
-use Rattle.mt_base.specs.Limits.{IsKey, IsValue, IsStep}
+use Rattle.mt_base.specs.Limits.{IsKey, IsValue, IsStep, limit_of}
+use Rattle.mt_base.specs.declared.format.Format.{Format}
 use Rattle.mt_frame.specs.declared.records.LoggedOp.{LoggedOp}
 use Rattle.mt_frame.specs.declared.records.LoggedOp.TheVariants.{Insert, Update, Delete, Add}
 use Rattle.mt_frame.specs.declared.records.Record.{Record}
@@ -140,6 +141,25 @@ pub record IsBatchable (records : List Record) : Type 0 where
   pub each : AllByRecursion IsRecord records
   pub short : length (body_text records) < 2 ^ 32
 
+-- ---- which of them are of a format
+
+-- no value is longer than one may be in this format
+abbrev pub IsOperationOf : Format → LoggedOp → Type 0
+IsOperationOf format (Insert relation key value) = length value ≤ limit_of format
+IsOperationOf format (Update relation key value old) = (length value ≤ limit_of format) × (length old ≤ limit_of format)
+IsOperationOf format (Delete relation key old) = length old ≤ limit_of format
+IsOperationOf format (Add counter step) = Unit {0}
+
+abbrev pub IsRecordOf : Format → Record → Type 0
+IsRecordOf format (Page txn op page image start old new) = Unit {0}
+IsRecordOf format (OpEnd txn op undoes done) = IsOperationOf format done
+IsRecordOf format (OpDropped txn op) = Unit {0}
+IsRecordOf format (Commit txn) = Unit {0}
+IsRecordOf format (AbortEnd txn) = Unit {0}
+
+abbrev pub AreOfFormat : Format → List Record → Type 0
+AreOfFormat format records = AllByRecursion (IsRecordOf format) records
+
 -- ---- what bytes are
 
 -- the bytes are a row of whole records, these
@@ -152,3 +172,12 @@ pub record IsBatch (bytes : List ℕ) (records : List Record) (size : ℕ) : Typ
   pub batchable : IsBatchable records
   pub front : (rest : List ℕ) × (bytes ≡ batch_text records ++ rest)
   pub length_of : size ≡ length (batch_text records)
+
+-- the same, of records that this format has
+pub record IsBodyOf (format : Format) (bytes : List ℕ) (records : List Record) : Type 0 where
+  pub row : IsBody bytes records
+  pub values : AreOfFormat format records
+
+pub record IsBatchOf (format : Format) (bytes : List ℕ) (records : List Record) (size : ℕ) : Type 0 where
+  pub batch : IsBatch bytes records size
+  pub values : AreOfFormat format records

@@ -2,7 +2,9 @@
 use Rattle.std.proofs.Math.ListN.{get_or}
 use Rattle.std.specs.Prelude.{ℕ, ℤ, ◌+◌, List, [], ◌∷◌, Option, Some, None, Bool, true, false, not, nat_lt, ◌==◌, ◌&&◌, ◌||◌, if◌then◌else◌}
 use Rattle.std.specs.Int.{w16, w32, w64, cast_signed}
-use Rattle.mt_frame.specs.declared.slots.TheConstants.{LETTERS}
+use Rattle.mt_frame.specs.declared.slots.TheConstants.{FIRST_LETTERS, LETTERS}
+use Rattle.mt_base.specs.declared.format.Format.{Format}
+use Rattle.mt_base.specs.declared.format.Format.TheVariants.{One, Two}
 use Rattle.mt_base.specs.declared.limits.TheConstants.{MAX_BEGUN, MAX_EPOCH, MAX_KEY_BYTES, MAX_VALUE_BYTES, PAGE_BYTES}
 use Rattle.mt_frame.specs.declared.TheConstants.{OPEN_GATE}
 use Rattle.mt_frame.specs.declared.records.LoggedOp.{LoggedOp}
@@ -152,14 +154,29 @@ framed_at = map_at (λ p. p.1) (then_at (byte_at OPEN_GATE OPEN_GATE) (λ _. cou
 
 -- ---- master slots
 
--- gate, letters, epoch, area, pages, MiB
+-- the number that the letters of a format are
+abbrev pub letters_of : Format → ℕ
+letters_of One = FIRST_LETTERS
+letters_of Two = LETTERS
+
+-- the format of these letters
+unfoldable pub format_at : Reader Format
+format_at = map_at (λ n. if n == FIRST_LETTERS then One else Two) (within_at w32 FIRST_LETTERS LETTERS)
+
+-- gate, format, epoch, area, pages, MiB
 abbrev pub SlotParts : Type 0
-SlotParts = ℕ × (ℕ × (ℕ × (ℕ × (ℕ × ℕ))))
+SlotParts = ℕ × (Format × (ℕ × (ℕ × (ℕ × ℕ))))
 
 abbrev pub slot_of : SlotParts → MasterSlot
-slot_of p = record { epoch = p.1.1.0; area = p.1.1.1.0; pages = p.1.1.1.1.0; mib = p.1.1.1.1.1 }
+slot_of p = record {
+  format = p.1.0;
+  epoch = p.1.1.0;
+  area = p.1.1.1.0;
+  pages = p.1.1.1.1.0;
+  mib = p.1.1.1.1.1;
+}
 
 unfoldable pub slot_at : Reader MasterSlot
 slot_at = map_at slot_of (then_at (byte_at OPEN_GATE OPEN_GATE)
-    (λ _. then_at (within_at w32 LETTERS LETTERS) (λ _. then_at (within_at w64 1 MAX_EPOCH)
+    (λ _. then_at format_at (λ _. then_at (within_at w64 1 MAX_EPOCH)
     (λ _. then_at (byte_at 0 1) (λ _. then_at (within_at w16 16 4000) (λ _. byte_at 4 64))))))

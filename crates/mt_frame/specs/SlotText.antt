@@ -4,6 +4,8 @@ use Rattle.std.specs.Prelude.{◌≡◌, ◌≢◌, ℕ, ◌^◌, ◌≤◌, Lis
 use Rattle.std.specs.Int.{w16, w64, to_be_bytes}
 use Rattle.mt_frame.specs.declared.TheConstants.{OPEN_GATE}
 use Rattle.mt_base.specs.Limits.{IsPageCount, IsAreaSize}
+use Rattle.mt_base.specs.declared.format.Format.{Format}
+use Rattle.mt_base.specs.declared.format.Format.TheVariants.{One, Two}
 use Rattle.mt_frame.specs.declared.slots.MasterSlot.{MasterSlot}
 use Rattle.mt_frame.specs.declared.slots.SlotRead.{SlotRead}
 use Rattle.mt_frame.specs.declared.slots.SlotRead.TheVariants.{Closed, Bad, Open}
@@ -14,10 +16,15 @@ pub record IsSlot (slot : MasterSlot) : Type 0 where
   pub pages : IsPageCount slot.pages
   pub mib : IsAreaSize slot.mib
 
--- an open gate, the letters MTK1, the epoch, the area, the pages, the MiB of an area
+-- the last of the letters MTK1 and MTK2
+abbrev pub last_letter : Format → ℕ
+last_letter One = 49
+last_letter Two = 50
+
+-- an open gate, the letters MTK1 or MTK2, the epoch, the area, the pages, the MiB of an area
 abbrev pub slot_text : MasterSlot → List ℕ
 slot_text slot =
-    (OPEN_GATE ∷ 77 ∷ 84 ∷ 75 ∷ 49 ∷ []) ++ (to_be_bytes w64 slot.epoch
+    (OPEN_GATE ∷ 77 ∷ 84 ∷ 75 ∷ last_letter slot.format ∷ []) ++ (to_be_bytes w64 slot.epoch
     ++ ((slot.area ∷ []) ++ (to_be_bytes w16 slot.pages ++ (slot.mib ∷ []))))
 
 pub record IsSlotText (bytes : List ℕ) (slot : MasterSlot) : Type 0 where

@@ -7,15 +7,16 @@ ghost use Rattle.mt_frame.specs.declared.TheConstants.{OPEN_GATE};
 ghost use Rattle.mt_base.specs.declared.refusal.Refusal.{Refusal};
 ghost use Rattle.mt_frame.specs.declared.fields.ReadError.TheVariants.{Wrong};
 ghost use Rattle.mt_frame.specs.declared.records.Record.{Record};
-ghost use Rattle.mt_frame.specs.Grammar.{IsBody, IsBatch};
+ghost use Rattle.mt_frame.specs.Grammar.{IsBody, IsBodyOf, IsBatchOf};
 ghost use Rattle.mt_frame.specs.Codec.{Gives, number_at, within_at, part_at, byte_at, short_at, counted_at, map_at};
 ghost use Rattle.mt_frame.specs.Readers.{Head, txn_at, op_at, name_at, is_step_number, step_at, insert_of, update_of, delete_of, add_of, value_at, keyed_at, update_at, add_at, operation_at, flag_at, is_head, head_at, image_at, is_shortest, range_at, page_of, page_at, end_of, end_at, record_at, framed_at, MAX_NUMBER};
 
 use crate::OPEN_GATE;
 use crate::fields::{ReadError, byte_within, part_of, u16_within, u32_at, u64_at, u64_within};
+use crate::formats::are_of_format;
 use crate::records::{LoggedOp, PageHead, Record};
 use mt_base::limits::{MAX_BEGUN, MAX_STEP, MAX_VALUE_BYTES, PAGE_BYTES};
-use mt_base::{Bytes, CtrNo, OpNo, PageNo, Refusal, RelNo, TxnNo};
+use mt_base::{Bytes, CtrNo, Format, OpNo, PageNo, Refusal, RelNo, TxnNo};
 use std::alloc::Global;
 
 // ---- operations
@@ -349,38 +350,60 @@ fn row_of(alloc: Global, bytes: &[u8]) -> Result<Vec<Record>, ReadError>
     Ok(records)
 }
 
-fn batch_of(alloc: Global, bytes: &[u8]) -> Result<(Vec<Record>, usize), ReadError>
-    ensures found { IfOk result (λ batch. IsBatch bytes.now batch.0.items batch.1) }
-    ensures wrong { result ≡ Err Wrong → (records : List Record) (size : ℕ) → IsBatch bytes.now records size → ⊥ }
+// The records that the bytes are a row of, if each of them is one of the format.
+fn row_of_format(alloc: Global, format: Format, bytes: &[u8]) -> Result<Vec<Record>, ReadError>
+    ensures found { IfOk result (λ records. IsBodyOf format bytes.now records.items) }
+    ensures wrong { result ≡ Err Wrong → (records : List Record) → IsBodyOf format bytes.now records → ⊥ }
+{
+    let records = row_of(alloc, bytes)?;
+    if !are_of_format(&records, format) {
+        return Err(ReadError::Wrong);
+    }
+    Ok(records)
+}
+
+fn batch_of(alloc: Global, format: Format, bytes: &[u8]) -> Result<(Vec<Record>, usize), ReadError>
+    ensures found { IfOk result (λ batch. IsBatchOf format bytes.now batch.0.items batch.1) }
+    ensures wrong { result ≡ Err Wrong → (records : List Record) (size : ℕ)
+        → IsBatchOf format bytes.now records size → ⊥ }
 {
     let (body, _rest) = framed_of(bytes)?;
-    let records = row_of(alloc, body)?;
+    let records = row_of_format(alloc, format, body)?;
     Ok((records, 5 + body.len()))
 }
 
-/// The records of a batch's body, or `None` if and only if it is no row of whole records. The only
-/// refusal is [`Refusal::NoMemory`].
-pub fn decode_body(alloc: Global, bytes: &[u8]) -> Result<Option<Vec<Record>>, Refusal>
-    ensures found { IfOk result (λ o. IfSome o (λ records. IsBody bytes.now records.items)) }
-    ensures none { IfOk result (λ o. IfNone o ((records : List Record) → IsBody bytes.now records → ⊥)) }
+/// The records of a batch's body, or `None` if and only if it is no row of whole records of this format. A record
+/// with a value that is longer than the format lets one be is none of them. The only refusal is [`Refusal::NoMemory`].
+pub fn decode_body(
+    alloc: Global,
+    format: Format,
+    bytes: &[u8],
+) -> Result<Option<Vec<Record>>, Refusal>
+    ensures found { IfOk result (λ o. IfSome o (λ records. IsBodyOf format bytes.now records.items)) }
+    ensures none { IfOk result (λ o. IfNone o ((records : List Record) → IsBodyOf format bytes.now records → ⊥)) }
     ensures only_memory { IfErr result (λ refusal. refusal ≡ Refusal.NoMemory) }
 {
-    match row_of(alloc, bytes) {
+    match row_of_format(alloc, format, bytes) {
         Ok(records) => Ok(Some(records)),
         Err(ReadError::Memory) => Err(Refusal::NoMemory),
         Err(ReadError::Wrong) => Ok(None),
     }
 }
 
-/// The batch at the front of the bytes: its records, and how many bytes it takes. `None` exactly
-/// if no front of them is an open batch. The only refusal is [`Refusal::NoMemory`].
-pub fn decode_batch(alloc: Global, bytes: &[u8]) -> Result<Option<(Vec<Record>, usize)>, Refusal>
-    ensures found { IfOk result (λ o. IfSome o (λ batch. IsBatch bytes.now batch.0.items batch.1)) }
-    ensures none { IfOk result (λ o. IfNone o ((records : List Record) (size : ℕ) → IsBatch bytes.now records size
-        → ⊥)) }
+/// The batch of this format at the front of the bytes: its records, and how many bytes it takes. `None` exactly
+/// if no front of them is an open batch whose values are as long as the format lets them be at most. The only refusal
+/// is [`Refusal::NoMemory`].
+pub fn decode_batch(
+    alloc: Global,
+    format: Format,
+    bytes: &[u8],
+) -> Result<Option<(Vec<Record>, usize)>, Refusal>
+    ensures found { IfOk result (λ o. IfSome o (λ batch. IsBatchOf format bytes.now batch.0.items batch.1)) }
+    ensures none { IfOk result (λ o. IfNone o ((records : List Record) (size : ℕ)
+        → IsBatchOf format bytes.now records size → ⊥)) }
     ensures only_memory { IfErr result (λ refusal. refusal ≡ Refusal.NoMemory) }
 {
-    match batch_of(alloc, bytes) {
+    match batch_of(alloc, format, bytes) {
         Ok(found) => Ok(Some(found)),
         Err(ReadError::Memory) => Err(Refusal::NoMemory),
         Err(ReadError::Wrong) => Ok(None),

@@ -5,14 +5,14 @@ ghost use Rattle.std.specs.Int.{w16, w32, w64, to_be_bytes, cast_unsigned};
 ghost use Rattle.std.specs.Vec.{vec_len, vec_capacity};
 ghost use Rattle.mt_base.specs.Limits.{IsKey, IsValue};
 ghost use Rattle.mt_base.specs.declared.refusal.Refusal.{Refusal};
-ghost use Rattle.mt_frame.specs.Grammar.{counted, operation_text, flag_number, image_text, head_text, record_text, body_text, batch_text, IsOfPage, IsOperation, IsRelation, IsRecord, IsBatchable};
+ghost use Rattle.mt_frame.specs.Grammar.{counted, operation_text, flag_number, image_text, head_text, record_text, body_text, batch_text, IsOfPage, IsOperation, IsRelation, IsRecord, IsBatchable, AreOfFormat};
 ghost use Rattle.mt_frame.specs.Lengths.{operation_length, image_length, record_length};
 ghost use Rattle.mt_frame.specs.PageRecords.{lent_image, represented};
 
 use crate::OPEN_GATE;
 use crate::records::{LoggedOp, PageHead, PageRecord, Record};
 use byteorder::{BigEndian, ByteOrder};
-use mt_base::{Bytes, OpNo, Refusal, RelNo, TxnNo};
+use mt_base::{Bytes, Format, OpNo, Refusal, RelNo, TxnNo};
 use std::alloc::{AllocError, Global};
 
 // ---- numbers and bytes
@@ -338,10 +338,11 @@ fn body_length(records: &[Record]) -> usize
     length
 }
 
-/// The text of an open batch of these records: open gate, body's length, body. The only refusal is
-/// [`Refusal::NoMemory`].
-pub fn encode_batch(alloc: Global, records: &[Record]) -> Result<Vec<u8>, Refusal>
-    requires { IsBatchable records.now }
+/// The text of an open batch of these records, which are of this format: open gate, body's length, body. The text is
+/// the same in either format. The only refusal is [`Refusal::NoMemory`].
+pub fn encode_batch(alloc: Global, _format: Format, records: &[Record]) -> Result<Vec<u8>, Refusal>
+    requires batchable { IsBatchable records.now }
+    requires values { AreOfFormat _format records.now }
     ensures text { IfOk result (λ bytes. bytes.items ≡ batch_text records.now) }
     ensures only_memory { IfErr result (λ refusal. refusal ≡ Refusal.NoMemory) }
 {

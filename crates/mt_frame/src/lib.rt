@@ -6,6 +6,7 @@
 mod decoders;
 mod encoders;
 mod fields;
+mod formats;
 mod laws;
 mod records;
 mod slots;

@@ -15,6 +15,7 @@ fn refusals_have_their_texts(rt: HostRuntime) -> Result<(), Fail> {
         (Refusal::Escrow, "refused 9 Escrow"),
         (Refusal::Die(TxnNo::new(1)), "refused 14 Die"),
         (Refusal::BadLine(2), "refused 18 BadLine 2"),
+        (Refusal::WrongFormat, "refused 20 WrongFormat"),
         (Refusal::from(AllocError), "refused 1 NoMemory"),
     ] {
         let printed = format!(in rt.alloc(); "{refusal}")?;
@@ -26,6 +27,6 @@ fn refusals_have_their_texts(rt: HostRuntime) -> Result<(), Fail> {
 #[test]
 fn sizes_are_as_recomputed(rt: HostRuntime) {
     let largest = 8 * LARGEST_PAGE_RECORD + LARGEST_OP_END + 9 * BATCH_HEAD_BYTES;
-    assert!(rt; LARGEST_PAGE_RECORD == 24 + 3 * 4096 && largest == 100_685);
+    assert!(rt; LARGEST_PAGE_RECORD == 24 + 3 * 4096 && largest == 104_637);
     assert!(rt; area_bytes(4) == 4_194_304 && device_bytes(64, 4) == 8_658_944);
 }

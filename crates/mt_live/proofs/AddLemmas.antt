@@ -4,30 +4,33 @@ use Rattle.std.proofs.lemmas.Int.{ints}
 use Rattle.std.proofs.lemmas.Bool.Decides.{Decides-eqb}
 use Rattle.std.proofs.lemmas.List.Elements.{filter-append}
 use Rattle.mt_base.specs.declared.modes.LockMode.TheVariants as mode
-use Rattle.mt_model.specs.declared.counters.Count.{Count}
 use Rattle.mt_model.specs.declared.operations.Op.{Op}
 use Rattle.mt_model.specs.declared.operations.Op.TheVariants.{Get, Insert, Update, Delete, Add, Read, Scan}
 use Rattle.mt_model.specs.declared.operations.Reply.{Reply}
 use Rattle.mt_model.specs.declared.operations.Reply.TheVariants.{Done}
 use Rattle.mt_model.specs.declared.pending_add.Pending.{Pending}
-use Rattle.mt_model.specs.Model.{Base, moved, inverse_of, mode_of}
-use Rattle.mt_model.specs.Escrow.{IsAdmissible, total, lowest, highest, HasRoom}
+use Rattle.mt_model.specs.Model.{Base, inverse_of, mode_of}
+use Rattle.mt_model.specs.Escrow.{IsAdmissible, lowest, highest, HasRoom}
 use Rattle.mt_model.specs.Pending.{steps_at, pending_of, pending_without}
-use Rattle.mt_model.proofs.Sums.{room_from_admissible, total_between}
+use Rattle.mt_model.proofs.Sums.{room_from_admissible}
 use Rattle.mt_live.specs.Entries.{Entry, kept}
-use Rattle.mt_live.specs.Adds.{add_before, adds, GivesBack}
+use Rattle.mt_live.specs.declared.transactions.Role.{Role}
+use Rattle.mt_live.specs.declared.transactions.Role.TheVariants.{Stands, TakenBack, Back}
+use Rattle.mt_live.specs.Adds.{add_before, standing_before, adds, GivesBack}
+use Rattle.mt_live.specs.Taking.{Wider}
 use Rattle.mt_live.specs.Sound.{Each, IsDone}
 use Rattle.mt_live.specs.Undoing.{only, others}
 use Rattle.mt_live.specs.Machine.{IsAdmitted}
 use Rattle.mt_live.proofs.Cuts.{IsIdle}
-use Rattle.mt_live.proofs.Pending.{covers_wider, room_wider}
+use Rattle.mt_live.proofs.Nesting.{NoneStands}
+use Rattle.mt_live.proofs.Pending.{covers_wider}
 
 pub eq_self : (a : ℕ) → (a == a) ≡ true
 eq_self a = (Decides-eqb a a).1 refl
 
 pub adds-append : (es fs : List Entry) → adds (es ++ fs) ≡ adds es ++ adds fs
 adds-append [] fs = refl
-adds-append (e ∷ es) fs = ap (add_before e.txn e.op) (adds-append es fs) ∙ go e.txn e.op (adds es) (adds fs)
+adds-append (e ∷ es) fs = ap (standing_before e.role e.txn e.op) (adds-append es fs) ∙ by_role e.role e.txn e.op (adds es) (adds fs)
   where
     go : (t : ℕ) (op : Op) (ps qs : List Pending) → add_before t op (ps ++ qs) ≡ add_before t op ps ++ qs
     go t (Add n d) ps qs = refl
@@ -37,6 +40,11 @@ adds-append (e ∷ es) fs = ap (add_before e.txn e.op) (adds-append es fs) ∙ g
     go t (Delete r k) ps qs = refl
     go t (Read n) ps qs = refl
     go t (Scan r) ps qs = refl
+
+    by_role : (r : Role) (t : ℕ) (op : Op) (ps qs : List Pending) → standing_before r t op (ps ++ qs) ≡ standing_before r t op ps ++ qs
+    by_role Stands t op ps qs = go t op ps qs
+    by_role TakenBack t op ps qs = refl
+    by_role Back t op ps qs = refl
 
 pub pending_of-append : (t : ℕ) (ps qs : List Pending) → pending_of t (ps ++ qs) ≡ pending_of t ps ++ pending_of t qs
 pending_of-append t ps qs = filter-append (λ (p : Pending). p.txn == t) ps qs
@@ -54,6 +62,18 @@ of_before u t (Delete r k) ps = sym (same_cond (t == u) (pending_of u ps))
 of_before u t (Read n) ps = sym (same_cond (t == u) (pending_of u ps))
 of_before u t (Scan r) ps = sym (same_cond (t == u) (pending_of u ps))
 
+-- by role, of one transaction
+pub of_standing : (r : Role) (u t : ℕ) (op : Op) (ps : List Pending) → pending_of u (standing_before r t op ps) ≡ cond (t == u) (standing_before r t op (pending_of u ps)) (pending_of u ps)
+of_standing Stands u t op ps = of_before u t op ps
+of_standing TakenBack u t op ps = sym (same_cond (t == u) (pending_of u ps))
+of_standing Back u t op ps = sym (same_cond (t == u) (pending_of u ps))
+
+pub other_standing : (r : Role) (u t : ℕ) (op : Op) (ps : List Pending) → (t == u) ≡ false → pending_of u (standing_before r t op ps) ≡ pending_of u ps
+other_standing r u t op ps e = of_standing r u t op ps ∙ ap (λ w. cond w (standing_before r t op (pending_of u ps)) (pending_of u ps)) e
+
+pub is_add : (r : Role) (t : ℕ) (op : Op) (ps : List Pending) → r ≡ Stands → standing_before r t op ps ≡ add_before t op ps
+is_add r t op ps is = ap (λ q. standing_before q t op ps) is
+
 pub eq_flip : (a b : ℕ) (x y : Bool) → (a == b) ≡ x → (b == a) ≡ y → x ≡ y
 eq_flip a b true true p q = refl
 eq_flip a b false false p q = refl
@@ -66,8 +86,8 @@ of_mine t op = of_before t t op [] ∙ ap (λ w. cond w (add_before t op []) [])
 pub of_other : (u t : ℕ) (op : Op) (ps : List Pending) → (t == u) ≡ false → pending_of u (add_before t op ps) ≡ pending_of u ps
 of_other u t op ps e = of_before u t op ps ∙ ap (λ w. cond w (add_before t op (pending_of u ps)) (pending_of u ps)) e
 
-pub adds_last : (es : List Entry) (e : Entry) (u : ℕ) → pending_of u (adds (es ++ e ∷ [])) ≡ pending_of u (adds es) ++ pending_of u (add_before e.txn e.op [])
-adds_last es e u = ap (pending_of u) (adds-append es (e ∷ [])) ∙ pending_of-append u (adds es) (add_before e.txn e.op [])
+pub adds_last : (es : List Entry) (e : Entry) (u : ℕ) → e.role ≡ Stands → pending_of u (adds (es ++ e ∷ [])) ≡ pending_of u (adds es) ++ pending_of u (add_before e.txn e.op [])
+adds_last es e u is = ap (pending_of u) (adds-append es (e ∷ [])) ∙ (pending_of-append u (adds es) (standing_before e.role e.txn e.op []) ∙ ap (λ ps. pending_of u (adds es) ++ pending_of u ps) (is_add e.role e.txn e.op [] is))
 
 without_cond : (u t : ℕ) (p : Pending) (ps : List Pending) (b c : Bool) → (u == t) ≡ b → (p.txn == t) ≡ c → pending_of u (pending_without t ps) ≡ cond b [] (pending_of u ps)
     → pending_of u (cond (not c) (p ∷ pending_without t ps) (pending_without t ps)) ≡ cond b [] (cond (p.txn == u) (p ∷ pending_of u ps) (pending_of u ps))
@@ -89,15 +109,15 @@ of_without u t (p ∷ ps) = without_cond u t p ps (u == t) (p.txn == t) refl ref
 
 kept_cond : (p : ℕ → Bool) (u : ℕ) (e : Entry) (es : List Entry) (b c d : Bool) → p e.txn ≡ b → (e.txn == u) ≡ c → p u ≡ d
     → pending_of u (adds (kept p es)) ≡ cond d (pending_of u (adds es)) []
-    → pending_of u (adds (cond b (e ∷ kept p es) (kept p es))) ≡ cond d (pending_of u (add_before e.txn e.op (adds es))) []
+    → pending_of u (adds (cond b (e ∷ kept p es) (kept p es))) ≡ cond d (pending_of u (standing_before e.role e.txn e.op (adds es))) []
 kept_cond p u e es true true true a b' c h =
-    of_before u e.txn e.op (adds (kept p es)) ∙ (ap (λ w. cond (e.txn == u) (add_before e.txn e.op w) w) h ∙ sym (of_before u e.txn e.op (adds es)))
+    of_standing e.role u e.txn e.op (adds (kept p es)) ∙ (ap (λ w. cond (e.txn == u) (standing_before e.role e.txn e.op w) w) h ∙ sym (of_standing e.role u e.txn e.op (adds es)))
 kept_cond p u e es true true false a b' c h = let same : e.txn ≡ u = (Decides-eqb e.txn u).0 b' in let x : p e.txn ≡ p u = ap p same in absurd cc
-kept_cond p u e es true false true a b' c h = of_other u e.txn e.op (adds (kept p es)) b' ∙ (h ∙ sym (of_other u e.txn e.op (adds es) b'))
-kept_cond p u e es true false false a b' c h = of_other u e.txn e.op (adds (kept p es)) b' ∙ h
+kept_cond p u e es true false true a b' c h = other_standing e.role u e.txn e.op (adds (kept p es)) b' ∙ (h ∙ sym (other_standing e.role u e.txn e.op (adds es) b'))
+kept_cond p u e es true false false a b' c h = other_standing e.role u e.txn e.op (adds (kept p es)) b' ∙ h
 kept_cond p u e es false true true a b' c h = let same : e.txn ≡ u = (Decides-eqb e.txn u).0 b' in let x : p e.txn ≡ p u = ap p same in absurd cc
 kept_cond p u e es false true false a b' c h = h
-kept_cond p u e es false false true a b' c h = h ∙ sym (of_other u e.txn e.op (adds es) b')
+kept_cond p u e es false false true a b' c h = h ∙ sym (other_standing e.role u e.txn e.op (adds es) b')
 kept_cond p u e es false false false a b' c h = h
 
 pub adds-kept : (p : ℕ → Bool) (u : ℕ) (es : List Entry) → pending_of u (adds (kept p es)) ≡ cond (p u) (pending_of u (adds es)) []
@@ -129,23 +149,17 @@ at_cond c false p ps = refl
 zero_sum : pos 0 ≡ pos 0 +ℤ pos 0
 zero_sum = refl
 
-shares : (t c : ℕ) (ps : List Pending) → Shares (steps_at c ps) (steps_at c (pending_of t ps)) (steps_at c (pending_without t ps))
+pub shares : (t c : ℕ) (ps : List Pending) → Shares (steps_at c ps) (steps_at c (pending_of t ps)) (steps_at c (pending_without t ps))
 shares t c [] = record { lows = zero_sum; highs = zero_sum }
 shares t c (p ∷ ps) =
     subst (λ w. Shares (steps_at c (p ∷ ps)) w (steps_at c (pending_without t (p ∷ ps)))) (sym (at_cond c (p.txn == t) p (pending_of t ps)))
     (subst (λ w. Shares (steps_at c (p ∷ ps)) (cond (p.txn == t) (cond (p.counter == c) (p.step ∷ steps_at c (pending_of t ps)) (steps_at c (pending_of t ps))) (steps_at c (pending_of t ps))) w) (sym (at_cond c (not (p.txn == t)) p (pending_without t ps)))
     (share_step (p.txn == t) (p.counter == c) p.step (steps_at c ps) (steps_at c (pending_of t ps)) (steps_at c (pending_without t ps)) (shares t c ps)))
 
-pub room_shared : (n : Count) (t c : ℕ) (ps : List Pending) → HasRoom n (steps_at c ps) → HasRoom (moved n (total (steps_at c (pending_of t ps)))) (steps_at c (pending_without t ps))
-room_shared n t c ps h =
-    let q = shares t c ps in let y = q.lows in let z = q.highs in
-    let l = h.low in let u = h.high in let w = total_between (steps_at c (pending_of t ps)) in
-    record { low = omega (arith, ints); high = omega (arith, ints) }
-
 adds_cond : (t : ℕ) (e : Entry) (es : List Entry) (b : Bool) → (e.txn == t) ≡ b → adds (kept (only t) es) ≡ pending_of t (adds es)
-    → adds (cond b (e ∷ kept (only t) es) (kept (only t) es)) ≡ pending_of t (add_before e.txn e.op (adds es))
-adds_cond t e es true is h = ap (add_before e.txn e.op) h ∙ sym (of_before t e.txn e.op (adds es) ∙ ap (λ w. cond w (add_before e.txn e.op (pending_of t (adds es))) (pending_of t (adds es))) is)
-adds_cond t e es false is h = h ∙ sym (of_other t e.txn e.op (adds es) is)
+    → adds (cond b (e ∷ kept (only t) es) (kept (only t) es)) ≡ pending_of t (standing_before e.role e.txn e.op (adds es))
+adds_cond t e es true is h = ap (standing_before e.role e.txn e.op) h ∙ sym (of_standing e.role t e.txn e.op (adds es) ∙ ap (λ w. cond w (standing_before e.role e.txn e.op (pending_of t (adds es))) (pending_of t (adds es))) is)
+adds_cond t e es false is h = h ∙ sym (other_standing e.role t e.txn e.op (adds es) is)
 
 pub adds_only : (t : ℕ) (es : List Entry) → adds (kept (only t) es) ≡ pending_of t (adds es)
 adds_only t [] = refl
@@ -169,11 +183,20 @@ not_add t (Delete k l) ps h = refl
 not_add t (Read n) ps h = refl
 not_add t (Scan r) ps h = refl
 
-idle_cond : (t : ℕ) (e : Entry) (es : List Entry) (b : Bool) → (e.txn == t) ≡ b → IsIdle t e → IsDone e → pending_of t (adds es) ≡ [] → pending_of t (add_before e.txn e.op (adds es)) ≡ []
+pub idle_standing : (r : Role) (t : ℕ) (op : Op) (reply : Reply) (ps : List Pending) → (r ≡ Stands → inverse_of op reply ≡ None) → (mode_of op ≡ mode.Add → reply ≡ Done) → standing_before r t op ps ≡ ps
+idle_standing Stands t op reply ps none done = not_add t op ps (λ m. add_has_inverse op reply m (done m) (none refl))
+idle_standing TakenBack t op reply ps none done = refl
+idle_standing Back t op reply ps none done = refl
+
+pub no_adds : (es : List Entry) → NoneStands es → Each IsDone es → adds es ≡ []
+no_adds [] none done = refl
+no_adds (e ∷ es) none done = idle_standing e.role e.txn e.op e.reply (adds es) none.0 done.0 ∙ no_adds es none.1 done.1
+
+idle_cond : (t : ℕ) (e : Entry) (es : List Entry) (b : Bool) → (e.txn == t) ≡ b → IsIdle t e → IsDone e → pending_of t (adds es) ≡ [] → pending_of t (standing_before e.role e.txn e.op (adds es)) ≡ []
 idle_cond t e es true is i d h =
     let same : e.txn ≡ t = (Decides-eqb e.txn t).0 is in
-    ap (pending_of t) (not_add e.txn e.op (adds es) (λ m. add_has_inverse e.op e.reply m (d m) (i same))) ∙ h
-idle_cond t e es false is i d h = of_other t e.txn e.op (adds es) is ∙ h
+    ap (pending_of t) (idle_standing e.role e.txn e.op e.reply (adds es) (i same) d) ∙ h
+idle_cond t e es false is i d h = other_standing e.role t e.txn e.op (adds es) is ∙ h
 
 -- what did nothing added nothing
 pub idle_adds : (t : ℕ) (es : List Entry) → Each (IsIdle t) es → Each IsDone es → pending_of t (adds es) ≡ []
@@ -200,15 +223,15 @@ taken_of t (Delete r k) ps qs h = no_add_taken t (Delete r k) ps qs refl h
 taken_of t (Read n) ps qs h = no_add_taken t (Read n) ps qs refl h
 taken_of t (Scan r) ps qs h = no_add_taken t (Scan r) ps qs refl h
 
-pub undone_tied : (t : ℕ) (front : List Entry) (e : Entry) (rest : List Entry) (ps qs : List Pending) (run' : List Pending) → e.txn ≡ t
+pub undone_tied : (t : ℕ) (front : List Entry) (e : Entry) (rest : List Entry) (ps qs : List Pending) (run' : List Pending) → e.txn ≡ t → e.role ≡ Stands
     → pending_of t (adds rest) ≡ [] → Taken t e.op ps qs → (u : ℕ) (b : Bool) → (u == t) ≡ b → (b ≡ true → run' ≡ [])
     → pending_of u ps ≡ pending_of u (adds (front ++ e ∷ rest)) ++ run' → pending_of u qs ≡ pending_of u (adds (front ++ kept (others t) rest)) ++ run'
-undone_tied t front e rest ps qs run' its none out u true is idle tied =
+undone_tied t front e rest ps qs run' its role none out u true is idle tied =
     let same : u ≡ t = (Decides-eqb u t).0 is in
     let n : run' ≡ [] = idle refl in
     let a : pending_of t (adds (front ++ e ∷ rest)) ≡ pending_of t (adds front) ++ add_before t e.op [] =
-    ap (pending_of t) (adds-append front (e ∷ rest)) ∙ (pending_of-append t (adds front) (add_before e.txn e.op (adds rest))
-    ∙ ap (λ w. pending_of t (adds front) ++ w) (ap (λ v. pending_of t (add_before v e.op (adds rest))) its
+    ap (pending_of t) (adds-append front (e ∷ rest)) ∙ (pending_of-append t (adds front) (standing_before e.role e.txn e.op (adds rest))
+    ∙ ap (λ w. pending_of t (adds front) ++ w) (ap (pending_of t) (is_add e.role e.txn e.op (adds rest) role) ∙ ap (λ v. pending_of t (add_before v e.op (adds rest))) its
     ∙ (of_before t t e.op (adds rest) ∙ (ap (λ w. cond w (add_before t e.op (pending_of t (adds rest))) (pending_of t (adds rest))) (eq_self t)
     ∙ ap (add_before t e.op) none)))) in
     let b : pending_of t ps ≡ pending_of t (adds front) ++ add_before t e.op [] =
@@ -221,20 +244,20 @@ undone_tied t front e rest ps qs run' its none out u true is idle tied =
     ap (λ v. pending_of v qs) same ∙ (out.its (pending_of t (adds front)) b ∙ (sym c
     ∙ (ap (λ v. pending_of v (adds (front ++ kept (others t) rest))) (sym same)
     ∙ (sym (append-nil (pending_of u (adds (front ++ kept (others t) rest)))) ∙ ap (λ w. pending_of u (adds (front ++ kept (others t) rest)) ++ w) (sym n)))))
-undone_tied t front e rest ps qs run' its none out u false is idle tied =
+undone_tied t front e rest ps qs run' its role none out u false is idle tied =
     let apart : u ≢ t = λ s. let x : (u == t) ≡ true = (Decides-eqb u t).1 s in absurd cc in
     let flip : (e.txn == u) ≡ false = ap (λ v. v == u) its ∙ (eq_flip t u (t == u) (u == t) refl refl ∙ is) in
     let a : pending_of u (adds (front ++ e ∷ rest)) ≡ pending_of u (adds front) ++ pending_of u (adds rest) =
-    ap (pending_of u) (adds-append front (e ∷ rest)) ∙ (pending_of-append u (adds front) (add_before e.txn e.op (adds rest))
-    ∙ ap (λ w. pending_of u (adds front) ++ w) (of_other u e.txn e.op (adds rest) flip)) in
+    ap (pending_of u) (adds-append front (e ∷ rest)) ∙ (pending_of-append u (adds front) (standing_before e.role e.txn e.op (adds rest))
+    ∙ ap (λ w. pending_of u (adds front) ++ w) (other_standing e.role u e.txn e.op (adds rest) flip)) in
     let c : pending_of u (adds (front ++ kept (others t) rest)) ≡ pending_of u (adds front) ++ pending_of u (adds rest) =
     ap (pending_of u) (adds-append front (kept (others t) rest)) ∙ (pending_of-append u (adds front) (adds (kept (others t) rest))
     ∙ ap (λ w. pending_of u (adds front) ++ w) (adds-kept (others t) u rest ∙ ap (λ w. cond (not w) (pending_of u (adds rest)) []) is)) in
     out.apart u apart ∙ (tied ∙ ap (λ w. w ++ run') (a ∙ sym c))
 
 -- what is taken out only widens the room
-pub out_room : (n : Count) (c t : ℕ) (op : Op) (ps qs front : List Pending) → Taken t op ps qs → pending_of t ps ≡ front ++ add_before t op [] → HasRoom n (steps_at c ps) → HasRoom n (steps_at c qs)
-out_room n c t op ps qs front out is h = room_wider n (steps_at c ps) (steps_at c qs) (covers_wider qs ps (λ u. cond (u == t) (add_before t op []) []) (λ u. go u (u == t) refl) c) h
+pub out_wider : (c t : ℕ) (op : Op) (ps qs front : List Pending) → Taken t op ps qs → pending_of t ps ≡ front ++ add_before t op [] → Wider (steps_at c ps) (steps_at c qs)
+out_wider c t op ps qs front out is = covers_wider qs ps (λ u. cond (u == t) (add_before t op []) []) (λ u. go u (u == t) refl) c
   where
     go : (u : ℕ) (b : Bool) → (u == t) ≡ b → pending_of u ps ≡ pending_of u qs ++ cond b (add_before t op []) []
     go u true e =

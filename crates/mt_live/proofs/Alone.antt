@@ -10,6 +10,7 @@ use Rattle.mt_model.specs.declared.operations.Op.{Op}
 use Rattle.mt_model.specs.History.{Call, run}
 use Rattle.mt_model.specs.Locks.{AreAllFree}
 use Rattle.mt_model.specs.Model.{Base, reply_of}
+use Rattle.mt_live.specs.declared.transactions.Role.TheVariants.{Stands}
 use Rattle.mt_live.specs.Alone.{NobodyLives, IsAlone}
 use Rattle.mt_live.specs.Entries.{Entry, calls, kept}
 use Rattle.mt_live.specs.Machine.{State, committed_base, is_live, put, IsKept, begun, called, ended, booked, gone}
@@ -70,7 +71,7 @@ alone_acts b s t session cs op k alone = record {
   lives = alone.lives;
   others = alone.others;
   calls_are =
-      let last : Entry = record { txn = t; op = op; reply = reply_of s.base op } in
+      let last : Entry = record { txn = t; op = op; reply = reply_of s.base op; role = Stands } in
       let its : kept (only t) (last ∷ []) ≡ last ∷ [] = ap (λ (c : Bool). cond c (last ∷ []) []) (eq_self t) in
       let split : kept (only t) (s.standing ++ last ∷ []) ≡ kept (only t) s.standing ++ last ∷ [] = filter-append (λ (e : Entry). only t e.txn) s.standing (last ∷ []) ∙ ap (λ (es : List Entry). kept (only t) s.standing ++ es) its in
       ap calls split ∙ map-append (λ (e : Entry). (e.op, e.reply)) (kept (only t) s.standing) (last ∷ [])

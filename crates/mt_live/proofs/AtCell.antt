@@ -1,5 +1,5 @@
 -- Entries on one object.
-use Rattle.std.proofs.Common.{◌≡◌, ℕ, ℤ, ◌+ℤ◌, ◌≤ℤ◌, Bool, true, false, cond, List, [], ◌∷◌, refl, ap, sym, ◌∙◌, subst, arith, filter}
+use Rattle.std.proofs.Common.{◌≡◌, ℕ, ℤ, ◌+ℤ◌, Bool, true, false, cond, List, [], ◌∷◌, refl, ap, sym, ◌∙◌, subst, arith, filter}
 use Rattle.std.proofs.lemmas.Int.{ints}
 use Rattle.mt_base.specs.declared.modes.LockMode.TheVariants as mode
 use Rattle.mt_model.specs.declared.counters.Count.{Count}
@@ -7,16 +7,16 @@ use Rattle.mt_model.specs.declared.operations.Op.{Op}
 use Rattle.mt_model.specs.declared.operations.Op.TheVariants.{Get, Insert, Update, Delete, Add, Read, Scan}
 use Rattle.mt_model.specs.declared.operations.Reply.{Reply}
 use Rattle.mt_model.specs.declared.operations.Reply.TheVariants.{Done, OutOfBounds}
-use Rattle.mt_model.specs.Model.{stays, moved, mode_of}
-use Rattle.mt_model.specs.Escrow.{total, lowest, highest, HasRoom}
+use Rattle.mt_model.specs.Model.{IsInBounds, stays, moved, mode_of}
+use Rattle.mt_model.specs.Escrow.{total}
 use Rattle.mt_model.proofs.Cells.{Cell, next}
 use Rattle.mt_model.proofs.Split.{Fits}
 use Rattle.mt_model.specs.declared.objects.Object.{Object}
-use Rattle.mt_model.proofs.Steps.{stays_with_room, room_moved, moved-moved, moved_none}
-use Rattle.mt_model.proofs.Sums.{below_is, above_is}
+use Rattle.mt_model.proofs.Steps.{stays_true, moved-moved, moved_none}
 use Rattle.mt_model.proofs.Commuting.{read_leaves}
 use Rattle.mt_live.specs.Entries.{Entry, kept}
 use Rattle.mt_live.specs.Sound.{Each, IsDone}
+use Rattle.mt_live.proofs.Ballots.{Stays}
 use Rattle.mt_live.proofs.Entries.{cell_runs, AreCellActed}
 use Rattle.mt_live.proofs.Shapes.{each_filter, AllAgree, Shape, Owned, Reads, Adds, shape}
 
@@ -38,11 +38,15 @@ moved_cell c z = record { row = c.row; count = moved c.count z }
 
 -- ---- adds
 
-add_step : (o : Object) (op : Op) (r : Reply) (c : Cell) (es : List Entry) → mode_of op ≡ mode.Add → r ≡ Done → HasRoom c.count (with_step op (steps es))
-    → ((x : Cell) → HasRoom x.count (steps es) → AreCellActed o x es) → Fits op r o c × AreCellActed o (next op c) es
+pub stays_first : (n : Count) (ds : List ℤ) → Stays n ds → IsInBounds n
+stays_first n [] h = h
+stays_first n (d ∷ ds) h = h.0
+
+add_step : (o : Object) (op : Op) (r : Reply) (c : Cell) (es : List Entry) → mode_of op ≡ mode.Add → r ≡ Done → Stays c.count (with_step op (steps es))
+    → ((x : Cell) → Stays x.count (steps es) → AreCellActed o x es) → Fits op r o c × AreCellActed o (next op c) es
 add_step o (Add n d) r c es is done room rec =
-    let t : stays c.count d ≡ true = stays_with_room c.count d (steps es) room in
-    let z : AreCellActed o (moved_cell c d) es = rec (moved_cell c d) (room_moved c.count d (steps es) room) in
+    let t : stays c.count d ≡ true = stays_true c.count d (stays_first (moved c.count d) (steps es) room.1) in
+    let z : AreCellActed o (moved_cell c d) es = rec (moved_cell c d) room.1 in
     (rw (t, done) refl, rw t z)
 add_step o (Get r k) _ c es is done room rec = absurd cc
 add_step o (Insert r k v) _ c es is done room rec = absurd cc
@@ -51,7 +55,7 @@ add_step o (Delete r k) _ c es is done room rec = absurd cc
 add_step o (Read n) _ c es is done room rec = absurd cc
 add_step o (Scan r) _ c es is done room rec = absurd cc
 
-pub adds_acted : (o : Object) (c : Cell) (es : List Entry) → Each (λ e. mode_of e.op ≡ mode.Add) es → Each IsDone es → HasRoom c.count (steps es) → AreCellActed o c es
+pub adds_acted : (o : Object) (c : Cell) (es : List Entry) → Each (λ e. mode_of e.op ≡ mode.Add) es → Each IsDone es → Stays c.count (steps es) → AreCellActed o c es
 adds_acted o c [] a d h = tt
 adds_acted o c (e ∷ es) a d h = add_step o e.op e.reply c es a.0 (d.0 a.0) h (λ x room. adds_acted o x es a.1 d.1 room)
 
@@ -85,7 +89,7 @@ count_run o c [] a d = moved_none c.count
 count_run o c (e ∷ es) a d =
     count_run o (next e.op c) es a.1 d.1 ∙ count_step o e.op e.reply c (total (steps es)) (steps es) refl a.0 d.0
 
-add_keeps_row : (op : Op) (c : Cell) → mode_of op ≡ mode.Add → (next op c).row ≡ c.row
+pub add_keeps_row : (op : Op) (c : Cell) → mode_of op ≡ mode.Add → (next op c).row ≡ c.row
 add_keeps_row (Add n d) c a = refl
 add_keeps_row (Get r k) c a = absurd cc
 add_keeps_row (Insert r k v) c a = absurd cc
@@ -94,7 +98,7 @@ add_keeps_row (Delete r k) c a = absurd cc
 add_keeps_row (Read n) c a = absurd cc
 add_keeps_row (Scan r) c a = absurd cc
 
-adds_row : (c : Cell) (es : List Entry) → Each (λ e. mode_of e.op ≡ mode.Add) es → (cell_runs c es).row ≡ c.row
+pub adds_row : (c : Cell) (es : List Entry) → Each (λ e. mode_of e.op ≡ mode.Add) es → (cell_runs c es).row ≡ c.row
 adds_row c [] a = refl
 adds_row c (e ∷ es) a = adds_row (next e.op c) es a.1 ∙ add_keeps_row e.op c a.0
 
@@ -129,36 +133,9 @@ owned_kept p (e ∷ es) u h false t =
     let q : p e.txn ≡ false = ap p h.0 ∙ t in
     rw q (owned_kept p es u h.1 false t)
 
--- ---- sums of the parts
-
-pub with_less : (op : Op) (ds es : List ℤ) → (lowest es ≤ℤ lowest ds) × (highest ds ≤ℤ highest es)
-    → ((lowest (with_step op es) ≤ℤ lowest ds) × (highest ds ≤ℤ highest (with_step op es)))
-    × ((lowest (with_step op es) ≤ℤ lowest (with_step op ds)) × (highest (with_step op ds) ≤ℤ highest (with_step op es)))
-with_less (Add n d) ds es h = let b = below_is d in let a = above_is d in ((omega (arith, ints), omega (arith, ints)), (omega (arith, ints), omega (arith, ints)))
-with_less (Get r k) ds es h = (h, h)
-with_less (Insert r k v) ds es h = (h, h)
-with_less (Update r k v) ds es h = (h, h)
-with_less (Delete r k) ds es h = (h, h)
-with_less (Read n) ds es h = (h, h)
-with_less (Scan r) ds es h = (h, h)
-
-cond_less : (t : Bool) (e : Entry) (ds es : List Entry) → (lowest (steps es) ≤ℤ lowest (steps ds)) × (highest (steps ds) ≤ℤ highest (steps es))
-    → (lowest (steps (e ∷ es)) ≤ℤ lowest (steps (cond t (e ∷ ds) ds))) × (highest (steps (cond t (e ∷ ds) ds)) ≤ℤ highest (steps (e ∷ es)))
-cond_less true e ds es h = (with_less e.op (steps ds) (steps es) h).1
-cond_less false e ds es h = (with_less e.op (steps ds) (steps es) h).0
-
-pub part_less : (p : Entry → Bool) (es : List Entry) → (lowest (steps es) ≤ℤ lowest (steps (filter p es))) × (highest (steps (filter p es)) ≤ℤ highest (steps es))
-part_less p [] = (omega (arith, ints), omega (arith, ints))
-part_less p (e ∷ es) = cond_less (p e) e (filter p es) es (part_less p es)
-
-pub room_part : (n : Count) (p : Entry → Bool) (es : List Entry) → HasRoom n (steps es) → HasRoom n (steps (filter p es))
-room_part n p es h =
-    let q = part_less p es in let l = h.low in let u = h.high in
-    record { low = omega (arith, ints); high = omega (arith, ints) }
-
 -- ---- whichever transactions are struck out
 
-pub strikes : (o : Object) (c : Cell) (es : List Entry) → AllAgree es → Each IsDone es → HasRoom c.count (steps es) → AreCellActed o c es → (p : ℕ → Bool) → AreCellActed o c (kept p es)
+pub strikes : (o : Object) (c : Cell) (es : List Entry) → AllAgree es → Each IsDone es → ((p : ℕ → Bool) → Stays c.count (steps (kept p es))) → AreCellActed o c es → (p : ℕ → Bool) → AreCellActed o c (kept p es)
 strikes o c es ag d room a p = go (shape es ag)
   where
     whole : (u : ℕ) → Each (λ e. e.txn ≡ u) es → (b : Bool) → p u ≡ b → AreCellActed o c (kept p es)
@@ -168,4 +145,4 @@ strikes o c es ag d room a p = go (shape es ag)
     go : Shape es → AreCellActed o c (kept p es)
     go (Owned u h) = whole u h (p u) refl
     go (Reads h) = reads_acted (λ e. p e.txn) o c es h a
-    go (Adds h) = adds_acted o c (kept p es) (each_filter _ (λ e. p e.txn) es h) (each_filter _ (λ e. p e.txn) es d) (room_part c.count (λ e. p e.txn) es room)
+    go (Adds h) = adds_acted o c (kept p es) (each_filter _ (λ e. p e.txn) es h) (each_filter _ (λ e. p e.txn) es d) (room p)

@@ -3,13 +3,15 @@ use Rattle.std.proofs.Common.{◌≡◌, ◌⊎◌, inl, inr, ℕ, zero, suc, �
 use Rattle.std.proofs.lemmas.Bool.Decides.{Decides-eqb, nat_tests}
 use Rattle.std.proofs.lemmas.List.{length-take-le}
 use Rattle.std.proofs.lemmas.List.Elements.{filter-append}
-use Rattle.mt_model.specs.History.{Call}
 use Rattle.mt_live.specs.declared.places.Place.{Place}
-use Rattle.mt_live.specs.Entries.{Entry, kept}
+use Rattle.mt_live.specs.declared.transactions.Role.{Role}
+use Rattle.mt_live.specs.declared.transactions.Role.TheVariants.{TakenBack}
+use Rattle.mt_live.specs.Entries.{Entry, with_role, is_standing, kept}
 use Rattle.mt_live.specs.Sound.{Each}
-use Rattle.mt_live.specs.Undoing.{only, others, is_effect, last_of, last_effect, cut_back}
+use Rattle.mt_live.specs.Undoing.{only, others, is_counted, is_effect, last_of, last_effect, cut_back, mark_last, mark_all, settle_after}
 use Rattle.mt_live.specs.Machine.{put}
-use Rattle.mt_live.specs.Members.{has_inverse, later, last_place}
+use Rattle.mt_live.specs.Members.{Noted, has_inverse, later, last_place, set_role, settle_calls}
+use Rattle.mt_live.specs.Roles.{settled_role, left_after}
 use Rattle.mt_live.specs.Lives.{entry_by, entries_at, standing_by, numbers, count_from}
 
 -- ---- tests of numbers
@@ -28,12 +30,12 @@ not_below i n h = grind (arith, nat_tests)
 
 -- ---- lists in general
 
-standing-append : (f : ℕ → List Call) (os ps : List Place) → standing_by f (os ++ ps) ≡ standing_by f os ++ standing_by f ps
+standing-append : (f : ℕ → List Noted) (os ps : List Place) → standing_by f (os ++ ps) ≡ standing_by f os ++ standing_by f ps
 standing-append f [] ps = refl
 standing-append f (o ∷ os) ps =
     ap (λ w. entries_at f o ++ w) (standing-append f os ps) ∙ sym (append_assoc (entries_at f o) (standing_by f os) (standing_by f ps))
 
-standing_same : (f g : ℕ → List Call) (os : List Place) → Each (λ (o : Place). entries_at f o ≡ entries_at g o) os → standing_by f os ≡ standing_by g os
+standing_same : (f g : ℕ → List Noted) (os : List Place) → Each (λ (o : Place). entries_at f o ≡ entries_at g o) os → standing_by f os ≡ standing_by g os
 standing_same f g [] h = refl
 standing_same f g (o ∷ os) h = ap (λ w. w ++ standing_by f os) h.0 ∙ ap (λ w. entries_at g o ++ w) (standing_same f g os h.1)
 
@@ -84,7 +86,7 @@ numbers_between t (o ∷ os) j m h = go (o.txn == t) refl h (λ i k. numbers_bet
 
 -- ---- the entries of one transaction
 
-kept_by : (p : ℕ → Bool) (t : ℕ) (cs : List Call) → kept p (map (entry_by t) cs) ≡ cond (p t) (map (entry_by t) cs) []
+kept_by : (p : ℕ → Bool) (t : ℕ) (cs : List Noted) → kept p (map (entry_by t) cs) ≡ cond (p t) (map (entry_by t) cs) []
 kept_by p t [] = go (p t)
   where
     go : (b : Bool) → [] ≡ cond b (map (entry_by t) []) []
@@ -96,25 +98,25 @@ kept_by p t (c ∷ cs) = go (p t) refl (kept_by p t cs)
     go true is h = rw is (ap (λ w. entry_by t c ∷ w) (rw is at h))
     go false is h = rw is (rw is at h)
 
-kept_step : (p : ℕ → Bool) (f : ℕ → List Call) (o : Place) (os : List Place) → kept p (standing_by f (o ∷ os)) ≡ cond (p o.txn) (entries_at f o) [] ++ kept p (standing_by f os)
+kept_step : (p : ℕ → Bool) (f : ℕ → List Noted) (o : Place) (os : List Place) → kept p (standing_by f (o ∷ os)) ≡ cond (p o.txn) (entries_at f o) [] ++ kept p (standing_by f os)
 kept_step p f o os =
     filter-append (λ (e : Entry). p e.txn) (entries_at f o) (standing_by f os)
     ∙ ap (λ w. w ++ kept p (standing_by f os)) (kept_by p o.txn (take 1 (drop o.index (f o.txn))))
 
 -- one transaction's entries are its calls
-pub standing_own : (f : ℕ → List Call) (t : ℕ) (os : List Place) (j m : ℕ) (r : List Call) → numbers t os ≡ count_from j m → drop j (f t) ≡ r → length r ≡ m
+pub standing_own : (f : ℕ → List Noted) (t : ℕ) (os : List Place) (j m : ℕ) (r : List Noted) → numbers t os ≡ count_from j m → drop j (f t) ≡ r → length r ≡ m
     → kept (only t) (standing_by f os) ≡ map (entry_by t) r
 standing_own f t [] j zero [] h is size = refl
 standing_own f t [] j zero (c ∷ r) h is size = absurd (omega (arith, size))
 standing_own f t [] j (suc m) r h is size = absurd cc
 standing_own f t (o ∷ os) j m r h is size = go (o.txn == t) refl h (λ i k s. standing_own f t os i k s)
   where
-    here : (c : Call) (s : List Call) → o.txn ≡ t → o.index ≡ j → drop j (f t) ≡ c ∷ s → entries_at f o ≡ entry_by t c ∷ []
+    here : (c : Noted) (s : List Noted) → o.txn ≡ t → o.index ≡ j → drop j (f t) ≡ c ∷ s → entries_at f o ≡ entry_by t c ∷ []
     here c s own at' d =
         ap (λ v. map (entry_by v) (take 1 (drop o.index (f v)))) own ∙ (ap (λ n. map (entry_by t) (take 1 (drop n (f t)))) at' ∙ ap (λ w. map (entry_by t) (take 1 w)) d)
 
-    mine : (k : ℕ) (s : List Call) → r ≡ s → m ≡ suc k → o.txn ≡ t → o.index ≡ j → numbers t os ≡ count_from (suc j) k
-        → ((i n : ℕ) (q : List Call) → numbers t os ≡ count_from i n → drop i (f t) ≡ q → length q ≡ n → kept (only t) (standing_by f os) ≡ map (entry_by t) q)
+    mine : (k : ℕ) (s : List Noted) → r ≡ s → m ≡ suc k → o.txn ≡ t → o.index ≡ j → numbers t os ≡ count_from (suc j) k
+        → ((i n : ℕ) (q : List Noted) → numbers t os ≡ count_from i n → drop i (f t) ≡ q → length q ≡ n → kept (only t) (standing_by f os) ≡ map (entry_by t) q)
         → entries_at f o ++ kept (only t) (standing_by f os) ≡ map (entry_by t) s
     mine k [] same ms own at' rest rec = let z : length r ≡ 0 = ap length same in absurd (omega (arith, z, size, ms))
     mine k (c ∷ s) same ms own at' rest rec =
@@ -124,7 +126,7 @@ standing_own f t (o ∷ os) j m r h is size = go (o.txn == t) refl h (λ i k s. 
         ∙ ap (λ w. entry_by t c ∷ w) (rec (suc j) k s rest (drop_next (f t) j c s d) (omega (arith, l, size, ms)))
 
     go : (b : Bool) → (o.txn == t) ≡ b → map (λ (p : Place). p.index) (cond b (o ∷ filter (λ (p : Place). p.txn == t) os) (filter (λ (p : Place). p.txn == t) os)) ≡ count_from j m
-        → ((i n : ℕ) (q : List Call) → numbers t os ≡ count_from i n → drop i (f t) ≡ q → length q ≡ n → kept (only t) (standing_by f os) ≡ map (entry_by t) q)
+        → ((i n : ℕ) (q : List Noted) → numbers t os ≡ count_from i n → drop i (f t) ≡ q → length q ≡ n → kept (only t) (standing_by f os) ≡ map (entry_by t) q)
         → kept (only t) (standing_by f (o ∷ os)) ≡ map (entry_by t) r
     go true own e rec =
         let n = first_number o (numbers t os) j m e in
@@ -141,7 +143,7 @@ put_apart : {A : Type 0} (f : ℕ → A) (t u : ℕ) (x : A) → (u == t) ≡ fa
 put_apart f t u x apart = rw apart refl
 
 -- the entry at a place does not change where the one call there does not
-entries_put : (f : ℕ → List Call) (t : ℕ) (cs : List Call) (o : Place) → (o.txn ≡ t → take 1 (drop o.index cs) ≡ take 1 (drop o.index (f t))) → entries_at (put f t cs) o ≡ entries_at f o
+entries_put : (f : ℕ → List Noted) (t : ℕ) (cs : List Noted) (o : Place) → (o.txn ≡ t → take 1 (drop o.index cs) ≡ take 1 (drop o.index (f t))) → entries_at (put f t cs) o ≡ entries_at f o
 entries_put f t cs o h = go (o.txn == t) refl
   where
     go : (b : Bool) → (o.txn == t) ≡ b → entries_at (put f t cs) o ≡ entries_at f o
@@ -153,7 +155,7 @@ entries_put f t cs o h = go (o.txn == t) refl
 
 -- ---- a call is noted
 
-pub standing_noted : (f : ℕ → List Call) (t : ℕ) (c : Call) (os : List Place) → numbers t os ≡ count_from 0 (length (f t))
+pub standing_noted : (f : ℕ → List Noted) (t : ℕ) (c : Noted) (os : List Place) → numbers t os ≡ count_from 0 (length (f t))
     → standing_by (put f t (f t ++ c ∷ [])) (os ++ record { txn = t; index = length (f t) } ∷ []) ≡ standing_by f os ++ entry_by t c ∷ []
 standing_noted f t c os h =
     let g = put f t (f t ++ c ∷ []) in
@@ -185,7 +187,7 @@ length-push : {A : Type 0} (xs : List A) (x : A) → length (xs ++ x ∷ []) ≡
 length-push [] x = refl
 length-push (y ∷ xs) x = ap suc (length-push xs x)
 
-pub placed_noted : (f : ℕ → List Call) (t : ℕ) (c : Call) (os : List Place) → ((u : ℕ) → numbers u os ≡ count_from 0 (length (f u)))
+pub placed_noted : (f : ℕ → List Noted) (t : ℕ) (c : Noted) (os : List Place) → ((u : ℕ) → numbers u os ≡ count_from 0 (length (f u)))
     → (u : ℕ) → numbers u (os ++ record { txn = t; index = length (f t) } ∷ []) ≡ count_from 0 (length (put f t (f t ++ c ∷ []) u))
 placed_noted f t c os h u = numbers-append u os (record { txn = t; index = length (f t) } ∷ []) ∙ go (u == t) refl
   where
@@ -213,7 +215,7 @@ placed_noted f t c os h u = numbers-append u os (record { txn = t; index = lengt
 
 -- ---- a transaction leaves
 
-pub standing_left : (f g : ℕ → List Call) (t : ℕ) (os : List Place) → ((u : ℕ) → (u == t) ≡ false → g u ≡ f u)
+pub standing_left : (f g : ℕ → List Noted) (t : ℕ) (os : List Place) → ((u : ℕ) → (u == t) ≡ false → g u ≡ f u)
     → standing_by g (filter (λ (o : Place). not (o.txn == t)) os) ≡ kept (others t) (standing_by f os)
 standing_left f g t [] h = refl
 standing_left f g t (o ∷ os) h = go (o.txn == t) refl (standing_left f g t os h) ∙ sym (kept_step (others t) f o os)
@@ -243,7 +245,7 @@ numbers_gone t (o ∷ os) = go (o.txn == t) refl (numbers_gone t os)
     go true is rec = rec
     go false is rec = rw is rec
 
-pub placed_left : (f : ℕ → List Call) (t : ℕ) (os : List Place) → ((u : ℕ) → numbers u os ≡ count_from 0 (length (f u)))
+pub placed_left : (f : ℕ → List Noted) (t : ℕ) (os : List Place) → ((u : ℕ) → numbers u os ≡ count_from 0 (length (f u)))
     → (u : ℕ) → numbers u (filter (λ (o : Place). not (o.txn == t)) os) ≡ count_from 0 (length (put f t [] u))
 placed_left f t os h u = go (u == t) refl
   where
@@ -258,7 +260,7 @@ last_false None e = refl
 last_false (Some later) e = refl
 
 -- entries of another transaction have no part in it
-effect_beyond : (t u : ℕ) (cs : List Call) (es : List Entry) → (u == t) ≡ false → last_effect t (map (entry_by u) cs ++ es) ≡ last_effect t es
+effect_beyond : (t u : ℕ) (cs : List Noted) (es : List Entry) → (u == t) ≡ false → last_effect t (map (entry_by u) cs ++ es) ≡ last_effect t es
 effect_beyond t u [] es apart = refl
 effect_beyond t u (c ∷ cs) es apart = rw apart (last_false (last_effect t (map (entry_by u) cs ++ es)) (entry_by u c) ∙ effect_beyond t u cs es apart)
 
@@ -279,18 +281,18 @@ cut_step t e es apart = go (last_effect t es) refl
     go (Some later) is = rw is refl
     go None is = rw (is, apart) (ap (λ w. e ∷ w) (sym (cut_none t es is)))
 
-cut_beyond : (t u : ℕ) (cs : List Call) (es : List Entry) → (u == t) ≡ false → cut_back t (map (entry_by u) cs ++ es) ≡ map (entry_by u) cs ++ cut_back t es
+cut_beyond : (t u : ℕ) (cs : List Noted) (es : List Entry) → (u == t) ≡ false → cut_back t (map (entry_by u) cs ++ es) ≡ map (entry_by u) cs ++ cut_back t es
 cut_beyond t u [] es apart = refl
 cut_beyond t u (c ∷ cs) es apart =
     let none : is_effect t (entry_by u c) ≡ false = rw apart refl in
     cut_step t (entry_by u c) (map (entry_by u) cs ++ es) none ∙ ap (λ w. entry_by u c ∷ w) (cut_beyond t u cs es apart)
 
-own_entry : (f : ℕ → List Call) (t : ℕ) (o : Place) (j : ℕ) (c : Call) (s : List Call) → o.txn ≡ t → o.index ≡ j → drop j (f t) ≡ c ∷ s → entries_at f o ≡ entry_by t c ∷ []
+own_entry : (f : ℕ → List Noted) (t : ℕ) (o : Place) (j : ℕ) (c : Noted) (s : List Noted) → o.txn ≡ t → o.index ≡ j → drop j (f t) ≡ c ∷ s → entries_at f o ≡ entry_by t c ∷ []
 own_entry f t o j c s own place is =
     ap (λ v. map (entry_by v) (take 1 (drop o.index (f v)))) own
     ∙ (ap (λ n. map (entry_by t) (take 1 (drop n (f t)))) place ∙ ap (λ w. map (entry_by t) (take 1 w)) is)
 
-own_effect : (t : ℕ) (c : Call) (b : Bool) → has_inverse c ≡ b → is_effect t (entry_by t c) ≡ b
+pub own_effect : (t : ℕ) (c : Noted) (b : Bool) → has_inverse c ≡ b → is_effect t (entry_by t c) ≡ b
 own_effect t c b h = let is = same_is t t refl in rw is h
 
 -- what is left of the calls, one by one: there is a next, or none
@@ -308,13 +310,13 @@ later_none None true h = absurd cc
 later_none None false h = (refl, refl)
 
 -- calls none of which did anything
-pub nothing_to_undo : (f : ℕ → List Call) (t : ℕ) (os : List Place) (j m : ℕ) (r : List Call) → numbers t os ≡ count_from j m → drop j (f t) ≡ r → length r ≡ m → last_place r ≡ None
+pub nothing_to_undo : (f : ℕ → List Noted) (t : ℕ) (os : List Place) (j m : ℕ) (r : List Noted) → numbers t os ≡ count_from j m → drop j (f t) ≡ r → length r ≡ m → last_place r ≡ None
     → last_effect t (standing_by f os) ≡ None
 nothing_to_undo f t [] j m r h is size none = refl
 nothing_to_undo f t (o ∷ os) j m r h is size none = go (o.txn == t) refl h (λ i k s. nothing_to_undo f t os i k s)
   where
     mine : (k : ℕ) → m ≡ suc k → o.txn ≡ t → o.index ≡ j → numbers t os ≡ count_from (suc j) k
-        → ((i n : ℕ) (q : List Call) → numbers t os ≡ count_from i n → drop i (f t) ≡ q → length q ≡ n → last_place q ≡ None → last_effect t (standing_by f os) ≡ None)
+        → ((i n : ℕ) (q : List Noted) → numbers t os ≡ count_from i n → drop i (f t) ≡ q → length q ≡ n → last_place q ≡ None → last_effect t (standing_by f os) ≡ None)
         → last_effect t (entries_at f o ++ standing_by f os) ≡ None
     mine k more own place rest rec =
         let n = next_call r k (size ∙ more) in
@@ -326,7 +328,7 @@ nothing_to_undo f t (o ∷ os) j m r h is size none = go (o.txn == t) refl h (λ
         ap (λ w. last_effect t (w ++ standing_by f os)) (own_entry f t o j c s own place d) ∙ rw (after, idle) refl
 
     go : (b : Bool) → (o.txn == t) ≡ b → map (λ (p : Place). p.index) (cond b (o ∷ filter (λ (p : Place). p.txn == t) os) (filter (λ (p : Place). p.txn == t) os)) ≡ count_from j m
-        → ((i n : ℕ) (q : List Call) → numbers t os ≡ count_from i n → drop i (f t) ≡ q → length q ≡ n → last_place q ≡ None → last_effect t (standing_by f os) ≡ None)
+        → ((i n : ℕ) (q : List Noted) → numbers t os ≡ count_from i n → drop i (f t) ≡ q → length q ≡ n → last_place q ≡ None → last_effect t (standing_by f os) ≡ None)
         → last_effect t (standing_by f (o ∷ os)) ≡ None
     go true own e rec = let n = first_number o (numbers t os) j m e in mine n.0 n.1.0 (is_same o.txn t own) n.1.1 n.1.2 rec
     go false own e rec = effect_beyond t o.txn (take 1 (drop o.index (f o.txn))) (standing_by f os) own ∙ rec j m r e is size none
@@ -336,9 +338,9 @@ abbrev pub before_cut : ℕ → ℕ → Place → Bool
 before_cut t k o = not (o.txn == t) || nat_lt o.index k
 
 -- the last call that did anything, and what stands once it is undone
-pub record IsUndone (f : ℕ → List Call) (t k : ℕ) (os : List Place) : Type 0 where
-  pub call : Call
-  pub behind : List Call
+pub record IsUndone (f : ℕ → List Noted) (t k : ℕ) (os : List Place) : Type 0 where
+  pub call : Noted
+  pub behind : List Noted
   pub there : drop k (f t) ≡ call ∷ behind
   pub last : last_effect t (standing_by f os) ≡ Some (entry_by t call)
   pub cut : cut_back t (standing_by f os) ≡ standing_by (put f t (take k (f t))) (filter (before_cut t k) os)
@@ -362,13 +364,13 @@ later_some (Some p) b n h = inl (p, (refl, let e : n ≡ suc p = cc in e))
 later_some None true n h = inr (refl, refl, let e : n ≡ 0 = cc in e)
 later_some None false n h = absurd cc
 
-pub undone_by : (f : ℕ → List Call) (t k : ℕ) (os : List Place) (j m : ℕ) (r : List Call) (n : ℕ) → numbers t os ≡ count_from j m → drop j (f t) ≡ r → length r ≡ m
+pub undone_by : (f : ℕ → List Noted) (t k : ℕ) (os : List Place) (j m : ℕ) (r : List Noted) (n : ℕ) → numbers t os ≡ count_from j m → drop j (f t) ≡ r → length r ≡ m
     → last_place r ≡ Some n → j + n ≡ k → IsUndone f t k os
 undone_by f t k [] j zero r n h is size last at' = let e = no_call r size in let x : last_place r ≡ None = ap last_place e in absurd cc
 undone_by f t k [] j (suc m) r n h is size last at' = absurd cc
 undone_by f t k (o ∷ os) j m r n h is size last at' = go (o.txn == t) refl h (λ i l s p. undone_by f t k os i l s p)
   where
-    stays : (c : Call) (s : List Call) (p : ℕ) → o.txn ≡ t → o.index ≡ j → drop j (f t) ≡ c ∷ s → n ≡ suc p → IsUndone f t k os → IsUndone f t k (o ∷ os)
+    stays : (c : Noted) (s : List Noted) (p : ℕ) → o.txn ≡ t → o.index ≡ j → drop j (f t) ≡ c ∷ s → n ≡ suc p → IsUndone f t k os → IsUndone f t k (o ∷ os)
     stays c s p own place d more u =
         let here = own_entry f t o j c s own place d in
         let some = u.last in
@@ -385,7 +387,7 @@ undone_by f t k (o ∷ os) j m r n h is size last at' = go (o.txn == t) refl h (
               ∙ ap (λ b. standing_by (put f t (take k (f t))) (cond b (o ∷ filter (before_cut t k) os) (filter (before_cut t k) os))) (sym test)));
         }
 
-    goes : (c : Call) (s : List Call) (l : ℕ) → o.txn ≡ t → o.index ≡ j → drop j (f t) ≡ c ∷ s → numbers t os ≡ count_from (suc j) l → length s ≡ l → last_place s ≡ None → has_inverse c ≡ true → n ≡ 0
+    goes : (c : Noted) (s : List Noted) (l : ℕ) → o.txn ≡ t → o.index ≡ j → drop j (f t) ≡ c ∷ s → numbers t os ≡ count_from (suc j) l → length s ≡ l → last_place s ≡ None → has_inverse c ≡ true → n ≡ 0
         → IsUndone f t k (o ∷ os)
     goes c s l own place d rest size none effect first =
         let here = own_entry f t o j c s own place d in
@@ -406,7 +408,7 @@ undone_by f t k (o ∷ os) j m r n h is size last at' = go (o.txn == t) refl h (
         }
 
     mine : (l : ℕ) → m ≡ suc l → o.txn ≡ t → o.index ≡ j → numbers t os ≡ count_from (suc j) l
-        → ((i e : ℕ) (q : List Call) (p : ℕ) → numbers t os ≡ count_from i e → drop i (f t) ≡ q → length q ≡ e → last_place q ≡ Some p → i + p ≡ k → IsUndone f t k os)
+        → ((i e : ℕ) (q : List Noted) (p : ℕ) → numbers t os ≡ count_from i e → drop i (f t) ≡ q → length q ≡ e → last_place q ≡ Some p → i + p ≡ k → IsUndone f t k os)
         → IsUndone f t k (o ∷ os)
     mine l more own place rest rec =
         let x = next_call r l (size ∙ more) in
@@ -414,7 +416,7 @@ undone_by f t k (o ∷ os) j m r n h is size last at' = go (o.txn == t) refl h (
         let d : drop j (f t) ≡ c ∷ s = is ∙ x.1.1.0 in
         either c s d x.1.1.1 (later_some (last_place s) (has_inverse c) n (sym (ap last_place x.1.1.0) ∙ last))
       where
-        either : (c : Call) (s : List Call) → drop j (f t) ≡ c ∷ s → length s ≡ l → ((p : ℕ) × ((last_place s ≡ Some p) × (n ≡ suc p))) ⊎ ((last_place s ≡ None) × (has_inverse c ≡ true) × (n ≡ 0)) → IsUndone f t k (o ∷ os)
+        either : (c : Noted) (s : List Noted) → drop j (f t) ≡ c ∷ s → length s ≡ l → ((p : ℕ) × ((last_place s ≡ Some p) × (n ≡ suc p))) ⊎ ((last_place s ≡ None) × (has_inverse c ≡ true) × (n ≡ 0)) → IsUndone f t k (o ∷ os)
         either c s d short (inl p) = stays c s p.0 own place d p.1.1 (rec (suc j) l s p.0 rest (drop_next (f t) j c s d) short p.1.0 (omega (arith, p.1.1, at')))
         either c s d short (inr e) = goes c s l own place d rest short e.0 e.1 e.2
 
@@ -433,7 +435,7 @@ undone_by f t k (o ∷ os) j m r n h is size last at' = go (o.txn == t) refl h (
         }
 
     go : (b : Bool) → (o.txn == t) ≡ b → map (λ (p : Place). p.index) (cond b (o ∷ filter (λ (p : Place). p.txn == t) os) (filter (λ (p : Place). p.txn == t) os)) ≡ count_from j m
-        → ((i e : ℕ) (q : List Call) (p : ℕ) → numbers t os ≡ count_from i e → drop i (f t) ≡ q → length q ≡ e → last_place q ≡ Some p → i + p ≡ k → IsUndone f t k os)
+        → ((i e : ℕ) (q : List Noted) (p : ℕ) → numbers t os ≡ count_from i e → drop i (f t) ≡ q → length q ≡ e → last_place q ≡ Some p → i + p ≡ k → IsUndone f t k os)
         → IsUndone f t k (o ∷ os)
     go true own e rec = let x = first_number o (numbers t os) j m e in mine x.0 x.1.0 (is_same o.txn t own) x.1.1 x.1.2 rec
     go false own e rec = other (rec j m r n e is size last at') own
@@ -468,7 +470,7 @@ numbers_cut t k (o ∷ os) j m n h at' few = go (o.txn == t) refl h (λ i l p. n
     go true own e rec = let x = first_number o (numbers t os) j m e in mine x.0 n refl x.1.0 (is_same o.txn t own) x.1.1 x.1.2 rec
     go false own e rec = rw own (rw own (rec j m n e at' few))
 
-pub placed_undone : (f : ℕ → List Call) (t k : ℕ) (os : List Place) → k ≤ length (f t) → ((u : ℕ) → numbers u os ≡ count_from 0 (length (f u)))
+pub placed_undone : (f : ℕ → List Noted) (t k : ℕ) (os : List Place) → k ≤ length (f t) → ((u : ℕ) → numbers u os ≡ count_from 0 (length (f u)))
     → (u : ℕ) → numbers u (filter (before_cut t k) os) ≡ count_from 0 (length (put f t (take k (f t)) u))
 placed_undone f t k os within h u = go (u == t) refl
   where
@@ -477,3 +479,194 @@ placed_undone f t k os within h u = go (u == t) refl
         subst (λ v. numbers v (filter (before_cut t k) os) ≡ count_from 0 (length (take k (f t)))) (sym (is_same u t is))
         (numbers_cut t k os 0 (length (f t)) k (h t) (omega arith) within ∙ ap (count_from 0) (sym (length-take-le k (f t) within)))
     go false is = numbers_kept u (before_cut t k) os (λ o own. let same : o.txn ≡ u = is_same o.txn u own in let x : (o.txn == t) ≡ false = ap (λ v. v == t) same ∙ is in rw x refl) ∙ h u
+
+-- ---- the last effect is taken back
+
+pub length-set_role : (cs : List Noted) (k : ℕ) (r : Role) → length (set_role cs k r) ≡ length cs
+length-set_role [] k r = refl
+length-set_role (c ∷ cs) zero r = refl
+length-set_role (c ∷ cs) (suc k) r = ap suc (length-set_role cs k r)
+
+one_of_set : (cs : List Noted) (j k : ℕ) (r : Role) → ((j ≡ k) → ⊥) → take 1 (drop j (set_role cs k r)) ≡ take 1 (drop j cs)
+one_of_set [] j k r h = refl
+one_of_set (c ∷ cs) zero zero r h = absurd (h refl)
+one_of_set (c ∷ cs) zero (suc k) r h = refl
+one_of_set (c ∷ cs) (suc j) zero r h = refl
+one_of_set (c ∷ cs) (suc j) (suc k) r h = one_of_set cs j k r (λ e. h (ap suc e))
+
+one_set : (cs : List Noted) (k : ℕ) (r : Role) (c : Noted) (s : List Noted) → drop k cs ≡ c ∷ s → take 1 (drop k (set_role cs k r)) ≡ record c { role = r } ∷ []
+one_set [] zero r c s h = absurd cc
+one_set [] (suc k) r c s h = absurd cc
+one_set (x ∷ cs) zero r c s h = let same : x ≡ c = cc in ap (λ (y : Noted). record y { role = r } ∷ []) same
+one_set (x ∷ cs) (suc k) r c s h = one_set cs k r c s h
+
+pub mark_none : (t : ℕ) (es : List Entry) → last_effect t es ≡ None → mark_last t es ≡ es
+mark_none t [] h = refl
+mark_none t (e ∷ es) h = go (last_effect t es) refl (is_effect t e) refl h
+  where
+    go : (x : Option Entry) → last_effect t es ≡ x → (b : Bool) → is_effect t e ≡ b → last_of x b e ≡ None
+        → cond (is_some (last_effect t es)) (e ∷ mark_last t es) (cond (is_effect t e) (with_role TakenBack e ∷ es) (e ∷ es)) ≡ e ∷ es
+    go (Some later) is b test k = absurd cc
+    go None is true test k = absurd cc
+    go None is false test k = rw (is, test) refl
+
+mark_step : (t : ℕ) (e : Entry) (es : List Entry) → is_effect t e ≡ false → mark_last t (e ∷ es) ≡ e ∷ mark_last t es
+mark_step t e es apart = go (last_effect t es) refl
+  where
+    go : (x : Option Entry) → last_effect t es ≡ x → cond (is_some (last_effect t es)) (e ∷ mark_last t es) (cond (is_effect t e) (with_role TakenBack e ∷ es) (e ∷ es)) ≡ e ∷ mark_last t es
+    go (Some later) is = rw is refl
+    go None is = rw (is, apart) (ap (λ w. e ∷ w) (sym (mark_none t es is)))
+
+mark_beyond : (t u : ℕ) (cs : List Noted) (es : List Entry) → (u == t) ≡ false → mark_last t (map (entry_by u) cs ++ es) ≡ map (entry_by u) cs ++ mark_last t es
+mark_beyond t u [] es apart = refl
+mark_beyond t u (c ∷ cs) es apart =
+    let none : is_effect t (entry_by u c) ≡ false = rw apart refl in
+    mark_step t (entry_by u c) (map (entry_by u) cs ++ es) none ∙ ap (λ w. entry_by u c ∷ w) (mark_beyond t u cs es apart)
+
+marked_later : (f : ℕ → List Noted) (t k : ℕ) (r : Role) (os : List Place) (m : ℕ) → Each (λ (o : Place). o.txn ≡ t → (suc k ≤ o.index) × (o.index < suc k + m)) os
+    → Each (λ (o : Place). entries_at f o ≡ entries_at (put f t (set_role (f t) k r)) o) os
+marked_later f t k r [] m h = tt
+marked_later f t k r (o ∷ os) m h = (
+  sym (entries_put f t (set_role (f t) k r) o (λ own. one_of_set (f t) o.index k r (λ e. let far = (h.0 own).0 in absurd (omega (arith, far, e))))),
+  marked_later f t k r os m h.1,
+)
+
+pub marked_by : (f : ℕ → List Noted) (t k : ℕ) (os : List Place) (j m : ℕ) (r : List Noted) (n : ℕ) → numbers t os ≡ count_from j m → drop j (f t) ≡ r → length r ≡ m
+    → last_place r ≡ Some n → j + n ≡ k → mark_last t (standing_by f os) ≡ standing_by (put f t (set_role (f t) k TakenBack)) os
+marked_by f t k [] j zero r n h is size last at' = refl
+marked_by f t k [] j (suc m) r n h is size last at' = absurd cc
+marked_by f t k (o ∷ os) j m r n h is size last at' = go (o.txn == t) refl h (λ i l s p. marked_by f t k os i l s p)
+  where
+    g : ℕ → List Noted
+    g = put f t (set_role (f t) k TakenBack)
+
+    stays : (c : Noted) (s : List Noted) (p : ℕ) → o.txn ≡ t → o.index ≡ j → drop j (f t) ≡ c ∷ s → n ≡ suc p → IsUndone f t k os → mark_last t (standing_by f os) ≡ standing_by g os
+        → mark_last t (standing_by f (o ∷ os)) ≡ standing_by g (o ∷ os)
+    stays c s p own place d more u rest =
+        let here = own_entry f t o j c s own place d in
+        let some = u.last in
+        let near : o.index < k = omega (arith, place, more, at') in
+        let kept_entry : entries_at g o ≡ entries_at f o = entries_put f t (set_role (f t) k TakenBack) o (λ own. one_of_set (f t) o.index k TakenBack (λ e. absurd (omega (arith, near, e)))) in
+        ap (λ w. mark_last t (w ++ standing_by f os)) here ∙ (rw some (ap (λ w. entry_by t c ∷ w) rest)
+        ∙ ap (λ w. w ++ standing_by g os) (sym here ∙ sym kept_entry))
+
+    goes : (c : Noted) (s : List Noted) (l : ℕ) → o.txn ≡ t → o.index ≡ j → drop j (f t) ≡ c ∷ s → numbers t os ≡ count_from (suc j) l → length s ≡ l → last_place s ≡ None → has_inverse c ≡ true → n ≡ 0
+        → mark_last t (standing_by f (o ∷ os)) ≡ standing_by g (o ∷ os)
+    goes c s l own place d rest size none effect first =
+        let here = own_entry f t o j c s own place d in
+        let nothing = nothing_to_undo f t os (suc j) l s rest (drop_next (f t) j c s d) size none in
+        let done = own_effect t c true effect in
+        let same : j ≡ k = omega (arith, at', first) in
+        let bounds = numbers_between t os (suc k) l (subst (λ i. numbers t os ≡ count_from (suc i) l) same rest) in
+        let there : drop k (f t) ≡ c ∷ s = subst (λ i. drop i (f t) ≡ c ∷ s) same d in
+        let now : entries_at g o ≡ with_role TakenBack (entry_by t c) ∷ [] =
+        ap (λ v. map (entry_by v) (take 1 (drop o.index (g v)))) own
+        ∙ (ap (λ w. map (entry_by t) (take 1 (drop o.index w))) (put_own f t t (set_role (f t) k TakenBack) refl)
+        ∙ (ap (λ i. map (entry_by t) (take 1 (drop i (set_role (f t) k TakenBack)))) (place ∙ same)
+        ∙ ap (map (entry_by t)) (one_set (f t) k TakenBack c s there))) in
+        ap (λ w. mark_last t (w ++ standing_by f os)) here ∙ (rw (nothing, done) refl
+        ∙ (ap (λ w. with_role TakenBack (entry_by t c) ∷ w) (standing_same f g os (marked_later f t k TakenBack os l bounds))
+        ∙ ap (λ w. w ++ standing_by g os) (sym now)))
+
+    mine : (l : ℕ) → m ≡ suc l → o.txn ≡ t → o.index ≡ j → numbers t os ≡ count_from (suc j) l
+        → ((i e : ℕ) (q : List Noted) (p : ℕ) → numbers t os ≡ count_from i e → drop i (f t) ≡ q → length q ≡ e → last_place q ≡ Some p → i + p ≡ k → mark_last t (standing_by f os) ≡ standing_by g os)
+        → mark_last t (standing_by f (o ∷ os)) ≡ standing_by g (o ∷ os)
+    mine l more own place rest rec =
+        let x = next_call r l (size ∙ more) in
+        let c = x.0 in let s = x.1.0 in
+        let d : drop j (f t) ≡ c ∷ s = is ∙ x.1.1.0 in
+        either c s d x.1.1.1 (later_some (last_place s) (has_inverse c) n (sym (ap last_place x.1.1.0) ∙ last))
+      where
+        either : (c : Noted) (s : List Noted) → drop j (f t) ≡ c ∷ s → length s ≡ l → ((p : ℕ) × ((last_place s ≡ Some p) × (n ≡ suc p))) ⊎ ((last_place s ≡ None) × (has_inverse c ≡ true) × (n ≡ 0))
+            → mark_last t (standing_by f (o ∷ os)) ≡ standing_by g (o ∷ os)
+        either c s d short (inl p) =
+            let far : suc j + p.0 ≡ k = omega (arith, p.1.1, at') in
+            stays c s p.0 own place d p.1.1 (undone_by f t k os (suc j) l s p.0 rest (drop_next (f t) j c s d) short p.1.0 far) (rec (suc j) l s p.0 rest (drop_next (f t) j c s d) short p.1.0 far)
+        either c s d short (inr e) = goes c s l own place d rest short e.0 e.1 e.2
+
+    go : (b : Bool) → (o.txn == t) ≡ b → map (λ (p : Place). p.index) (cond b (o ∷ filter (λ (p : Place). p.txn == t) os) (filter (λ (p : Place). p.txn == t) os)) ≡ count_from j m
+        → ((i e : ℕ) (q : List Noted) (p : ℕ) → numbers t os ≡ count_from i e → drop i (f t) ≡ q → length q ≡ e → last_place q ≡ Some p → i + p ≡ k → mark_last t (standing_by f os) ≡ standing_by g os)
+        → mark_last t (standing_by f (o ∷ os)) ≡ standing_by g (o ∷ os)
+    go true own e rec = let x = first_number o (numbers t os) j m e in mine x.0 x.1.0 (is_same o.txn t own) x.1.1 x.1.2 rec
+    go false apart e rec =
+        let cs = take 1 (drop o.index (f o.txn)) in
+        mark_beyond t o.txn cs (standing_by f os) apart ∙ (ap (λ w. entries_at f o ++ w) (rec j m r n e is size last at')
+        ∙ ap (λ w. map (entry_by o.txn) (take 1 (drop o.index w)) ++ standing_by g os) (sym (put_apart f t o.txn (set_role (f t) k TakenBack) apart)))
+
+-- ---- a transaction is back
+
+pub length-settle : (n : ℕ) (cs : List Noted) → length (settle_calls n cs) ≡ length cs
+length-settle n [] = refl
+length-settle n (c ∷ cs) = ap suc (length-settle (left_after n c.role) cs)
+
+mark_from : (t : ℕ) (es : List Entry) → settle_after t 0 es ≡ mark_all t es
+mark_from t [] = refl
+mark_from t (e ∷ es) = refl
+
+uncounted : (t u : ℕ) (c : Noted) → (u == t) ≡ false → is_counted t (entry_by u c) ≡ false
+uncounted t u c apart = rw apart refl
+
+mark_past : (t u : ℕ) (cs : List Noted) (es : List Entry) → (u == t) ≡ false → mark_all t (map (entry_by u) cs ++ es) ≡ map (entry_by u) cs ++ mark_all t es
+mark_past t u [] es apart = refl
+mark_past t u (c ∷ cs) es apart =
+    ap (λ b. cond b (with_role TakenBack (entry_by u c) ∷ mark_all t (map (entry_by u) cs ++ es)) (entry_by u c ∷ mark_all t (map (entry_by u) cs ++ es))) (uncounted t u c apart)
+    ∙ ap (λ w. entry_by u c ∷ w) (mark_past t u cs es apart)
+
+settle_past : (t u n : ℕ) (cs : List Noted) (es : List Entry) → (u == t) ≡ false → settle_after t n (map (entry_by u) cs ++ es) ≡ map (entry_by u) cs ++ settle_after t n es
+settle_past t u zero cs es apart = mark_from t (map (entry_by u) cs ++ es) ∙ (mark_past t u cs es apart ∙ ap (λ w. map (entry_by u) cs ++ w) (sym (mark_from t es)))
+settle_past t u (suc n) [] es apart = refl
+settle_past t u (suc n) (c ∷ cs) es apart =
+    ap (λ b. cond b (entry_by u c ∷ settle_after t n (map (entry_by u) cs ++ es)) (entry_by u c ∷ settle_after t (suc n) (map (entry_by u) cs ++ es))) (uncounted t u c apart)
+    ∙ ap (λ w. entry_by u c ∷ w) (settle_past t u (suc n) cs es apart)
+
+pub counted_own : (t : ℕ) (c : Noted) → is_counted t (entry_by t c) ≡ is_standing c.role
+counted_own t c = let is = same_is t t refl in rw is refl
+
+-- one call more is marked as it should be, and so is the rest
+one_settled : (t n : ℕ) (c : Noted) (es : List Entry) → settle_after t n (entry_by t c ∷ es) ≡ entry_by t (record c { role = settled_role n c.role }) ∷ settle_after t (left_after n c.role) es
+one_settled t zero c es =
+    ap (λ b. cond b (with_role TakenBack (entry_by t c) ∷ mark_all t es) (entry_by t c ∷ mark_all t es)) (counted_own t c) ∙ go (is_standing c.role)
+  where
+    go : (b : Bool) → cond b (with_role TakenBack (entry_by t c) ∷ mark_all t es) (entry_by t c ∷ mark_all t es) ≡ entry_by t (record c { role = cond b TakenBack c.role }) ∷ settle_after t zero es
+    go true = ap (λ w. with_role TakenBack (entry_by t c) ∷ w) (sym (mark_from t es))
+    go false = ap (λ w. entry_by t c ∷ w) (sym (mark_from t es))
+one_settled t (suc n) c es =
+    ap (λ b. cond b (entry_by t c ∷ settle_after t n es) (entry_by t c ∷ settle_after t (suc n) es)) (counted_own t c) ∙ go (is_standing c.role)
+  where
+    go : (b : Bool) → cond b (entry_by t c ∷ settle_after t n es) (entry_by t c ∷ settle_after t (suc n) es) ≡ entry_by t c ∷ settle_after t (cond b n (suc n)) es
+    go true = refl
+    go false = refl
+
+pub settled_by : (f : ℕ → List Noted) (cs : List Noted) (t : ℕ) (os : List Place) (j m : ℕ) (r : List Noted) (n : ℕ) → numbers t os ≡ count_from j m → drop j (f t) ≡ r → length r ≡ m
+    → drop j cs ≡ settle_calls n r → settle_after t n (standing_by f os) ≡ standing_by (put f t cs) os
+settled_by f cs t [] j m r n h is size now = refl
+settled_by f cs t (o ∷ os) j m r n h is size now = go (o.txn == t) refl h (λ i l s p. settled_by f cs t os i l s p)
+  where
+    mine : (l : ℕ) → m ≡ suc l → o.txn ≡ t → o.index ≡ j → numbers t os ≡ count_from (suc j) l
+        → ((i e : ℕ) (q : List Noted) (p : ℕ) → numbers t os ≡ count_from i e → drop i (f t) ≡ q → length q ≡ e → drop i cs ≡ settle_calls p q → settle_after t p (standing_by f os) ≡ standing_by (put f t cs) os)
+        → settle_after t n (standing_by f (o ∷ os)) ≡ standing_by (put f t cs) (o ∷ os)
+    mine l more own place rest rec =
+        let x = next_call r l (size ∙ more) in
+        let c = x.0 in let s = x.1.0 in
+        let d : drop j (f t) ≡ c ∷ s = is ∙ x.1.1.0 in
+        let here = own_entry f t o j c s own place d in
+        let first : Noted = record c { role = settled_role n c.role } in
+        let few : ℕ = left_after n c.role in
+        let left : drop j cs ≡ first ∷ settle_calls few s = now ∙ ap (settle_calls n) x.1.1.0 in
+        let there : entries_at (put f t cs) o ≡ entry_by t first ∷ [] =
+        ap (λ v. map (entry_by v) (take 1 (drop o.index (put f t cs v)))) own
+        ∙ (ap (λ w. map (entry_by t) (take 1 (drop o.index w))) (put_own f t t cs refl)
+        ∙ (ap (λ i. map (entry_by t) (take 1 (drop i cs))) place ∙ ap (λ w. map (entry_by t) (take 1 w)) left)) in
+        ap (λ w. settle_after t n (w ++ standing_by f os)) here
+        ∙ (one_settled t n c (standing_by f os)
+        ∙ (ap (λ w. entry_by t first ∷ w) (rec (suc j) l s few rest (drop_next (f t) j c s d) x.1.1.1 (drop_next cs j first (settle_calls few s) left))
+        ∙ ap (λ w. w ++ standing_by (put f t cs) os) (sym there)))
+
+    go : (b : Bool) → (o.txn == t) ≡ b → map (λ (p : Place). p.index) (cond b (o ∷ filter (λ (p : Place). p.txn == t) os) (filter (λ (p : Place). p.txn == t) os)) ≡ count_from j m
+        → ((i e : ℕ) (q : List Noted) (p : ℕ) → numbers t os ≡ count_from i e → drop i (f t) ≡ q → length q ≡ e → drop i cs ≡ settle_calls p q → settle_after t p (standing_by f os) ≡ standing_by (put f t cs) os)
+        → settle_after t n (standing_by f (o ∷ os)) ≡ standing_by (put f t cs) (o ∷ os)
+    go true own e rec = let x = first_number o (numbers t os) j m e in mine x.0 x.1.0 (is_same o.txn t own) x.1.1 x.1.2 rec
+    go false apart e rec =
+        settle_past t o.txn n (take 1 (drop o.index (f o.txn))) (standing_by f os) apart
+        ∙ (ap (λ w. entries_at f o ++ w) (rec j m r n e is size now)
+        ∙ ap (λ w. map (entry_by o.txn) (take 1 (drop o.index w)) ++ standing_by (put f t cs) os) (sym (put_apart f t o.txn cs apart)))

@@ -1,8 +1,14 @@
 pub mod Entries
+pub mod Ballots
+pub mod Nesting
+pub mod Forward
+pub mod Settling
 pub mod Shapes
 pub mod AtCell
 pub mod Moving
+pub mod Cutting
 pub mod Events
+pub mod Standing
 pub mod Pending
 pub mod Cuts
 pub mod Locking
@@ -14,6 +20,8 @@ pub mod Witness
 pub mod Failures
 pub mod Lasts
 pub mod Ends
+pub mod Noting
 pub mod MemberLists
+pub mod Reaching
 pub mod Wells
 pub mod Behind

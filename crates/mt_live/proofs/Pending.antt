@@ -1,6 +1,6 @@
 -- Transaction by transaction the pending adds are those that stand and the one that runs, so there is
 -- room for what stands.
-use Rattle.std.proofs.Common.{◌≡◌, ◌≢◌, ℕ, ℤ, ◌≤ℤ◌, Bool, true, false, cond, ◌==◌, List, [], ◌∷◌, ◌++◌, refl, ap, sym, ◌∙◌, subst, arith}
+use Rattle.std.proofs.Common.{◌≡◌, ◌≢◌, ℕ, ℤ, Bool, true, false, cond, ◌==◌, List, [], ◌∷◌, ◌++◌, refl, ap, sym, ◌∙◌, subst, arith}
 use Rattle.std.proofs.lemmas.Int.{ints}
 use Rattle.std.proofs.lemmas.Bool.Decides.{Decides-eqb}
 use Rattle.mt_model.specs.declared.counters.Count.{Count}
@@ -8,6 +8,7 @@ use Rattle.mt_model.specs.declared.pending_add.Pending.{Pending}
 use Rattle.mt_model.specs.Escrow.{lowest, highest, HasRoom}
 use Rattle.mt_model.specs.Pending.{steps_at, pending_of}
 use Rattle.mt_model.proofs.Sums.{lowest_below, highest_above}
+use Rattle.mt_live.specs.Taking.{Wider}
 
 -- one entry's step before others
 abbrev led : Bool → ℤ → List ℤ → List ℤ
@@ -64,10 +65,6 @@ first_out t (p ∷ ps) q qs h = out_step t p ps q qs (λ k. first_out t ps q qs 
 -- ps has, transaction by transaction, those of qs and then others
 abbrev pub Covers : List Pending → List Pending → (ℕ → List Pending) → Type 0
 Covers ps qs rest = (t : ℕ) → pending_of t ps ≡ pending_of t qs ++ rest t
-
-pub record Wider (xs ys : List ℤ) : Type 0 where
-  pub lows : lowest xs ≤ℤ lowest ys
-  pub highs : highest ys ≤ℤ highest xs
 
 led_wider : (t : Bool) (d : ℤ) (xs ds es : List ℤ) → Alike xs (led t d ds) → Wider ds es → Wider xs (led t d es)
 led_wider true d xs ds es h w = let a = h.lows in let b = h.highs in let x = w.lows in let y = w.highs in record { lows = omega (arith, ints); highs = omega (arith, ints) }

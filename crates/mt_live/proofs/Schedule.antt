@@ -16,10 +16,10 @@ use Rattle.mt_live.specs.Entries.{Entry, runs, kept}
 use Rattle.mt_live.specs.Adds.{adds, add_of}
 use Rattle.mt_live.specs.Sound.{Each, IsSound}
 use Rattle.mt_live.specs.Undoing.{only, others}
-use Rattle.mt_live.specs.Machine.{State, is_live, IsKept, Goes, Begins, Calls, Ends, Drops, Commits, Undoes, Aborts, AllGo, last_state, start}
+use Rattle.mt_live.specs.Machine.{State, is_live, IsKept, Goes, Begins, Calls, Ends, Drops, Commits, Undoes, Returns, Settles, Aborts, AllGo, last_state, start}
 use Rattle.mt_live.specs.Laws.{in_turn, without_all, IsRight}
 use Rattle.mt_live.proofs.Events.{commits}
-use Rattle.mt_live.proofs.Keeping.{kept_explained, kept_begun, kept_called, kept_ended, kept_dropped, kept_booked, kept_undone, kept_gone}
+use Rattle.mt_live.proofs.Keeping.{kept_explained, kept_begun, kept_called, kept_ended, kept_dropped, kept_booked, kept_undone, kept_returned, kept_settled, kept_gone}
 
 -- ---- one event, and one after the other
 
@@ -30,6 +30,8 @@ goes b s z k (Ends t op running is) = subst (IsKept b) (sym is) (kept_ended b s 
 goes b s z k (Drops t op ps running given is) = subst (IsKept b) (sym is) (kept_dropped b s t op ps k running given)
 goes b s z k (Commits t session live idle is) = subst (IsKept b) (sym is) (kept_booked b s t session k idle)
 goes b s z k (Undoes t last i ps idle done inverse given is) = subst (IsKept b) (sym is) (kept_undone b s t last i ps k idle done inverse given)
+goes b s z k (Returns t last i ps idle done inverse given is) = subst (IsKept b) (sym is) (kept_returned b s t last i ps k idle done inverse given)
+goes b s z k (Settles t n idle none is) = subst (IsKept b) (sym is) (kept_settled b s t n k idle none)
 goes b s z k (Aborts t idle none is) = subst (IsKept b) (sym is) (kept_gone b s t k idle none)
 
 pub all_go : (b : Base) (s : State) (zs : List State) → IsKept b s → AllGo b s zs → IsKept b (last_state s zs)
@@ -39,16 +41,25 @@ all_go b s (z ∷ zs) k g = all_go b z zs (goes b s z k g.0) g.1
 pub start_kept : (b : Base) → IsBase b → IsKept b (start b)
 start_kept b within = record {
   legal = tt;
-  sound = record { acted = tt; locked = tt; done = tt; room = λ c. no_steps (b.counts c) (within c) };
+  sound = record {
+    acted = tt;
+    locked = tt;
+    done = tt;
+    room = λ c. no_steps (b.counts c) (within c);
+    ballot = λ c p. (refl, refl);
+    nested = λ t. refl;
+  };
   base = refl;
   locks = λ t u x m n apart p q. absurd cc;
   room = λ c. no_steps (b.counts c) (within c);
   tied = λ t. refl;
+  set_aside = λ p c. record { lows = omega (arith, ints); highs = omega (arith, ints) };
   locked = λ t op h. absurd cc;
   owned = record {
     standing = tt;
     running = λ t op h. absurd cc;
     held = λ t x m h. absurd cc;
+    aside = tt;
     fresh = λ t later h. absurd cc;
   };
 }
@@ -81,14 +92,19 @@ nothing_pends (p ∷ ps) h =
     absurd cc
 
 pub nobody_leaves_nothing : (b : Base) (s : State) → IsKept b s → ((t : ℕ) → is_live s t ≡ true → ⊥)
-    → (s.standing ≡ []) × (s.pending ≡ []) × ((t : ℕ) (x : Object) (m : LockMode) → s.held t x m ≡ true → ⊥)
+    → (s.standing ≡ []) × (s.pending ≡ []) × (s.aside ≡ []) × ((t : ℕ) (x : Object) (m : LockMode) → s.held t x m ≡ true → ⊥)
 nobody_leaves_nothing b s k none =
     let stands : s.standing ≡ [] = nothing_stands s.standing (is_live s) none k.owned.standing in (
       stands,
       nothing_pends s.pending (λ t. k.tied t ∙ (ap (λ w. pending_of t (adds w) ++ add_of t (s.running t)) stands ∙ idle t (s.running t) refl)),
+      nothing_aside s.aside k.owned.aside,
       λ t x m h. none t (k.owned.held t x m h),
     )
   where
+    nothing_aside : (ps : List Pending) → Each (λ (p : Pending). is_live s p.txn ≡ true) ps → ps ≡ []
+    nothing_aside [] h = refl
+    nothing_aside (p ∷ ps) h = absurd (none p.txn h.0)
+
     idle : (t : ℕ) (r : Option Op) → s.running t ≡ r → add_of t r ≡ []
     idle t None is = refl
     idle t (Some op) is = absurd (none t (k.owned.running t op is))

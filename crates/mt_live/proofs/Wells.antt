@@ -8,14 +8,15 @@ use Rattle.std.proofs.lemmas.List.{length-append, length-set, get_or-take, lengt
 use Rattle.std.proofs.lemmas.List.Elements.{All-push, All-set, All-cons}
 use Rattle.std.proofs.lemmas.List.Quantifiers.{position-Some, all_pairs_push}
 use Rattle.std.proofs.lemmas.List.Sums.{sum_by-set, sum_by-remove, sum_by_push, sum_by-le}
-use Rattle.mt_model.specs.History.{Call}
 use Rattle.mt_live.specs.declared.places.Place.{Place}
-use Rattle.mt_live.specs.Entries.{calls, kept}
+use Rattle.mt_model.specs.History.{Call}
+use Rattle.mt_live.specs.declared.transactions.Role.TheVariants.{TakenBack}
+use Rattle.mt_live.specs.Entries.{Entry, calls, kept}
 use Rattle.mt_live.specs.Machine.{put}
-use Rattle.mt_live.specs.Undoing.{only, others, last_effect, cut_back}
-use Rattle.mt_live.specs.Members.{Member, fresh, with_room, with_call, cut_at, cut_to, taken_back, last_place}
+use Rattle.mt_live.specs.Undoing.{only, others, last_effect, cut_back, mark_last, settle_after}
+use Rattle.mt_live.specs.Members.{Noted, Member, plain_call, fresh, with_room, with_noted, cut_at, cut_to, taken_back, last_place, set_role, with_role_at, with_mark, settle_calls, settled_at}
 use Rattle.mt_live.specs.Lives.{member_of, is_member, has_room, entry_by, IsNumbered, AreNumbered, IsAbove, IsFirst, IsChanged, calls_in, calls_of, standing_by, numbers, count_from, AreRising, rooms, IsWell}
-use Rattle.mt_live.proofs.Ends.{standing_noted, placed_noted, standing_left, placed_left, standing_own, nothing_to_undo, before_cut, IsUndone, undone_by, placed_undone}
+use Rattle.mt_live.proofs.Ends.{standing_noted, placed_noted, standing_left, placed_left, standing_own, nothing_to_undo, before_cut, IsUndone, undone_by, placed_undone, length-set_role, mark_none, marked_by, length-settle, settled_by}
 use Rattle.mt_live.proofs.MemberLists.{there, member_of-set, member_of-push, member_of-remove, nobody_above, rising_set, rising_remove, rising_push}
 
 -- ---- one transaction's list of calls is another
@@ -94,7 +95,7 @@ same_numbered begun t m y own operations calls n = record {
   rising = subst (AllPairs (λ (a b : ℕ). a < b)) (sym operations) n.rising;
 }
 
-noted_numbered : (begun t : ℕ) (m y : Member) (o : ℕ) (c : Call) → y ≡ with_call m o c → All (λ (x : ℕ). x < o) m.operations → IsNumbered begun t m → IsNumbered begun t y
+noted_numbered : (begun t : ℕ) (m y : Member) (o : ℕ) (c : Noted) → y ≡ with_noted m o c → All (λ (x : ℕ). x < o) m.operations → IsNumbered begun t m → IsNumbered begun t y
 noted_numbered begun t m y o c now above n = subst (IsNumbered begun t) (sym now) (record {
   number = n.number;
   from_one = n.from_one;
@@ -258,7 +259,7 @@ room_well begun ms os used capacity t i m y os' used' capacity' w first is now s
 pub room_there : (ms : List Member) (t i : ℕ) (m : Member) → IsFirst ms t i → m ≡ get_or ms i m → has_room (member_of ms t) ≡ true → m.has_room ≡ true
 room_there ms t i m first is h = sym (ap has_room (is_there ms t i m first is)) ∙ h
 
-its_calls : (ms : List Member) (t i : ℕ) (m : Member) → IsFirst ms t i → m ≡ get_or ms i m → calls_of ms t ≡ m.calls
+pub its_calls : (ms : List Member) (t i : ℕ) (m : Member) → IsFirst ms t i → m ≡ get_or ms i m → calls_of ms t ≡ m.calls
 its_calls ms t i m first is = ap calls_in (is_there ms t i m first is)
 
 one_room : (m : Member) → m.has_room ≡ true → rooms m ≡ 1
@@ -273,14 +274,14 @@ place_left begun ms os used capacity t i m w first is h =
     let room = w.room in
     omega (arith, sums, mine, room)
 
-noted_calls : (ms : List Member) (t i : ℕ) (m y : Member) (o : ℕ) (c : Call) → IsFirst ms t i → m ≡ get_or ms i m → y ≡ with_call m o c → y.calls ≡ calls_of ms t ++ c ∷ []
-noted_calls ms t i m y o c first is now = ap (λ (x : Member). x.calls) now ∙ ap (λ cs. cs ++ c ∷ []) (sym (its_calls ms t i m first is))
+calls_noted : (ms : List Member) (t i : ℕ) (m y : Member) (o : ℕ) (c : Noted) → IsFirst ms t i → m ≡ get_or ms i m → y ≡ with_noted m o c → y.calls ≡ calls_of ms t ++ c ∷ []
+calls_noted ms t i m y o c first is now = ap (λ (x : Member). x.calls) now ∙ ap (λ cs. cs ++ c ∷ []) (sym (its_calls ms t i m first is))
 
 noted_at : (ms : List Member) (t i : ℕ) (l : Member) (index : ℕ) → IsFirst ms t i → l ≡ get_or ms i l → index ≡ length l.calls → index ≡ length (calls_of ms t)
 noted_at ms t i l index first is at' = at' ∙ ap length (sym (its_calls ms t i l first is))
 
-pub noted_well : (begun : ℕ) (ms : List Member) (os : List Place) (used capacity t i : ℕ) (m y l : Member) (o : ℕ) (c : Call) (index : ℕ) (os' : List Place) (used' capacity' : ℕ) → IsWell begun ms os used capacity
-    → IsFirst ms t i → m ≡ get_or ms i m → y ≡ with_call m o c → l ≡ get_or ms i l → index ≡ length l.calls → m.has_room ≡ true → IsAbove o (member_of ms t)
+pub noted_well : (begun : ℕ) (ms : List Member) (os : List Place) (used capacity t i : ℕ) (m y l : Member) (o : ℕ) (c : Noted) (index : ℕ) (os' : List Place) (used' capacity' : ℕ) → IsWell begun ms os used capacity
+    → IsFirst ms t i → m ≡ get_or ms i m → y ≡ with_noted m o c → l ≡ get_or ms i l → index ≡ length l.calls → m.has_room ≡ true → IsAbove o (member_of ms t)
     → os' ≡ os ++ record { txn = t; index = index } ∷ [] → used' ≡ used + 1 → capacity' ≡ capacity → IsWell begun (set ms i y) os' used' capacity'
 noted_well begun ms os used capacity t i m y l o c index os' used' capacity' w first is now lis at' h above more longer same =
     let place = noted_at ms t i l index first lis at' in
@@ -290,16 +291,16 @@ noted_well begun ms os used capacity t i m y l o c index os' used' capacity' w f
     well_set begun ms os used capacity t i m y os' used' capacity' w first is (ap (λ (x : Member). x.number) now ∙ its_number ms t i m first is)
     (noted_numbered begun t m y o c now (subst (IsAbove o) (is_there ms t i m first is) above))
     (λ u. ap (numbers u) (more ∙ ap (λ (n : ℕ). os ++ record { txn = t; index = n } ∷ []) place) ∙ (placed_noted (calls_of ms) t c os w.placed u
-    ∙ ap (λ cs. count_from 0 (length (put (calls_of ms) t cs u))) (sym (noted_calls ms t i m y o c first is now))))
+    ∙ ap (λ cs. count_from 0 (length (put (calls_of ms) t cs u))) (sym (calls_noted ms t i m y o c first is now))))
     (λ sums. omega (arith, sums, mine, none, room, longer, same))
 
-pub noted_standing : (begun : ℕ) (ms : List Member) (os : List Place) (used capacity t i : ℕ) (m y l : Member) (o : ℕ) (c : Call) (index : ℕ) (os' : List Place) → IsWell begun ms os used capacity
-    → IsFirst ms t i → m ≡ get_or ms i m → y ≡ with_call m o c → l ≡ get_or ms i l → index ≡ length l.calls
+pub noted_standing : (begun : ℕ) (ms : List Member) (os : List Place) (used capacity t i : ℕ) (m y l : Member) (o : ℕ) (c : Noted) (index : ℕ) (os' : List Place) → IsWell begun ms os used capacity
+    → IsFirst ms t i → m ≡ get_or ms i m → y ≡ with_noted m o c → l ≡ get_or ms i l → index ≡ length l.calls
     → os' ≡ os ++ record { txn = t; index = index } ∷ [] → standing_by (calls_of (set ms i y)) os' ≡ standing_by (calls_of ms) os ++ entry_by t c ∷ []
 noted_standing begun ms os used capacity t i m y l o c index os' w first is now lis at' more =
     let place = noted_at ms t i l index first lis at' in
     ap (λ f. standing_by f os') (calls_set ms t i y first (ap (λ (x : Member). x.number) now ∙ its_number ms t i m first is)
-    ∙ ap (put (calls_of ms) t) (noted_calls ms t i m y o c first is now))
+    ∙ ap (put (calls_of ms) t) (calls_noted ms t i m y o c first is now))
     ∙ (ap (standing_by (put (calls_of ms) t (calls_of ms t ++ c ∷ []))) (more ∙ ap (λ (n : ℕ). os ++ record { txn = t; index = n } ∷ []) place)
     ∙ standing_noted (calls_of ms) t c os (w.placed t))
 
@@ -319,7 +320,7 @@ pub no_effect : (begun : ℕ) (ms : List Member) (os : List Place) (used capacit
 no_effect begun ms os used capacity t i m w first is last =
     nothing_undone begun ms os used capacity t w (ap last_place (its_calls ms t i m first is) ∙ last)
 
-read_at : (cs : List Call) (k : ℕ) (c d : Call) (behind : List Call) → drop k cs ≡ c ∷ behind → get_or cs k d ≡ c
+read_at : (cs : List Noted) (k : ℕ) (c d : Noted) (behind : List Noted) → drop k cs ≡ c ∷ behind → get_or cs k d ≡ c
 read_at [] zero c d behind h = absurd cc
 read_at [] (suc k) c d behind h = absurd cc
 read_at (x ∷ cs) zero c d behind h = cc
@@ -327,11 +328,12 @@ read_at (x ∷ cs) (suc k) c d behind h = read_at cs k c d behind h
 
 -- the call that is read there is that of the last effect
 pub read_last : (begun : ℕ) (ms : List Member) (os : List Place) (used capacity t i j : ℕ) (m l : Member) (k : ℕ) (c : Call) → IsWell begun ms os used capacity → IsFirst ms t i → m ≡ get_or ms i m → l ≡ get_or ms i l
-    → last_place m.calls ≡ Some k → c ≡ get_or l.calls k c → last_effect t (standing_by (calls_of ms) os) ≡ Some (entry_by t c)
+    → last_place m.calls ≡ Some k → ((d : Noted) → c ≡ plain_call (get_or l.calls k d)) → option_map (λ (e : Entry). (e.op, e.reply)) (last_effect t (standing_by (calls_of ms) os)) ≡ Some c
 read_last begun ms os used capacity t i j m l k c w first is lis last read =
     let u = undone_at begun ms os used capacity t i m k w first is last in
     let d : drop k l.calls ≡ u.call ∷ u.behind = ap (drop k) (sym (its_calls ms t i l first lis)) ∙ u.there in
-    u.last ∙ ap (λ (x : Call). Some (entry_by t x)) (sym (read ∙ read_at l.calls k u.call c u.behind d))
+    ap (option_map (λ (e : Entry). (e.op, e.reply))) u.last
+    ∙ ap Some (sym (read u.call ∙ ap plain_call (read_at l.calls k u.call u.call u.behind d)))
 
 pub undone_well : (begun : ℕ) (ms : List Member) (os : List Place) (used capacity t i : ℕ) (m y : Member) (k : ℕ) (os' : List Place) (used' capacity' : ℕ) → IsWell begun ms os used capacity
     → IsFirst ms t i → m ≡ get_or ms i m → y ≡ cut_at m k → k ≤ length m.calls → os' ≡ filter (before_cut t k) os → used' ≤ used → capacity' ≡ capacity → IsWell begun (set ms i y) os' used' capacity'
@@ -369,6 +371,71 @@ nothing_member ms t i l first lis last u =
     let back : taken_back l ≡ l = ap (cut_to l) last in
     sym (put_same (member_of ms) t (option_map taken_back (member_of ms t)) (ap (option_map taken_back) found ∙ (ap Some back ∙ sym found)) u)
 
+-- ---- the last effect is taken back, and a transaction is back
+
+-- other roles, on the same calls
+roles_well : (begun : ℕ) (ms : List Member) (os : List Place) (used capacity t i : ℕ) (m y : Member) (cs : List Noted) → IsWell begun ms os used capacity → IsFirst ms t i → m ≡ get_or ms i m
+    → y ≡ record m { calls = cs } → length cs ≡ length m.calls → IsWell begun (set ms i y) os used capacity
+roles_well begun ms os used capacity t i m y cs w first is now size =
+    let rooms_same : rooms y ≡ rooms m = ap rooms now in
+    let room = w.room in
+    let long : length y.calls ≡ length (calls_of ms t) = ap (λ (x : Member). length x.calls) now ∙ (size ∙ sym (ap length (its_calls ms t i m first is))) in
+    well_set begun ms os used capacity t i m y os used capacity w first is (ap (λ (x : Member). x.number) now ∙ its_number ms t i m first is)
+    (λ n. subst (IsNumbered begun t) (sym now) (record { number = n.number; from_one = n.from_one; has_begun = n.has_begun; operations = n.operations ∙ sym size; rising = n.rising }))
+    (λ u. w.placed u ∙ ap (count_from 0) (sym (lengths u long)))
+    (λ sums. omega (arith, sums, rooms_same, room))
+  where
+    lengths : (u : ℕ) → length y.calls ≡ length (calls_of ms t) → length (put (calls_of ms) t y.calls u) ≡ length (calls_of ms u)
+    lengths u long = go (u == t) refl
+      where
+        go : (b : Bool) → (u == t) ≡ b → length (cond b y.calls (calls_of ms u)) ≡ length (calls_of ms u)
+        go true own = long ∙ ap (λ v. length (calls_of ms v)) (sym ((Decides-eqb u t).0 own))
+        go false own = refl
+
+pub marked_well : (begun : ℕ) (ms : List Member) (os : List Place) (used capacity t i : ℕ) (m y : Member) (k : ℕ) → IsWell begun ms os used capacity → IsFirst ms t i → m ≡ get_or ms i m
+    → y ≡ with_role_at m k TakenBack → IsWell begun (set ms i y) os used capacity
+marked_well begun ms os used capacity t i m y k w first is now =
+    roles_well begun ms os used capacity t i m y (set_role m.calls k TakenBack) w first is now (length-set_role m.calls k TakenBack)
+
+pub marked_standing : (begun : ℕ) (ms : List Member) (os : List Place) (used capacity t i : ℕ) (m l y : Member) (k : ℕ) → IsWell begun ms os used capacity → IsFirst ms t i → m ≡ get_or ms i m → l ≡ get_or ms i l
+    → last_place l.calls ≡ Some k → y ≡ with_role_at m k TakenBack → standing_by (calls_of (set ms i y)) os ≡ mark_last t (standing_by (calls_of ms) os)
+marked_standing begun ms os used capacity t i m l y k w first is lis last now =
+    let marks : y.calls ≡ set_role (calls_of ms t) k TakenBack = ap (λ (x : Member). x.calls) now ∙ ap (λ cs. set_role cs k TakenBack) (sym (its_calls ms t i m first is)) in
+    ap (λ f. standing_by f os) (calls_set ms t i y first (ap (λ (x : Member). x.number) now ∙ its_number ms t i m first is) ∙ ap (put (calls_of ms) t) marks)
+    ∙ sym (marked_by (calls_of ms) t k os 0 (length (calls_of ms t)) (calls_of ms t) k (w.placed t) refl refl (ap last_place (its_calls ms t i l first lis) ∙ last) (omega arith))
+
+pub marked_member : (ms : List Member) (t i : ℕ) (m l y : Member) (k : ℕ) → IsFirst ms t i → m ≡ get_or ms i m → l ≡ get_or ms i l → last_place l.calls ≡ Some k → y ≡ with_role_at m k TakenBack
+    → IsChanged ms (set ms i y) t (λ x. with_mark x (last_place x.calls))
+marked_member ms t i m l y k first is lis last now =
+    let back : with_mark m (last_place m.calls) ≡ with_role_at m k TakenBack = ap (with_mark m) (ap (λ (x : Member). last_place x.calls) (same_two ms t i m l first is lis) ∙ last) in
+    changed ms t i m y (λ x. with_mark x (last_place x.calls)) first is (now ∙ sym back) (ap (λ (x : Member). x.number) now ∙ its_number ms t i m first is)
+
+pub unmarked_member : (ms : List Member) (t i : ℕ) (l : Member) → IsFirst ms t i → l ≡ get_or ms i l → last_place l.calls ≡ None → IsChanged ms ms t (λ x. with_mark x (last_place x.calls))
+unmarked_member ms t i l first lis last u =
+    let found = is_there ms t i l first lis in
+    let back : with_mark l (last_place l.calls) ≡ l = ap (with_mark l) last in
+    sym (put_same (member_of ms) t (option_map (λ x. with_mark x (last_place x.calls)) (member_of ms t)) (ap (option_map (λ x. with_mark x (last_place x.calls))) found ∙ (ap Some back ∙ sym found)) u)
+
+pub unmarked_standing : (begun : ℕ) (ms : List Member) (os : List Place) (used capacity t i : ℕ) (l : Member) → IsWell begun ms os used capacity → IsFirst ms t i → l ≡ get_or ms i l → last_place l.calls ≡ None
+    → mark_last t (standing_by (calls_of ms) os) ≡ standing_by (calls_of ms) os
+unmarked_standing begun ms os used capacity t i l w first lis last = mark_none t (standing_by (calls_of ms) os) (no_effect begun ms os used capacity t i l w first lis last)
+
+pub settled_well : (begun : ℕ) (ms : List Member) (os : List Place) (used capacity t i : ℕ) (m y : Member) (n : ℕ) → IsWell begun ms os used capacity → IsFirst ms t i → m ≡ get_or ms i m
+    → y ≡ settled_at n m → IsWell begun (set ms i y) os used capacity
+settled_well begun ms os used capacity t i m y n w first is now =
+    roles_well begun ms os used capacity t i m y (settle_calls n m.calls) w first is now (length-settle n m.calls)
+
+pub settled_standing : (begun : ℕ) (ms : List Member) (os : List Place) (used capacity t i : ℕ) (m y : Member) (n : ℕ) → IsWell begun ms os used capacity → IsFirst ms t i → m ≡ get_or ms i m
+    → y ≡ settled_at n m → standing_by (calls_of (set ms i y)) os ≡ settle_after t n (standing_by (calls_of ms) os)
+settled_standing begun ms os used capacity t i m y n w first is now =
+    let calls_now : y.calls ≡ settle_calls n (calls_of ms t) = ap (λ (x : Member). x.calls) now ∙ ap (settle_calls n) (sym (its_calls ms t i m first is)) in
+    ap (λ f. standing_by f os) (calls_set ms t i y first (ap (λ (x : Member). x.number) now ∙ its_number ms t i m first is) ∙ ap (put (calls_of ms) t) calls_now)
+    ∙ sym (settled_by (calls_of ms) (settle_calls n (calls_of ms t)) t os 0 (length (calls_of ms t)) (calls_of ms t) n (w.placed t) refl refl refl)
+
+pub settled_member : (ms : List Member) (t i : ℕ) (m y : Member) (n : ℕ) → IsFirst ms t i → m ≡ get_or ms i m → y ≡ settled_at n m → IsChanged ms (set ms i y) t (settled_at n)
+settled_member ms t i m y n first is now =
+    changed ms t i m y (settled_at n) first is now (ap (λ (x : Member). x.number) now ∙ its_number ms t i m first is)
+
 -- ---- one leaves
 
 all_removed : (P : Member → Type 0) (ms : List Member) (i : ℕ) → All P ms → All P (remove ms i)
@@ -401,14 +468,14 @@ left_member begun ms os used capacity t i new w first now u = ap (λ xs. member_
 
 -- its calls are its entries
 pub left_calls : (begun : ℕ) (ms : List Member) (os : List Place) (used capacity t i : ℕ) (m : Member) → IsWell begun ms os used capacity → IsFirst ms t i → m ≡ get_or ms i m
-    → m.calls ≡ calls (kept (only t) (standing_by (calls_of ms) os))
+    → map plain_call m.calls ≡ calls (kept (only t) (standing_by (calls_of ms) os))
 left_calls begun ms os used capacity t i m w first is =
-    sym (its_calls ms t i m first is)
+    ap (map plain_call) (sym (its_calls ms t i m first is))
     ∙ sym (ap calls (standing_own (calls_of ms) t os 0 (length (calls_of ms t)) (calls_of ms t) (w.placed t) refl refl) ∙ back (calls_of ms t))
   where
-    back : (cs : List Call) → calls (map (entry_by t) cs) ≡ cs
+    back : (cs : List Noted) → calls (map (entry_by t) cs) ≡ map plain_call cs
     back [] = refl
-    back (c ∷ cs) = ap (λ w'. c ∷ w') (back cs)
+    back (c ∷ cs) = ap (λ w'. plain_call c ∷ w') (back cs)
 
 pub same_size : (ms : List Member) (t i : ℕ) (m l : Member) (k : ℕ) → IsFirst ms t i → m ≡ get_or ms i m → l ≡ get_or ms i l → k < length l.calls → k ≤ length m.calls
 same_size ms t i m l k first is lis within =
@@ -451,3 +518,45 @@ still_above old new t n f h keeps all u = subst (IsAbove n) (sym (h u)) (go (u =
     go : (b : Bool) → IsAbove n (cond b (option_map f (member_of old t)) (member_of old u))
     go true = through (member_of old t) (all t)
     go false = all u
+
+-- two changes of one transaction, one after the other
+pub changed_twice : (old new last : List Member) (t : ℕ) (f g : Member → Member) → IsChanged old new t f → IsChanged new last t g → IsChanged old last t (λ m. g (f m))
+changed_twice old new last t f g h k u = k u ∙ go (u == t) refl
+  where
+    self : (t == t) ≡ true
+    self = (Decides-eqb t t).1 refl
+
+    map_twice : (x : Option Member) → option_map g (option_map f x) ≡ option_map (λ m. g (f m)) x
+    map_twice None = refl
+    map_twice (Some m) = refl
+
+    its : member_of new t ≡ option_map f (member_of old t)
+    its = h t ∙ ap (λ b. cond b (option_map f (member_of old t)) (member_of old t)) self
+
+    go : (b : Bool) → (u == t) ≡ b → cond b (option_map g (member_of new t)) (member_of new u) ≡ cond b (option_map (λ m. g (f m)) (member_of old t)) (member_of old u)
+    go true is = ap (option_map g) its ∙ map_twice (member_of old t)
+    go false is = h u ∙ ap (λ b. cond b (option_map f (member_of old t)) (member_of old u)) is
+
+-- a change that leaves the room, leaves it
+pub room_still : (old new : List Member) (t : ℕ) (f : Member → Member) → IsChanged old new t f → ((m : Member) → (f m).has_room ≡ m.has_room) → has_room (member_of new t) ≡ has_room (member_of old t)
+room_still old new t f h keeps = ap has_room (h t ∙ ap (λ b. cond b (option_map f (member_of old t)) (member_of old t)) ((Decides-eqb t t).1 refl)) ∙ go (member_of old t)
+  where
+    go : (x : Option Member) → has_room (option_map f x) ≡ has_room x
+    go None = refl
+    go (Some m) = keeps m
+
+pub above_still : (old new : List Member) (t n : ℕ) (f : Member → Member) → IsChanged old new t f → ((m : Member) → (f m).operations ≡ m.operations) → IsAbove n (member_of old t) → IsAbove n (member_of new t)
+above_still old new t n f h keeps above = subst (IsAbove n) (sym (h t ∙ ap (λ b. cond b (option_map f (member_of old t)) (member_of old t)) ((Decides-eqb t t).1 refl))) (go (member_of old t) above)
+  where
+    go : (x : Option Member) → IsAbove n x → IsAbove n (option_map f x)
+    go None k = tt
+    go (Some m) k = subst (All (λ (o : ℕ). o < n)) (sym (keeps m)) k
+
+-- what is marked keeps its room and its operations
+pub marked_room : (m : Member) (at : Option ℕ) → (with_mark m at).has_room ≡ m.has_room
+marked_room m None = refl
+marked_room m (Some n) = refl
+
+pub marked_operations : (m : Member) (at : Option ℕ) → (with_mark m at).operations ≡ m.operations
+marked_operations m None = refl
+marked_operations m (Some n) = refl

@@ -1,15 +1,28 @@
--- The operations of live transactions that stand, and what explains them.
-use Rattle.std.specs.Prelude.{ℕ, ◌≡◌, Bool, not, List, filter, map}
+-- The operations of live transactions that count, and what explains them.
+use Rattle.std.specs.Prelude.{ℕ, ◌≡◌, Bool, true, false, not, List, filter, map}
 use Rattle.mt_model.specs.declared.operations.Op.{Op}
 use Rattle.mt_model.specs.declared.operations.Reply.{Reply}
 use Rattle.mt_model.specs.Model.{Base}
 use Rattle.mt_model.specs.History.{Call, run, IsActed}
+use Rattle.mt_live.specs.declared.transactions.Role.{Role}
+use Rattle.mt_live.specs.declared.transactions.Role.TheVariants.{Stands, TakenBack, Back}
 
--- an operation that ended, whose it was, and what it replied
+-- an operation that ended, whose it was, what it replied, and whether it stands, was taken back by its transaction, or
+-- takes back one before it
 pub record Entry : Type 0 where
   pub txn : ℕ
   pub op : Op
   pub reply : Reply
+  pub role : Role
+
+-- the entry with another role
+abbrev pub with_role : Role → Entry → Entry
+with_role r e = record e { role = r }
+
+abbrev pub is_standing : Role → Bool
+is_standing Stands = true
+is_standing TakenBack = false
+is_standing Back = false
 
 -- the calls, whoever made them
 abbrev pub calls : List Entry → List Call

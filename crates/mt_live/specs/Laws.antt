@@ -12,8 +12,8 @@ use Rattle.mt_model.specs.Pending.{moved_by}
 use Rattle.mt_live.specs.Entries.{Entry, calls, runs, AreActed, kept, struck, IsExplained}
 use Rattle.mt_live.specs.Adds.{GivesBack, add_before}
 use Rattle.mt_live.specs.Sound.{IsSound}
-use Rattle.mt_live.specs.Undoing.{only, others, last_effect}
-use Rattle.mt_live.specs.Machine.{State, committed_base, is_live, IsKept, begun, called, MayCall, ended, dropped, gone, booked, undone, Goes, AllGo, last_state, start}
+use Rattle.mt_live.specs.Undoing.{only, others, last_effect, after_first}
+use Rattle.mt_live.specs.Machine.{State, committed_base, is_live, IsKept, begun, called, MayCall, ended, dropped, gone, booked, undone, returned, settled, Goes, AllGo, last_state, start}
 
 -- ---- what each event keeps
 
@@ -46,6 +46,17 @@ InverseKeeps =
     (b : Base) (s : State) (t : ℕ) (last : Entry) (i : Op) (ps : List Pending) → IsKept b s → s.running t ≡ None
     → last_effect t s.standing ≡ Some last → inverse_of last.op last.reply ≡ Some i → GivesBack t last.op s.pending ps
     → IsKept b (undone s t i ps)
+
+abbrev pub ReturnKeeps : Type 0
+ReturnKeeps =
+    (b : Base) (s : State) (t : ℕ) (last : Entry) (i : Op) (ps : List Pending) → IsKept b s → s.running t ≡ None
+    → last_effect t s.standing ≡ Some last → inverse_of last.op last.reply ≡ Some i → GivesBack t last.op s.pending ps
+    → IsKept b (returned s t last i ps)
+
+abbrev pub SettleKeeps : Type 0
+SettleKeeps =
+    (b : Base) (s : State) (t n : ℕ) → IsKept b s → s.running t ≡ None
+    → last_effect t (after_first t n s.standing) ≡ None → IsKept b (settled s t n)
 
 abbrev pub AbortKeeps : Type 0
 AbortKeeps =
@@ -135,4 +146,5 @@ EmptyHoldsBook =
 abbrev pub NobodyLeavesNothing : Type 0
 NobodyLeavesNothing =
     (b : Base) (s : State) → IsKept b s → ((t : ℕ) → is_live s t ≡ true → ⊥)
-    → (s.standing ≡ []) × (s.pending ≡ []) × ((t : ℕ) (x : Object) (m : LockMode) → s.held t x m ≡ true → ⊥)
+    → (s.standing ≡ []) × (s.pending ≡ []) × (s.aside ≡ [])
+    × ((t : ℕ) (x : Object) (m : LockMode) → s.held t x m ≡ true → ⊥)

@@ -1,11 +1,13 @@
 pub mod Entries
 pub mod Sound
 pub mod Adds
+pub mod Taking
 pub mod Undoing
 pub mod Machine
 pub mod Laws
 pub mod Witness
 pub mod Counterexamples
+pub mod Roles
 pub mod Members
 pub mod Lives
 pub mod Alone

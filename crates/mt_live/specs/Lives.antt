@@ -2,10 +2,9 @@
 use Rattle.std.specs.Prelude.{ℕ, zero, suc, ◌≡◌, ◌≢◌, ◌<◌, ◌≤◌, ◌+◌, ◌==◌, Bool, false, cond, List, [], ◌∷◌, ◌++◌, Option, Some, None, All, AllPairs, filter, map, take, drop, length, is_some, slice_index_or}
 use Rattle.std.specs.List.{sum_by}
 use Rattle.std.specs.Option.{option_map}
-use Rattle.mt_model.specs.History.{Call}
 use Rattle.mt_live.specs.declared.places.Place.{Place}
 use Rattle.mt_live.specs.Entries.{Entry}
-use Rattle.mt_live.specs.Members.{Member}
+use Rattle.mt_live.specs.Members.{Member, Noted}
 use Rattle.mt_live.specs.Machine.{put}
 
 -- how many have begun; those that are live; and what stands of their operations, in the order of their
@@ -57,21 +56,21 @@ IsChanged old new t f = (u : ℕ) → member_of new u ≡ put (member_of old) t 
 
 -- ---- the standing list, from each transaction's calls and the order in which they ended
 
-abbrev pub calls_in : Option Member → List Call
+abbrev pub calls_in : Option Member → List Noted
 calls_in None = []
 calls_in (Some m) = m.calls
 
-abbrev pub calls_of : List Member → ℕ → List Call
+abbrev pub calls_of : List Member → ℕ → List Noted
 calls_of ms t = calls_in (member_of ms t)
 
-abbrev pub entry_by : ℕ → Call → Entry
-entry_by t c = record { txn = t; op = c.0; reply = c.1 }
+abbrev pub entry_by : ℕ → Noted → Entry
+entry_by t c = record { txn = t; op = c.op; reply = c.reply; role = c.role }
 
 -- the call of this number of the transaction
-abbrev pub entries_at : (ℕ → List Call) → Place → List Entry
+abbrev pub entries_at : (ℕ → List Noted) → Place → List Entry
 entries_at calls o = map (entry_by o.txn) (take 1 (drop o.index (calls o.txn)))
 
-abbrev pub standing_by : (ℕ → List Call) → List Place → List Entry
+abbrev pub standing_by : (ℕ → List Noted) → List Place → List Entry
 standing_by calls [] = []
 standing_by calls (o ∷ os) = entries_at calls o ++ standing_by calls os
 

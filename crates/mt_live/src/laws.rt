@@ -1,6 +1,6 @@
 //! Laws of live transactions: why strict commuting locks, escrow and inverses explain every state.
 //! Each is a function with an empty body, whose contract is the law.
-ghost use Rattle.mt_live.specs.Laws.{BeginKeeps, CallKeeps, EndKeeps, DropKeeps, GivingBackKeeps, CommitKeeps, CommitMovesCounters, InverseKeeps, AbortKeeps, AbortLeavesNoTrace, KeptIsExplained, SoundIsExplained, SetMovesInFront, TransactionsMoveInFront, StartIsKept, EventKeeps, EveryScheduleIsRight, EmptyHoldsBook, NobodyLeavesNothing};
+ghost use Rattle.mt_live.specs.Laws.{BeginKeeps, CallKeeps, EndKeeps, DropKeeps, GivingBackKeeps, CommitKeeps, CommitMovesCounters, InverseKeeps, ReturnKeeps, SettleKeeps, AbortKeeps, AbortLeavesNoTrace, KeptIsExplained, SoundIsExplained, SetMovesInFront, TransactionsMoveInFront, StartIsKept, EventKeeps, EveryScheduleIsRight, EmptyHoldsBook, NobodyLeavesNothing};
 ghost use Rattle.mt_live.specs.Alone.{BeginsAlone, AloneHolds, AloneIsFree, AloneActs, AloneCommits, AloneLeaves};
 ghost use Rattle.mt_live.specs.Witness.{RunTakesPlace};
 
@@ -39,6 +39,17 @@ pub fn commit_keeps()
 /// the undone operation, and what its transaction read after it, had never been.
 pub fn inverse_keeps()
     ensures { InverseKeeps }
+{}
+
+/// The inverse of a transaction's last effect, run by a transaction that goes on, keeps what is kept: both stand, and
+/// bounds suffice still for an add that it took back.
+pub fn return_keeps()
+    ensures { ReturnKeeps }
+{}
+
+/// The end of a return keeps what is kept. What did nothing since the savepoint counts no more.
+pub fn settle_keeps()
+    ensures { SettleKeeps }
 {}
 
 /// If nothing is left to undo, a transaction leaves no trace. What stands is the list without it, on the same

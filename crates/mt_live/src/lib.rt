@@ -11,4 +11,4 @@ mod places;
 mod transactions;
 
 pub use live::{Effect, Live};
-pub use transactions::TxnState;
+pub use transactions::{Ended, Role, TxnState};

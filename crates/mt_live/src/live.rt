@@ -1,19 +1,20 @@
 // The active transactions, and what of their operations counts. Each change is an event of the laws.
 // mt_core keeps one `Live`, and ties it to locks, escrow and pages, which are not known here.
-ghost use Rattle.std.specs.Prelude.{ℕ, [], ◌∷◌, ◌++◌, ◌≡◌, ◌≢◌, ◌==◌, ◌<◌, ◌≤◌, ◌+◌, ◌^◌, true, false, None, Some, IfOk, IfErr, OnOk, OnErr, MatchOption, length, slice_index_or};
+ghost use Rattle.std.specs.Prelude.{ℕ, [], ◌∷◌, ◌++◌, ◌≡◌, ◌≢◌, ◌==◌, ◌<◌, ◌≤◌, ◌+◌, ◌^◌, true, false, None, Some, IfOk, IfErr, OnOk, OnErr, MatchOption, is_some, length, map, slice_index_or};
 ghost use Rattle.std.specs.List.{position};
 ghost use Rattle.std.specs.Option.{option_map};
 ghost use Rattle.mt_base.specs.declared.limits.TheConstants.{MAX_BEGUN};
 ghost use Rattle.mt_base.specs.declared.refusal.Refusal.{Refusal};
 ghost use Rattle.mt_model.specs.History.{Call};
 ghost use Rattle.mt_live.specs.Entries.{Entry, calls, kept};
-ghost use Rattle.mt_live.specs.Undoing.{only, others, last_effect, cut_back};
+ghost use Rattle.mt_live.specs.declared.transactions.Role.{Role};
+ghost use Rattle.mt_live.specs.Undoing.{only, others, last_effect, after_first, cut_back, mark_last, settle_after};
 ghost use Rattle.mt_live.specs.Machine.{put};
-ghost use Rattle.mt_live.specs.Members.{Member, fresh, with_room, with_call, with_state, taken_back, committed_of, last_operation};
-ghost use Rattle.mt_live.specs.Lives.{member_of, is_member, has_room, AreInOrder, AreNumbered, IsAbove, IsFirst, IsChanged};
+ghost use Rattle.mt_live.specs.Members.{Member, fresh, with_room, with_call, with_state, with_back, with_mark, settled_at, last_place, standing_count, noted_calls, taken_back, committed_of, last_operation};
+ghost use Rattle.mt_live.specs.Lives.{entry_by, member_of, is_member, has_room, AreInOrder, AreNumbered, IsAbove, IsFirst, IsChanged};
 
 use crate::places::{Place, cut_from, take_out};
-use crate::transactions::{Transaction, TxnState};
+use crate::transactions::{Ended, Role, Transaction, TxnState};
 use mt_base::{OpNo, Refusal, TxnNo};
 use mt_model::{Committed, Op, Reply};
 use std::alloc::Global;
@@ -216,7 +217,7 @@ impl Live {
         requires room { has_room (member_of self.old.members txn) ≡ true }
         requires above { IsAbove operation (member_of self.old.members txn) }
         ensures standing { self.new.standing
-            ≡ self.old.standing ++ record { txn = txn; op = op; reply = reply } ∷ [] }
+            ≡ self.old.standing ++ record { txn = txn; op = op; reply = reply; role = Role.Stands } ∷ [] }
         ensures member { IsChanged self.old.members self.new.members txn (λ m. with_call m operation (op, reply)) }
         ensures numbered { AreNumbered self.new.begun self.new.members }
         ensures count { length self.new.members ≡ length self.old.members }
@@ -224,8 +225,69 @@ impl Live {
     {
         let place = place_in(&self.transactions, txn);
         let index = self.transactions[place].len();
-        self.transactions[place].note(operation, op, reply);
+        self.transactions[place].note(operation, op, reply, Role::Stands);
         self.order.push_reserved(Place { txn, index });
+    }
+
+    /// The inverse of [`Live::last_to_undo`] has ended with this reply, and the transaction goes on. Both stand: that
+    /// operation as taken back, and its inverse after all others, under a number above those of the transaction's
+    /// others. If there is nothing to undo, the inverse alone is noted. It takes the room that [`Live::room`]
+    /// made, and no memory.
+    pub fn note_back(&mut self, txn: TxnNo, operation: OpNo, op: Op, reply: Reply)
+        requires room { has_room (member_of self.old.members txn) ≡ true }
+        requires above { IsAbove operation (member_of self.old.members txn) }
+        ensures standing { self.new.standing
+            ≡ mark_last txn self.old.standing
+            ++ record { txn = txn; op = op; reply = reply; role = Role.Back } ∷ [] }
+        ensures member { IsChanged self.old.members self.new.members txn (λ m. with_back m operation (op, reply)) }
+        ensures numbered { AreNumbered self.new.begun self.new.members }
+        ensures count { length self.new.members ≡ length self.old.members }
+        ensures begun { self.new.begun ≡ self.old.begun }
+    {
+        self.mark_last(txn);
+        let place = place_in(&self.transactions, txn);
+        let index = self.transactions[place].len();
+        self.transactions[place].note(operation, op, reply, Role::Back);
+        self.order.push_reserved(Place { txn, index });
+    }
+
+    // Marks what is to be undone next of a live transaction as taken back.
+    fn mark_last(&mut self, txn: TxnNo)
+        requires { is_member self.old.members txn ≡ true }
+        ensures standing { self.new.standing ≡ mark_last txn self.old.standing }
+        ensures member { IsChanged self.old.members self.new.members txn (λ m. with_mark m (last_place m.calls)) }
+        ensures numbered { AreNumbered self.new.begun self.new.members }
+        ensures count { length self.new.members ≡ length self.old.members }
+        ensures begun { self.new.begun ≡ self.old.begun }
+    {
+        let place = place_in(&self.transactions, txn);
+        if let Some(at) = self.transactions[place].last_place() {
+            self.transactions[place].mark(at);
+        }
+    }
+
+    /// How many operations of a live transaction have ended and stand: those that it took back count no more, and
+    /// neither do their inverses.
+    pub fn answered(&self, txn: TxnNo) -> usize
+        requires { is_member self.now.members txn ≡ true }
+        ensures { Some result ≡ option_map (λ m. standing_count m.calls) (member_of self.now.members txn) }
+    {
+        let at = place_in(&self.transactions, txn);
+        self.transactions[at].count_standing()
+    }
+
+    /// A live transaction is back where its first `first` operations had ended. Those after them count no more. It takes
+    /// no memory.
+    pub fn settle(&mut self, txn: TxnNo, first: usize)
+        requires { is_member self.old.members txn ≡ true }
+        ensures standing { self.new.standing ≡ settle_after txn first self.old.standing }
+        ensures member { IsChanged self.old.members self.new.members txn (settled_at first) }
+        ensures numbered { AreNumbered self.new.begun self.new.members }
+        ensures count { length self.new.members ≡ length self.old.members }
+        ensures begun { self.new.begun ≡ self.old.begun }
+    {
+        let place = place_in(&self.transactions, txn);
+        self.transactions[place].settle(first);
     }
 
     /// The last operation that stands of a transaction and did something. Its inverse is the next to run in
@@ -240,6 +302,27 @@ impl Live {
         let (op, reply) = self.transactions[place].call(at);
         let number = self.transactions[place].operation(at);
         Some(Effect { number, op, reply })
+    }
+
+    /// Whether an operation of a live transaction after its first `first` that stand stands and did something. Then
+    /// [`Live::last_to_undo`] is one of them.
+    pub fn has_effect_after(&self, txn: TxnNo, first: usize) -> bool
+        requires { is_member self.now.members txn ≡ true }
+        ensures { result ≡ is_some (last_effect txn (after_first txn first self.now.standing)) }
+    {
+        let place = place_in(&self.transactions, txn);
+        self.transactions[place].has_effect_after(first)
+    }
+
+    /// The operations of a live transaction that ended, each with its role, in the order of their ends.
+    pub fn ended(&self, txn: TxnNo) -> Ended<'_>
+        requires { is_member self.now.members txn ≡ true }
+        ensures many { length result.roles.now ≡ length result.calls.now }
+        ensures entries { kept (only txn) self.now.standing
+            ≡ map (entry_by txn) (noted_calls result.calls.now result.roles.now) }
+    {
+        let place = place_in(&self.transactions, txn);
+        self.transactions[place].ended()
     }
 
     /// The inverse of [`Live::last_to_undo`] has ended. Neither that operation stands any more, nor the transaction's

@@ -1,6 +1,6 @@
 //! Mistakes that a kernel could make, each a state that is not explained. Each is a function with an
 //! empty body, whose contract is the counterexample.
-ghost use Rattle.mt_live.specs.Counterexamples.{EarlyReleaseFails, PresentNumberFails, OldNumberFails, ReadLeftOverFails, PhantomFails};
+ghost use Rattle.mt_live.specs.Counterexamples.{EarlyReleaseFails, PresentNumberFails, OldNumberFails, ReadLeftOverFails, PhantomFails, ForgottenAddFails};
 
 /// A lock that is given up before its transaction ends lets another read what an abort takes away.
 pub fn early_release_fails()
@@ -28,4 +28,10 @@ pub fn read_left_over_fails()
 /// from that, since it is on each row that is there, and the row was not.
 pub fn phantom_fails()
     ensures { PhantomFails }
+{}
+
+/// An add that escrow forgets as soon as it is taken back leaves the bounds to others. Once one of these commits, the
+/// transaction's own calls reply otherwise than they did.
+pub fn forgotten_add_fails()
+    ensures { ForgottenAddFails }
 {}

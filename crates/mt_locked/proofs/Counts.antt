@@ -1,5 +1,5 @@
 -- How many entries each pass has, and all together.
-use Rattle.std.proofs.Common.{◌≡◌, ◌≢◌, ℕ, zero, suc, ◌+◌, ◌<◌, ◌≤◌, cond, eqb, List, [], ◌∷◌, ◌++◌, length, refl, ap, sym, ◌∙◌, subst, ⊎_elim, inl, inr, arith, length-append, eq-eqb, ne_eqb}
+use Rattle.std.proofs.Common.{◌≡◌, ◌≢◌, ℕ, zero, suc, ◌+◌, ◌<◌, ◌≤◌, add-one, cond, eqb, List, [], ◌∷◌, ◌++◌, length, take, refl, ap, sym, ◌∙◌, subst, ⊎_elim, inl, inr, arith, length-append, eq-eqb, ne_eqb}
 use Rattle.std.specs.Prelude.{All, slice_index_or}
 use Rattle.std.proofs.lemmas.Bool.Decides.{eqb_tells}
 use Rattle.std.proofs.lemmas.List.Elements.{All-head, All-tail}
@@ -103,6 +103,23 @@ next_number count ps last before n low high = elim (eqb_tells n (count + 1)) [
   | inl is ↦ subst (λ (m : ℕ). HasNumber m ps) (sym is.1) last
   | inr apart ↦ before n low (omega (arith, apart.1))
 ]
+
+-- the first so many of them have another number
+abbrev pub HasNoneOf : ℕ → ℕ → List PassSeen → Type 0
+HasNoneOf n i ps = HasNumber n (take i ps) → ⊥
+
+none_next : (n : ℕ) (ps : List PassSeen) (i : ℕ) (d : PassSeen) → i < length ps → (slice_index_or ps i d).number ≢ n → HasNoneOf n i ps → HasNoneOf n (suc i) ps
+none_next n [] i d lt other none = absurd (omega arith)
+none_next n (p ∷ ps) zero d lt other none = λ has. ⊎_elim other (λ more. more) has
+none_next n (p ∷ ps) (suc i) d lt other none = λ has. ⊎_elim (λ is. none (inl is)) (λ more. none_next n ps i d (omega arith) other (λ x. none (inr x)) more) has
+
+pub none_so_far : (n : ℕ) (ps : List PassSeen) (i : ℕ) (d : PassSeen) → i < length ps → (slice_index_or ps i d).number ≢ n → HasNoneOf n i ps → HasNoneOf n (i + 1) ps
+none_so_far n ps i d lt other none = subst (λ (m : ℕ). HasNoneOf n m ps) (sym (add-one i)) (none_next n ps i d lt other none)
+
+pub none_at_all : (n : ℕ) (ps : List PassSeen) (i : ℕ) → length ps ≤ i → HasNoneOf n i ps → HasNumber n ps → ⊥
+none_at_all n [] i long none has = has
+none_at_all n (p ∷ ps) zero long none has = absurd (omega arith)
+none_at_all n (p ∷ ps) (suc i) long none has = ⊎_elim (λ is. none (inl is)) (λ more. none_at_all n ps i (omega arith) (λ x. none (inr x)) more) has
 
 abbrev sum_of : (ℕ → ℕ) → List PassSeen → ℕ
 sum_of f [] = 0

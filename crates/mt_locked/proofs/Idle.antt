@@ -1,5 +1,5 @@
 -- Where nobody lives in a kernel, it holds no lock.
-use Rattle.std.proofs.Common.{◌≡◌, ℕ, Bool, true, false, List, [], ◌∷◌, length, is_some, refl, sym, ap, ◌∙◌, subst, arith}
+use Rattle.std.proofs.Common.{◌≡◌, ℕ, zero, suc, Bool, true, false, List, [], ◌∷◌, length, is_some, refl, sym, ap, ◌∙◌, subst, arith}
 use Rattle.std.proofs.Props.{props}
 use Rattle.std.specs.Prelude.{All}
 use Rattle.std.specs.Option.{option_map}
@@ -22,9 +22,13 @@ nobody_in [] none = refl
 nobody_in (m ∷ ms) none = absurd (omega arith)
 
 -- who is in no list does not live
-not_true : (b : Bool) → (b ≡ true → ⊥) → b ≡ false
+pub not_true : (b : Bool) → (b ≡ true → ⊥) → b ≡ false
 not_true true never = absurd (never refl)
 not_true false never = refl
+
+pub none_if : (n : ℕ) → ((n ≡ 0 → ⊥) → ⊥) → n ≡ 0
+none_if zero never = refl
+none_if (suc n) never = absurd (never (λ none. absurd (omega arith)))
 
 -- no operation is of nobody
 none_runs : (ms : List Member) (standing : List Entry) (rs : List OpScope) → ms ≡ [] → All (IsOwned ms standing) rs → rs ≡ []

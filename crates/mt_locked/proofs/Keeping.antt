@@ -13,7 +13,7 @@ use Rattle.mt_core.specs.declared.calls.Called.{Called}
 use Rattle.mt_core.specs.declared.calls.Called.TheVariants as call
 use Rattle.mt_live.specs.Machine.{State, begun, called, ended, gone, booked}
 use Rattle.mt_live.specs.declared.transactions.TxnState.{TxnState}
-use Rattle.mt_live.specs.declared.transactions.TxnState.TheVariants.{Open, Committing, Aborting}
+use Rattle.mt_live.specs.declared.transactions.TxnState.TheVariants.{Open, Committing, Aborting, Returning}
 use Rattle.mt_mark.proofs.Fronts.{prefix_self, prefix_trans}
 use Rattle.mt_model.specs.History.{IsLegal}
 use Rattle.mt_model.specs.Model as model
@@ -51,6 +51,7 @@ open_state None is = absurd cc
 open_state (Some Open) is = refl
 open_state (Some Committing) is = absurd cc
 open_state (Some Aborting) is = absurd cc
+open_state (Some (Returning n)) is = absurd cc
 
 back_book : (t : ℕ) (s z : State) → IsBack s t z → z.book ≡ s.book
 back_book t s _ stands = refl

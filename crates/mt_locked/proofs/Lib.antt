@@ -1,4 +1,5 @@
 pub mod Books
+pub mod Closing
 pub mod Counts
 pub mod Idle
 pub mod Keeping

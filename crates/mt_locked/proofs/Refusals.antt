@@ -17,8 +17,9 @@ use Rattle.mt_txn.specs.Seen.{KernelSeen, has_failed_in}
 use Rattle.mt_txn.specs.declared.answers.AbortStepped.{AbortStepped}
 use Rattle.mt_txn.specs.declared.answers.Stepped.{Stepped}
 use Rattle.mt_locked.specs.Asked.{DidAbort, DidAbortStep, DidBegin, DidCall, DidCommit, DidStep}
-use Rattle.mt_locked.specs.Refusals.{IsAbortRefusal, IsBeginRefusal, IsCommitRefusal, IsRoomRefusal, IsStepRefusal}
-use Rattle.mt_locked.specs.Seen.{IsAskedOf}
+use Rattle.mt_locked.specs.Refusals.{IsAbortRefusal, IsBeginRefusal, IsCloseRefusal, IsCommitRefusal, IsRoomRefusal}
+use Rattle.mt_locked.specs.Seen.{IsAskedOf, LockedSeen, PassSeen}
+use Rattle.mt_locked.specs.Whole.{IsCloseCause}
 
 -- ---- what is so of each cause is so of the first one
 
@@ -149,31 +150,32 @@ module _ {D : Type 0} (w : Refusal) (o n : Option (KernelSeen D)) where
             go None none = answer_refuses g k.relations k.counters k.core t op w (a.answers.answer none)
             go (Some x) some = subst (IsCallRefusal op) (let is = (a.answers.early x some).0 in let same : x ≡ w = cc in same) (cause_refuses k.relations k.counters (has_failed_in k) k.core t op x some)
 
-    pub step_refused : (t : ℕ) → IsAskedOf {T = Stepped} o (Err w) n (λ k m. DidStep g k t (Err w) m) → IsStepRefusal w
-    step_refused t = let P : Refusal → Type 0 = IsStepRefusal in
-        asked_is _ P o n w _ tt (λ k m a. memory_or P w tt (λ other. ⊎_elim (step_is P (has_failed_in k) k.core t w tt tt) (fault_is P g k.core m.core w tt) (a.answers.why other)))
+    pub step_refused : (t : ℕ) → w ≢ refusal.NoMemory → IsAskedOf {T = Stepped} o (Err w) n (λ k m. DidStep g k t (Err w) m) → IsAbortRefusal w
+    step_refused t other = let P : Refusal → Type 0 = IsAbortRefusal in
+        asked_is _ P o n w _ tt (λ k m a. ⊎_elim (step_is P (has_failed_in k) k.core t w tt tt) (fault_is P g k.core m.core w tt) (a.answers.why other))
 
     pub undo_refused : (t : ℕ) → w ≢ refusal.NoMemory → IsAskedOf {T = AbortStepped} o (Err w) n (λ k m. DidAbortStep g k t (Err w) m) → IsAbortRefusal w
     undo_refused t other = let P : Refusal → Type 0 = IsAbortRefusal in
         asked_is _ P o n w _ tt (λ k m a. ⊎_elim (abort_is P (has_failed_in k) k.core t w tt tt) (fault_is P g k.core m.core w tt) (a.answers.why other))
 
--- what makes no room is a cause of each step that asks for it
-pub room_steps : (w : Refusal) → IsRoomRefusal w → IsStepRefusal w
-room_steps refusal.NoMemory is = tt
-room_steps refusal.DeviceFailed is = tt
-room_steps _ is = absurd is
-
--- and a step refuses its operation
-pub step_calls : (op : Op) (w : Refusal) → IsStepRefusal w → IsCallRefusal op w
-step_calls op refusal.NoMemory is = tt
+-- a step refuses its operation
+pub step_calls : (op : Op) (w : Refusal) → IsAbortRefusal w → IsCallRefusal op w
 step_calls op refusal.DeviceFailed is = tt
 step_calls op refusal.Stranger is = tt
 step_calls op _ is = absurd is
 
+-- what makes no room is a cause of each step that asks for it, but for want of memory
 pub room_undoes : (w : Refusal) → w ≢ refusal.NoMemory → IsRoomRefusal w → IsAbortRefusal w
 room_undoes refusal.NoMemory other is = absurd (other refl)
 room_undoes refusal.DeviceFailed other is = tt
 room_undoes _ other is = absurd is
+
+-- what is not closed is refused with a refusal of its own
+pub close_refused : {D : Type 0} (l : LockedSeen D) (passes : List PassSeen) (w : Refusal) → IsCloseCause l passes w → IsCloseRefusal w
+close_refused l passes refusal.DeviceFailed is = tt
+close_refused l passes refusal.Stranger is = tt
+close_refused l passes refusal.Busy is = tt
+close_refused l passes _ is = absurd is
 
 -- ---- what was started
 

@@ -1,10 +1,10 @@
 -- How much of a log is in use, and whether it is too early to turn it over, by what is seen under the lock.
-use Rattle.std.proofs.Common.{◌≡◌, ◌∙◌, ◌<◌, ◌/◌, ℕ, Bool, false, List, length, Option, None, Some, inl, inr, subst, sym, ⊎_elim}
+use Rattle.std.proofs.Common.{◌≡◌, ◌∙◌, ◌<◌, ◌/◌, ℕ, Bool, false, length, Option, None, Some, inl, inr, subst, sym, ⊎_elim}
 use Rattle.std.specs.Prelude.{◌↔◌, IsTrue}
 use Rattle.mt_disk.specs.declared.device.Device.{Ghosts}
 use Rattle.mt_locked.specs.Standings.{seen_in}
 use Rattle.mt_locked.specs.Turns.{IsHalfUsed, IsTooEarly, IsTooEarlyIn, IsUseSeen}
-use Rattle.mt_mark.specs.declared.view.Entry.{Entry}
+use Rattle.mt_mark.specs.declared.view.View.{View}
 use Rattle.mt_restart.specs.declared.standing.Standing.{Standing}
 use Rattle.mt_restart.specs.declared.standing.Standing.TheVariants.{Stands, Ended}
 use Rattle.mt_txn.specs.Seen.{KernelSeen}
@@ -20,6 +20,6 @@ module _ {D : Type 0} where
   none_above (Some k) is = absurd is
 
 module _ {D : Type 0} {g : Ghosts D} where
-  pub too_early : (commits : ℕ) (s : Standing D g) (list : List Entry) → commits ≡ length list → IsTooEarly commits s → IsTooEarlyIn (seen_in s list)
-  too_early commits (Stands k) list is early = ⊎_elim (λ other. inl (λ same. other (same ∙ sym is))) (λ some. inr some) early
-  too_early commits (Ended device) list is early = absurd early
+  pub too_early : (commits : ℕ) (s : Standing D g) (v : View) → commits ≡ length v.list → IsTooEarly commits s → IsTooEarlyIn (seen_in s v)
+  too_early commits (Stands k) v is early = ⊎_elim (λ other. inl (λ same. other (same ∙ sym is))) (λ some. inr some) early
+  too_early commits (Ended device) v is early = absurd early

@@ -1,8 +1,10 @@
 -- What a call did to the kernel under the lock: what was answered, and what stays of it. k before, n after the call.
-use Rattle.std.specs.Prelude.{ℕ, ◌≡◌, ◌≢◌, ◌+◌, ◌*◌, ◌≤◌, IfOk, OnErr, OnOk, Result, Ok, Err, length}
+use Rattle.std.specs.Prelude.{ℕ, ◌≡◌, ◌≢◌, ◌+◌, ◌*◌, ◌≤◌, true, false, IfOk, None, OnErr, OnOk, Result, Ok, Err, length, ⊤}
 use Rattle.mt_base.specs.declared.refusal.Refusal.{Refusal}
+use Rattle.mt_base.specs.declared.refusal.Refusal.TheVariants.{DeviceFailed, NoMemory}
 use Rattle.mt_core.specs.Consistent.{OnlyOperations, SameCommits, SameRunning, SameStates, SameUncommitted}
-use Rattle.mt_core.specs.Seen.{core_device, core_last, core_log, core_pool, core_store}
+use Rattle.mt_core.specs.Seen.{core_device, core_last, core_log, core_page_locks, core_pool, core_store}
+use Rattle.mt_core.specs.Steps.{WantsFrame}
 use Rattle.mt_core.specs.Work.{CallRuns, DrawsNumber, KeepsOthers, steps_in, undo_steps}
 use Rattle.mt_core.specs.declared.calls.Called.{Called}
 use Rattle.mt_core.specs.declared.calls.Called.TheVariants as call
@@ -15,13 +17,16 @@ use Rattle.mt_pool.specs.Views.{AreClean, Cleans, IsWaiting, pages}
 use Rattle.mt_pool.specs.declared.flushes.Flushed.{Flushed}
 use Rattle.mt_pool.specs.declared.flushes.Flushed.TheVariants as flushed
 use Rattle.mt_txn.specs.Answered.{AnswersAbort, AnswersAbortStep, AnswersBegin, AnswersCall, AnswersCommit, AnswersFlush, AnswersForce, AnswersStep}
-use Rattle.mt_txn.specs.Seen.{KernelSeen, ShowsSeen}
-use Rattle.mt_txn.specs.Work.{LowersAbort, LowersSteps}
+use Rattle.mt_txn.specs.Causes.{abort_cause, is_busy, step_cause}
+use Rattle.mt_txn.specs.PageLocks.{AbortsLocks, OfRunning, StepsLocks}
+use Rattle.mt_txn.specs.Seen.{KernelSeen, ShowsSeen, has_failed_in}
+use Rattle.mt_txn.specs.Work.{IsAbortForOther, IsForOther, LowersAbort, LowersSteps}
 use Rattle.mt_txn.specs.Writes.{WritesOnePage}
 use Rattle.mt_txn.specs.declared.answers.AbortStepped.{AbortStepped}
-use Rattle.mt_txn.specs.declared.answers.AbortStepped.TheVariants.{Ended}
+use Rattle.mt_txn.specs.declared.answers.AbortStepped.TheVariants as abort
 use Rattle.mt_txn.specs.declared.answers.KernelForced.{KernelForced}
 use Rattle.mt_txn.specs.declared.answers.Stepped.{Stepped}
+use Rattle.mt_txn.specs.declared.answers.Stepped.TheVariants as step
 
 -- what a call that answered this left: only one that is started changes the state
 abbrev pub CallsTo : (State → Type 0) → State → ℕ → Op → Result Called Refusal → Type 0
@@ -29,11 +34,44 @@ CallsTo Is s t op (Ok call.Started) = Is (called s t op)
 CallsTo Is s t op (Ok (call.Wait holder)) = Is s
 CallsTo Is s t op (Err why) = Is s
 
-module _ {D : Type 0} (g : Ghosts D) where
-  -- the device was called once at most; and not at all
-  abbrev pub IsCalledOnce : KernelSeen D → KernelSeen D → Type 0
-  IsCalledOnce k n = g.moment (core_device n.core) ≤ g.moment (core_device k.core) + 1
+-- ---- what holds an operation up
 
+module _ {D : Type 0} where
+  -- Why an operation of t did not go on: each frame holds a page that is yet to be flushed, and page locks and log
+  -- stay; or another transaction, which lives, has a page in the way.
+  abbrev pub IsHeldUp : KernelSeen D → ℕ → Result Stepped Refusal → KernelSeen D → Type 0
+  IsHeldUp k t (Ok step.Flush) n = WantsFrame k.core n.core
+  IsHeldUp k t (Ok stepped) n = IsForOther k.core.live.members t stepped
+  IsHeldUp k t (Err why) n = ⊤
+
+  -- and why its abort did not
+  abbrev pub IsAbortHeldUp : KernelSeen D → ℕ → Result AbortStepped Refusal → KernelSeen D → Type 0
+  IsAbortHeldUp k t (Ok abort.Flush) n = WantsFrame k.core n.core
+  IsAbortHeldUp k t (Ok stepped) n = IsAbortForOther k.core.live.members t stepped
+  IsAbortHeldUp k t (Err why) n = ⊤
+
+-- ---- what was done
+
+module _ {D : Type 0} (g : Ghosts D) where
+  -- it had not failed, and the device failed in no call of it since
+  pub record IsFaultless (k n : KernelSeen D) : Type 0 where
+    pub before : has_failed_in k ≡ false
+    pub unfailed : n.failed ≡ false
+    pub faults : g.faults (core_device n.core) ≡ g.faults (core_device k.core)
+
+  -- A kernel that answers 2 has failed then. One that had failed before answers nothing else, and changes nothing. No
+  -- fault of the device is answered with anything else.
+  abbrev pub ReportsEachFault : {T : Type 0} → KernelSeen D → Result T Refusal → KernelSeen D → Type 0
+  ReportsEachFault k (Err DeviceFailed) n = (has_failed_in n ≡ true) × (has_failed_in k ≡ true → n ≡ k)
+  ReportsEachFault k (Err why) n = IsFaultless k n
+  ReportsEachFault k (Ok x) n = IsFaultless k n
+
+  -- the device was called once at most, and its fault is reported
+  pub record AsksDevice {T : Type 0} (k : KernelSeen D) (result : Result T Refusal) (n : KernelSeen D) : Type 0 where
+    pub once : g.moment (core_device n.core) ≤ g.moment (core_device k.core) + 1
+    pub faults : ReportsEachFault k result n
+
+  -- it was not called at all
   abbrev pub SameDevice : KernelSeen D → KernelSeen D → Type 0
   SameDevice k n = core_device n.core ≡ core_device k.core
 
@@ -74,30 +112,40 @@ module _ {D : Type 0} (g : Ghosts D) where
     pub work : LowersSteps (pages (core_pool k.core)) result (steps_in k.core.running.items t)
         (steps_in n.core.running.items t)
     pub others : KeepsOthers t k.core.running.items n.core.running.items
+    pub waits : IsHeldUp k t result n
+    pub locks : step_cause (has_failed_in k) k.core t ≡ None
+        → OfRunning k.core.running.items t (λ r. StepsLocks k.core n.core r result)
     pub writes : WritesOnePage (appended (core_log k.core)) (appended (core_log n.core)) result
     pub durable : durable (core_log n.core) ≡ durable (core_log k.core)
     pub states : SameStates k.core n.core
     pub commits : SameCommits k.core n.core
-    pub once : IsCalledOnce k n
+    pub device : AsksDevice k result n
 
   pub record DidAbortStep (k : KernelSeen D) (t : ℕ) (result : Result AbortStepped Refusal)
       (n : KernelSeen D) : Type 0 where
     pub answers : AnswersAbortStep g k t result n
     pub work : LowersAbort (pages (core_pool k.core)) result (undo_steps k.core t) (undo_steps n.core t)
     pub others : KeepsOthers t k.core.running.items n.core.running.items
+    pub waits : IsAbortHeldUp k t result n
+    pub locks : abort_cause (has_failed_in k) k.core t ≡ None → is_busy k.core t ≡ true
+        → OfRunning k.core.running.items t (λ r. AbortsLocks k.core n.core r result)
+    pub idle : is_busy k.core t ≡ false → core_page_locks n.core ≡ core_page_locks k.core
     pub durable : durable (core_log n.core) ≡ durable (core_log k.core)
-    pub states : IfOk result (λ stepped. stepped ≢ Ended → SameStates k.core n.core)
+    pub states : IfOk result (λ stepped. stepped ≢ abort.Ended → SameStates k.core n.core)
     pub err : OnErr result (SameStates k.core n.core)
     pub commits : SameCommits k.core n.core
-    pub once : IsCalledOnce k n
+    pub device : AsksDevice k result n
 
-  -- Pages stay, and so does what is under way.
+  -- Pages stay, and so does what is under way; and who is active and the book too, if it is refused. For want of memory
+  -- nothing is done.
   pub record DidForce (k : KernelSeen D) (result : Result KernelForced Refusal) (n : KernelSeen D) : Type 0 where
     pub answers : AnswersForce g k result n
     pub pool : core_pool n.core ≡ core_pool k.core
     pub running : SameRunning k.core n.core
     pub states : SameUncommitted k.core n.core
-    pub once : IsCalledOnce k n
+    pub err : OnErr result (SameStates k.core n.core × SameCommits k.core n.core)
+    pub memory : result ≡ Err NoMemory → n ≡ k
+    pub device : AsksDevice k result n
 
   -- A page is clean then; or each waits for records that are not durable; or all are clean. All else stays as it is.
   pub record DidFlush (k : KernelSeen D) (result : Result Flushed Refusal) (n : KernelSeen D) : Type 0 where
@@ -107,4 +155,4 @@ module _ {D : Type 0} (g : Ghosts D) where
     pub waits : result ≡ Ok flushed.Force → IsWaiting (core_pool k.core) (length (durable (core_log k.core)))
     pub nothing : result ≡ Ok flushed.Clean → AreClean (core_pool n.core)
     pub rest : OnlyOperations k.core n.core
-    pub once : IsCalledOnce k n
+    pub device : AsksDevice k result n

@@ -10,24 +10,17 @@ IsCloseRefusal refusal.Stranger = ⊤
 IsCloseRefusal refusal.Busy = ⊤
 IsCloseRefusal _ = ⊥
 
--- making room for a page, with 1 or 2
+-- making room for a page, and a step of a force or of a flush, with 1 or 2
 abbrev pub IsRoomRefusal : Refusal → Type 0
 IsRoomRefusal refusal.NoMemory = ⊤
 IsRoomRefusal refusal.DeviceFailed = ⊤
 IsRoomRefusal _ = ⊥
 
--- an abort, with 2 or 15
+-- an abort, and an operation that has started, with 2 or 15
 abbrev pub IsAbortRefusal : Refusal → Type 0
 IsAbortRefusal refusal.DeviceFailed = ⊤
 IsAbortRefusal refusal.Stranger = ⊤
 IsAbortRefusal _ = ⊥
-
--- a step of an operation, with 1, 2 or 15
-abbrev pub IsStepRefusal : Refusal → Type 0
-IsStepRefusal refusal.NoMemory = ⊤
-IsStepRefusal refusal.DeviceFailed = ⊤
-IsStepRefusal refusal.Stranger = ⊤
-IsStepRefusal _ = ⊥
 
 -- a begin, with 1, 2, 11, 12, 13 or 16
 abbrev pub IsBeginRefusal : Refusal → Type 0

@@ -18,11 +18,12 @@ pub record PassSeen : Type 0 where
   pub number : ℕ
   pub seen : List Entry
 
--- the kernel, if one stands; the durable book; and the history at the mark
+-- the kernel, if one stands; the durable book; the history at the mark; and how many passes it has
 pub record LockedSeen (D : Type 0) : Type 0 where
   pub kernel : Option (KernelSeen D)
   pub book : List Committed
   pub list : List Entry
+  pub pass_count : ℕ
 
 -- The kernel was asked, and did this. If none stands, the call is refused with 2.
 abbrev pub IsAskedOf : {D T : Type 0} → Option (KernelSeen D) → Result T Refusal → Option (KernelSeen D)

@@ -1,5 +1,5 @@
 -- What stands under the lock: a kernel, or the device that a rotation left of it.
-use Rattle.std.specs.Prelude.{◌≡◌, ◌++◌, ℕ, List, Option, Some, None, ⊤}
+use Rattle.std.specs.Prelude.{◌≡◌, ◌++◌, ◌-◌, ℕ, List, Option, Some, None, ⊤}
 use mathlib.Core.List.{IsPrefix}
 use Rattle.mt_core.specs.Seen.{core_device}
 use Rattle.mt_disk.specs.declared.device.Device.{Ghosts}
@@ -11,7 +11,7 @@ use Rattle.mt_replay.specs.Stands.{CanRestart}
 use Rattle.mt_restart.specs.declared.standing.Standing.{Standing}
 use Rattle.mt_restart.specs.declared.standing.Standing.TheVariants.{Stands, Ended}
 use Rattle.mt_mark.specs.Rule.{dones}
-use Rattle.mt_mark.specs.declared.view.Entry.{Entry}
+use Rattle.mt_mark.specs.declared.view.View.{View}
 use Rattle.mt_locked.specs.Began.{BeganOn}
 use Rattle.mt_txn.specs.Seen.{KernelSeen, seen_of}
 use Rattle.mt_txn.specs.Words.{kernel_book}
@@ -44,9 +44,14 @@ abbrev pub kernel_in : {D : Type 0} → {g : Ghosts D} → Standing D g → Opti
 kernel_in (Stands k) = Some (seen_of k)
 kernel_in (Ended device) = None
 
--- what contracts see of it, with the history as it is at the mark
-abbrev pub seen_in : {D : Type 0} → {g : Ghosts D} → Standing D g → List Entry → LockedSeen D
-seen_in standing list = record { kernel = kernel_in standing; book = book_in standing (dones list); list = list }
+-- what contracts see of it, beside what its end of the mark knows
+abbrev pub seen_in : {D : Type 0} → {g : Ghosts D} → Standing D g → View → LockedSeen D
+seen_in standing v = record {
+  kernel = kernel_in standing;
+  book = book_in standing (dones v.list);
+  list = v.list;
+  pass_count = v.made - 1;
+}
 
 -- it is the device of the kernel that is seen, if one stands
 abbrev pub IsDeviceSeen : {D : Type 0} → Option (KernelSeen D) → D → Type 0

@@ -1,27 +1,26 @@
 // What the lock of a shared kernel guards, and what is done under it. mt_shared calls it with the lock taken;
 // nothing here waits or wakes a thread.
-ghost use Rattle.std.specs.Prelude.{◌≡◌, ◌<◌, ◌+◌, ◌++◌, ◌∷◌, [], ◌≤◌, false, length, OnOk, IfOk, IfErr, IsErr, IfNone, IfSome, Ok, Err, IsTrue, ◌↔◌, slice_get, Some, None, All, true};
+ghost use Rattle.std.specs.Prelude.{◌≡◌, ◌≢◌, ◌<◌, ◌+◌, ◌-◌, ◌++◌, ◌∷◌, [], ◌≤◌, ◌⊎◌, false, length, OnOk, IfOk, IfErr, IsErr, IfNone, IfSome, IsSome, Ok, Err, IsTrue, ◌↔◌, slice_get, Some, None, All, true};
 ghost use mathlib.Core.List.{IsPrefix};
 ghost use Rattle.mt_mark.specs.Legal.{IsLegal};
 ghost use Rattle.mt_mark.specs.Rule.{dones, Holds, IsConfirmed};
 ghost use Rattle.mt_locked.specs.Asked.{DidAbort, DidAbortStep, DidBegin, DidCall, DidCommit, DidFlush, DidForce, DidStep};
 ghost use Rattle.mt_locked.specs.Began.{BeganOn, IsIdle};
 ghost use Rattle.mt_locked.specs.Standings.{IsDeviceSeen, LeavesBook};
-ghost use Rattle.mt_locked.specs.Refusals.{IsCloseRefusal, IsRoomRefusal};
+ghost use Rattle.mt_locked.specs.Refusals.{IsRoomRefusal};
 ghost use Rattle.mt_restart.specs.TurnFaults.{IsTurnFault};
 ghost use Rattle.mt_locked.specs.Rooms.{GoesOnFrom, MakesRoom};
 ghost use Rattle.mt_locked.specs.Seen.{PassSeen, Entered, CannotEnter, IsAsked, IsToForce, is_failed_in, under_way_in};
 ghost use Rattle.mt_locked.specs.Turns.{HasTurned, IsHalfUsed, IsLeftAfter, IsTooEarlyIn, IsUseOn, IsUseSeen};
 ghost use Rattle.mt_txn.specs.Seen.{seen_of};
 ghost use Rattle.mt_txn.specs.Shown.{is_failed};
-ghost use Rattle.mt_txn.specs.Turned.{HasNobody};
 ghost use Rattle.mt_txn.specs.Words.{kernel_book};
-ghost use Rattle.mt_locked.specs.Whole.{HasAllOf, IsOfAll, IsWhole, all_own};
+ghost use Rattle.mt_locked.specs.Whole.{AreAll, HasAllOf, IsCloseCause, IsInUse, IsOfAll, IsWhole, all_own};
 
 use crate::names::Naming;
 use crate::pass::Pass;
 use crate::returned_passes::{are_all, meet_all};
-use crate::rotation::turned;
+use crate::rotation::{has_just, turned};
 use crate::txn::Txn;
 use core::mem::replace_with;
 use mt_base::{Refusal, TxnNo};
@@ -45,7 +44,8 @@ pub enum Due {
 }
 
 /// What lies under the lock: the kernel, or what a rotation left of it, with its end of the mark. Its first commits
-/// are the history, as many as the mark counts. Contracts see the kernel, the book and the history.
+/// are the history, as many as the mark counts. Contracts see the kernel, the book, the history, and how many passes
+/// there are.
 pub struct Locked<D: Device, J: Naming> {
     pub(crate) standing: Standing<D>,
     pub(crate) end: End,
@@ -71,7 +71,7 @@ impl<D: Device, J: Naming> Model for Locked<D, J> {
 
     ghost Value = { LockedSeen D };
 
-    ghost view = { λ l. seen_in l.standing l.end.view.list };
+    ghost view = { λ l. seen_in l.standing l.end.view };
 
     ghost invariant = { λ l. (l.end.mark ≡ J.mark) × (l.end.view.base ≡ J.base) × (l.end.view.book ≡ J.book)
         × IsConfirmed l.end.view
@@ -87,6 +87,7 @@ impl<D: Device, J: Naming> Locked<D, J> {
         requires front { IsPrefix (dones end.view.list) (kernel_book kernel) }
         ensures book { result.book ≡ kernel_book kernel }
         ensures list { result.list ≡ end.view.list }
+        ensures passes { result.pass_count ≡ end.view.made - 1 }
         ensures kernel { result.kernel ≡ Some (seen_of kernel) }
     {
         Locked {
@@ -110,6 +111,7 @@ impl<D: Device, J: Naming> Locked<D, J> {
         ensures kernel { self.new.kernel ≡ self.old.kernel }
         ensures book { self.new.book ≡ self.old.book }
         ensures list { IfErr result (λ _. self.new.list ≡ self.old.list) }
+        ensures passes { self.new.pass_count ≡ self.old.pass_count }
     {
         let at = self.end.check();
         if place == 0 || at != place - 1 {
@@ -197,6 +199,7 @@ impl<D: Device, J: Naming> Locked<D, J> {
         ensures kernel { IsAsked self.old result self.new (λ k n. DidBegin D.Device k session result n) }
         ensures book { self.new.book ≡ self.old.book }
         ensures list { self.new.list ≡ self.old.list }
+        ensures passes { self.new.pass_count ≡ self.old.pass_count }
     {
         let Standing::Stands(kernel) = &mut self.standing else {
             return Err(Refusal::DeviceFailed);
@@ -210,6 +213,7 @@ impl<D: Device, J: Naming> Locked<D, J> {
             (λ k n. DidCall D.Device k txn op.now result n) }
         ensures book { self.new.book ≡ self.old.book }
         ensures list { self.new.list ≡ self.old.list }
+        ensures passes { self.new.pass_count ≡ self.old.pass_count }
     {
         let Standing::Stands(kernel) = &mut self.standing else {
             return Err(Refusal::DeviceFailed);
@@ -223,6 +227,7 @@ impl<D: Device, J: Naming> Locked<D, J> {
             (λ k n. DidStep D.Device k txn result n) }
         ensures book { self.new.book ≡ self.old.book }
         ensures list { self.new.list ≡ self.old.list }
+        ensures passes { self.new.pass_count ≡ self.old.pass_count }
     {
         let Standing::Stands(kernel) = &mut self.standing else {
             return Err(Refusal::DeviceFailed);
@@ -235,6 +240,7 @@ impl<D: Device, J: Naming> Locked<D, J> {
         ensures kernel { IsAsked self.old result self.new (λ k n. DidCommit D.Device k txn result n) }
         ensures book { self.new.book ≡ self.old.book }
         ensures list { self.new.list ≡ self.old.list }
+        ensures passes { self.new.pass_count ≡ self.old.pass_count }
     {
         let Standing::Stands(kernel) = &mut self.standing else {
             return Err(Refusal::DeviceFailed);
@@ -247,6 +253,7 @@ impl<D: Device, J: Naming> Locked<D, J> {
         ensures kernel { IsAsked self.old result self.new (λ k n. DidAbort D.Device k txn result n) }
         ensures book { self.new.book ≡ self.old.book }
         ensures list { self.new.list ≡ self.old.list }
+        ensures passes { self.new.pass_count ≡ self.old.pass_count }
     {
         let Standing::Stands(kernel) = &mut self.standing else {
             return Err(Refusal::DeviceFailed);
@@ -260,6 +267,7 @@ impl<D: Device, J: Naming> Locked<D, J> {
             (λ k n. DidAbortStep D.Device k txn result n) }
         ensures book { self.new.book ≡ self.old.book }
         ensures list { self.new.list ≡ self.old.list }
+        ensures passes { self.new.pass_count ≡ self.old.pass_count }
     {
         let Standing::Stands(kernel) = &mut self.standing else {
             return Err(Refusal::DeviceFailed);
@@ -272,6 +280,7 @@ impl<D: Device, J: Naming> Locked<D, J> {
         ensures kernel { IsAsked self.old result self.new (λ k n. DidFlush D.Device k result n) }
         ensures book { self.new.book ≡ self.old.book }
         ensures list { self.new.list ≡ self.old.list }
+        ensures passes { self.new.pass_count ≡ self.old.pass_count }
     {
         let Standing::Stands(kernel) = &mut self.standing else {
             return Err(Refusal::DeviceFailed);
@@ -284,6 +293,7 @@ impl<D: Device, J: Naming> Locked<D, J> {
         ensures kernel { IsAsked self.old result self.new (λ k n. DidForce D.Device k result n) }
         ensures book { IsPrefix self.old.book self.new.book }
         ensures list { self.new.list ≡ self.old.list }
+        ensures passes { self.new.pass_count ≡ self.old.pass_count }
     {
         let Standing::Stands(kernel) = &mut self.standing else {
             return Err(Refusal::DeviceFailed);
@@ -297,6 +307,7 @@ impl<D: Device, J: Naming> Locked<D, J> {
         ensures kernel { MakesRoom D.Device self.old.kernel result self.new.kernel }
         ensures book { IsPrefix self.old.book self.new.book }
         ensures list { self.new.list ≡ self.old.list }
+        ensures passes { self.new.pass_count ≡ self.old.pass_count }
     {
         let flushed = self.flush_step()?;
         self.go_on(flushed)
@@ -308,6 +319,7 @@ impl<D: Device, J: Naming> Locked<D, J> {
         ensures kernel { GoesOnFrom D.Device (Ok flushed) self.old.kernel result self.new.kernel }
         ensures book { IsPrefix self.old.book self.new.book }
         ensures list { self.new.list ≡ self.old.list }
+        ensures passes { self.new.pass_count ≡ self.old.pass_count }
     {
         match flushed {
             Flushed::Page(_) | Flushed::Clean => Ok(()),
@@ -318,29 +330,31 @@ impl<D: Device, J: Naming> Locked<D, J> {
         }
     }
 
+    /// Whether these are all passes of the mark.
+    pub fn has_all(&self, passes: &[Pass<J>]) -> bool
+        ensures { IsTrue result ↔ AreAll self.now.pass_count passes.now }
+    {
+        are_all(self.end.passes(), passes)
+    }
+
     // Why this cannot be closed, if it cannot. Each durable transaction is entered by its pass, and is waited for.
     fn close_cause(&mut self, passes: &[Pass<J>]) -> Option<Refusal>
         ensures same { self.new ≡ self.old }
         ensures whole { IfNone result (IsWhole self.old) }
         ensures all { IfNone result (IsOfAll J.book passes.now self.old.list) }
-        ensures why { IfSome result IsCloseRefusal }
+        ensures cause { IfSome result (IsCloseCause self.old passes.now) }
     {
         let entered = self.end.check();
         if !are_all(self.end.passes(), passes) {
-            Some(Refusal::Stranger)
-        } else if passes.iter().any(|p| p.is_busy) {
-            Some(Refusal::Busy)
-        } else {
-            match &self.standing {
-                Standing::Stands(kernel) if kernel.book().len() as u64 == entered => None,
-                Standing::Stands(_) => Some(Refusal::Busy),
-                Standing::Ended(_) => Some(Refusal::DeviceFailed),
-            }
+            return Some(Refusal::Stranger);
+        }
+        match &self.standing {
+            Standing::Stands(kernel) => kernel_cause(kernel, entered),
+            Standing::Ended(_) => Some(Refusal::DeviceFailed),
         }
     }
 
-    // The kernel of what is whole, which each pass meets. Or all as it was, if a transaction is active in a kernel
-    // that has not failed.
+    // The kernel of what is whole, which each pass meets.
     fn into_met(self, passes: Vec<Pass<J>>) -> Result<Kernel<D>, Unclosed<D, J>>
         requires whole { IsWhole self }
         requires all { IsOfAll J.book passes.items self.list }
@@ -348,7 +362,8 @@ impl<D: Device, J: Naming> Locked<D, J> {
         ensures count { IfOk result (λ k. length (kernel_book k) ≡ length J.book + all_own passes.items) }
         ensures began { IfOk result (BeganOn J.base) }
         ensures idle { IfOk result (λ k. is_failed k ≡ false → IsIdle k) }
-        ensures why { IfErr result (λ u. IsCloseRefusal u.why) }
+        ensures kernel { IfOk result (λ k. self.kernel ≡ Some (seen_of k)) }
+        ensures cause { IfErr result (λ u. IsCloseCause self passes.items u.why) }
         ensures back { IfErr result (λ u. u.passes.items ≡ passes.items) }
         ensures stays { IfErr result (λ u. u.locked ≡ self) }
     {
@@ -360,7 +375,7 @@ impl<D: Device, J: Naming> Locked<D, J> {
             of,
         } = self;
         match standing {
-            Standing::Stands(kernel) if has_ended(&kernel) => {
+            Standing::Stands(kernel) => {
                 meet_all(end, passes);
                 Ok(kernel)
             }
@@ -381,13 +396,18 @@ impl<D: Device, J: Naming> Locked<D, J> {
         }
     }
 
-    /// The kernel, once these are all passes and none has a transaction; or all as it was, and why.
+    /// The kernel under the lock, once these are all passes. Its book is the history then. Unless it has failed, no
+    /// transaction is active in it, and it holds no lock.
+    ///
+    /// Refused, in this order, with all as it was. It is 15 if a pass is missing, 2 if a rotation left no kernel. Then
+    /// 16 if a durable transaction is not in the history, or one is active in a kernel that has not failed.
     pub fn close(self, passes: Vec<Pass<J>>) -> Result<Kernel<D>, Unclosed<D, J>>
         ensures own { IfOk result (λ k. HasAllOf (kernel_book k) passes.items) }
         ensures count { IfOk result (λ k. length (kernel_book k) ≡ length J.book + all_own passes.items) }
         ensures began { IfOk result (BeganOn J.base) }
         ensures idle { IfOk result (λ k. is_failed k ≡ false → IsIdle k) }
-        ensures why { IfErr result (λ u. IsCloseRefusal u.why) }
+        ensures kernel { IfOk result (λ k. self.kernel ≡ Some (seen_of k)) }
+        ensures cause { IfErr result (λ u. IsCloseCause self passes.items u.why) }
         ensures back { IfErr result (λ u. u.passes.items ≡ passes.items) }
         ensures stays { IfErr result (λ u. u.locked ≡ self) }
     {
@@ -496,6 +516,7 @@ impl<D: Device + Drop, J: Naming> Locked<D, J> {
             → (result ≡ Err Refusal.DeviceFailed) × (self.new ≡ self.old) }
         ensures book { self.new.book ≡ self.old.book }
         ensures list { self.new.list ≡ self.old.list }
+        ensures passes { self.new.pass_count ≡ self.old.pass_count }
     {
         let entered = self.end.check();
         let outcome = replace_with(&mut self.standing, (entered, alloc, frames), turned);
@@ -522,11 +543,21 @@ impl<D: Device + Drop, J: Naming> Locked<D, J> {
     }
 }
 
-// Whether a kernel has failed, or no transaction is active in it.
-fn has_ended<D: Device>(kernel: &Kernel<D>) -> bool
-    ensures { IsTrue result → is_failed kernel.now ≡ false → HasNobody kernel.now }
+// Why a kernel cannot be closed under a history of so many commits, if it cannot.
+fn kernel_cause<D: Device>(kernel: &Kernel<D>, commits: u64) -> Option<Refusal>
+    ensures all { IfNone result (length (kernel_book kernel.now) ≡ commits) }
+    ensures ended { IfNone result (IsInUse (Some (seen_of kernel.now)) → ⊥) }
+    ensures busy { IfSome result (λ why. why ≡ Refusal.Busy) }
+    ensures cause { IsSome result
+        → (length (kernel_book kernel.now) ≢ commits) ⊎ IsInUse (Some (seen_of kernel.now)) }
 {
-    kernel.has_failed() || kernel.has_nobody()
+    if !has_just(kernel, commits) {
+        return Some(Refusal::Busy);
+    }
+    if !kernel.has_failed() && !kernel.has_nobody() {
+        return Some(Refusal::Busy);
+    }
+    None
 }
 
 // Whether a book has this transaction at this position, from 0.

@@ -1,5 +1,5 @@
 // Passes that come back at a close: whether they are all, and what they have seen. `locked` asks both.
-ghost use Rattle.std.specs.Prelude.{◌≡◌, All, IsTrue};
+ghost use Rattle.std.specs.Prelude.{◌≡◌, ◌↔◌, All, IsTrue};
 ghost use Rattle.mt_mark.specs.Rule.{Holds, IsConfirmed};
 ghost use Rattle.mt_locked.specs.Seen.{PassSeen};
 ghost use Rattle.mt_locked.specs.Whole.{AreAll, HasNumber};
@@ -10,7 +10,7 @@ use mt_mark::End;
 
 // Whether these are all passes, of which there are so many.
 pub(crate) fn are_all<J: Naming>(count: u64, passes: &[Pass<J>]) -> bool
-    ensures { IsTrue result → AreAll count passes.now }
+    ensures { IsTrue result ↔ AreAll count passes.now }
 {
     let len = passes.len();
     if len as u64 != count {
@@ -26,7 +26,7 @@ pub(crate) fn are_all<J: Naming>(count: u64, passes: &[Pass<J>]) -> bool
 
 // Whether one of the passes has this number.
 fn has_number<J: Naming>(passes: &[Pass<J>], number: u64) -> bool
-    ensures { IsTrue result → HasNumber number passes.now }
+    ensures { IsTrue result ↔ HasNumber number passes.now }
 {
     'passes: for pass in passes {
         if pass.number == number {

@@ -39,7 +39,7 @@ fn has_turned(outcome: Result<(), Refusal>) -> Result<bool, Refusal>
 }
 
 // Whether a kernel's book has just so many commits.
-fn has_just<D: Device>(kernel: &Kernel<D>, commits: u64) -> bool
+pub(crate) fn has_just<D: Device>(kernel: &Kernel<D>, commits: u64) -> bool
     ensures { IsTrue result ↔ (length (kernel_book kernel.now) ≡ commits) }
 {
     kernel.book().len() as u64 == commits

@@ -13,3 +13,4 @@ pub mod Settled
 pub mod Stepped
 pub mod Steps
 pub mod Turns
+pub mod Values

@@ -3,11 +3,12 @@ use Rattle.std.proofs.Common.{◌≡◌, ◌≢◌, ℕ, ◌+◌, ◌^◌, ◌<�
 use Rattle.mt_base.specs.declared.refusal.Refusal.{Refusal}
 use Rattle.mt_disk.specs.Disk.{Has}
 use Rattle.mt_frame.specs.declared.records.Record.{Record}
-use Rattle.mt_frame.specs.Grammar.{body_text, batch_text}
+use Rattle.mt_frame.specs.Grammar.{AreOfFormat, body_text, batch_text}
 use Rattle.mt_area_rules.specs.History.{MayFollow, BatchesMayFollow, IsHistory}
 use Rattle.mt_frame.proofs.Rows.{one_body}
 use Rattle.mt_log.specs.Batch.{Stands, joined}
-use Rattle.mt_log.specs.Holds.{AreRecords, AreBatches, MayComeNext, BreakNoRule, HoldsBatches, BreaksAt}
+use Rattle.mt_log.specs.Holds.{AreRecords, AreBatches, AreBatchesOf, MayComeNext, BreakNoRule, HoldsBatches, HoldsOf, BreaksAt}
+use Rattle.mt_base.specs.declared.format.Format.{Format}
 use Rattle.mt_log.proofs.Steps.{stands_le}
 use Rattle.mt_log.proofs.Pieces.{gate_there, body_there, one_body_there, head_there}
 
@@ -50,9 +51,15 @@ next_follows : (front : List (List Record)) (b : List Record) (rest : List (List
 next_follows [] b rest all = all.0
 next_follows (x ∷ front) b rest all = follows_at x front b rest all.1
 
+-- the values of the next one
+next_values : (format : Format) (front : List (List Record)) (b : List Record) (rest : List (List Record)) → AreBatchesOf format (front ++ b ∷ rest) → AreOfFormat format b
+next_values format [] b rest all = all.0
+next_values format (x ∷ front) b rest all = next_values format front b rest all.1
+
 -- an area that holds batches breaks the grammar nowhere
-pub holds_or_breaks : (c : List ℕ) (start end pages at : ℕ) (xs : List (List Record)) → end < start + 2 ^ 32 → HoldsBatches c start end pages xs → BreaksAt c start end pages at → ⊥
-holds_or_breaks c start end pages at xs short a b =
+pub holds_or_breaks : (format : Format) (c : List ℕ) (start end pages at : ℕ) (xs : List (List Record)) → end < start + 2 ^ 32 → HoldsOf format c start end pages xs → BreaksAt format c start end pages at → ⊥
+holds_or_breaks format c start end pages at xs short of_format b =
+    let a = of_format.held in
     let r = row_begins c start at a.row.0 end pages b.before xs b.row b.inside a.row.1 a.row.2 a.row.3 short b.each a.each in
     goes_on r.0 r.1 r.2 r.3
   where
@@ -60,15 +67,16 @@ holds_or_breaks c start end pages at xs short a b =
     empty_history [] is h = h
     empty_history (x ∷ l) is h = absurd (cc)
 
-    goes_on : (rest : List (List Record)) → xs ≡ b.before ++ rest → Stands c at rest a.row.0 → AreBatches pages rest → ⊥
-    goes_on [] is s each = ⊎_elim
+    goes_on : (rest : List (List Record)) → xs ≡ b.before ++ rest → Stands c at rest of_format.held.row.0 → AreBatches pages rest → ⊥
+    goes_on [] is s each = let a = of_format.held in ⊎_elim
         (λ (open_gate : get_or c at 0 ≡ 165). a.row.3 (subst (λ (k : ℕ). get_or c k 0 ≡ 165) s open_gate))
         (λ (none : b.before ≡ []). empty_history xs (is ∙ append-nil b.before ∙ none) a.rules)
         b.due
-    goes_on (y ∷ rest) is s each = b.none y (record {
+    goes_on (y ∷ rest) is s each = let a = of_format.held in b.none y (record {
       text = s.0;
       fits = let le = stands_le c (at + 5 + length (body_text y)) rest a.row.0 s.1 in let lt = a.row.2 in omega arith;
       each = each.0;
+      of_format = next_values format b.before y rest (subst (AreBatchesOf format) is of_format.of_format);
       rules = next_follows b.before y rest (subst IsHistory is a.rules);
     })
 
@@ -104,19 +112,20 @@ a_history [] b rest all = all
 a_history (x ∷ front) b rest all = all
 
 -- a row does not go on behind a place where none may
-stops : (c : List ℕ) (start end pages p q : ℕ) → (a : BreaksAt c start end pages p) → (b : BreaksAt c start end pages q) → GoesOn c pages p q a.before b.before → ⊥
-stops c start end pages p q a b g = a.none g.next (record {
+stops : (format : Format) (c : List ℕ) (start end pages p q : ℕ) → (a : BreaksAt format c start end pages p) → (b : BreaksAt format c start end pages q) → GoesOn c pages p q a.before b.before → ⊥
+stops format c start end pages p q a b g = a.none g.next (record {
   text = g.row.0;
   fits = let le = stands_le c (p + 5 + length (body_text g.next)) g.rest q g.row.1 in let lt = b.inside in omega arith;
   each = g.each.0;
+  of_format = next_values format a.before g.next g.rest (subst (AreBatchesOf format) g.is b.of_format);
   rules = next_follows a.before g.next g.rest (a_history a.before g.next g.rest (subst BreakNoRule g.is b.rules));
 })
 
 -- an area breaks the grammar at one place first
-pub breaks_one : (c : List ℕ) (start end pages p q : ℕ) → end < start + 2 ^ 32 → BreaksAt c start end pages p → BreaksAt c start end pages q → p ≡ q
-breaks_one c start end pages p q short a b = ⊎_elim
+pub breaks_one : (format : Format) (c : List ℕ) (start end pages p q : ℕ) → end < start + 2 ^ 32 → BreaksAt format c start end pages p → BreaksAt format c start end pages q → p ≡ q
+breaks_one format c start end pages p q short a b = ⊎_elim
     (λ (one : p ≡ q). one)
-    (λ (goes : GoesOn c pages p q a.before b.before ⊎ GoesOn c pages q p b.before a.before). ⊎_elim (λ (on : GoesOn c pages p q a.before b.before). absurd (stops c start end pages p q a b on)) (λ (on : GoesOn c pages q p b.before a.before). absurd (stops c start end pages q p b a on)) goes)
+    (λ (goes : GoesOn c pages p q a.before b.before ⊎ GoesOn c pages q p b.before a.before). ⊎_elim (λ (on : GoesOn c pages p q a.before b.before). absurd (stops format c start end pages p q a b on)) (λ (on : GoesOn c pages q p b.before a.before). absurd (stops format c start end pages q p b a on)) goes)
     (two_rows c start p q end pages a.before b.before a.row a.inside b.row b.inside short a.each b.each)
 
 -- ---- what a scan comes to
@@ -127,17 +136,18 @@ holds_found c start end pages next [] row inside shut each rules some = absurd (
 holds_found c start end pages next (b ∷ bs) row inside shut each rules some = record { row = (next, row, inside, shut); each = each; rules = rules }
 
 -- it has read nothing
-pub nothing_found : (c : List ℕ) (start end pages next : ℕ) (bs : List (List Record)) → Stands c start bs next → get_or c next 0 ≢ 165 → start < end → length bs ≡ 0 → BreaksAt c start end pages start
-nothing_found c start end pages next [] row shut inside none = record {
+pub nothing_found : (format : Format) (c : List ℕ) (start end pages next : ℕ) (bs : List (List Record)) → Stands c start bs next → get_or c next 0 ≢ 165 → start < end → length bs ≡ 0 → BreaksAt format c start end pages start
+nothing_found format c start end pages next [] row shut inside none = record {
   before = [];
   row = refl;
   inside = inside;
   each = tt;
+  of_format = tt;
   rules = tt;
   due = inr refl;
   none = λ b is. shut (subst (λ (k : ℕ). get_or c k 0 ≡ 165) row (gate_there c start b is.text));
 }
-nothing_found c start end pages next (b ∷ bs) row shut inside none = absurd (omega arith)
+nothing_found format c start end pages next (b ∷ bs) row shut inside none = absurd (omega arith)
 
 -- no refusal but want of memory and a fault, where the grammar is not broken
 pub no_other_cause : (why : Refusal) (F : Type 0) → (why ≡ Refusal.NoMemory) ⊎ (((why ≡ Refusal.DeviceFailed) × F) ⊎ ((at : ℕ) × (why ≡ Refusal.BadFormat at))) → ((at : ℕ) → why ≡ Refusal.BadFormat at → ⊥)

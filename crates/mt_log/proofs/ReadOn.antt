@@ -8,12 +8,13 @@ use Rattle.mt_base.specs.declared.refusal.Refusal.{Refusal}
 use Rattle.mt_disk.specs.Disk.{Has}
 use Rattle.mt_disk.proofs.Frame.{runs_on, same_moment}
 use Rattle.mt_frame.specs.declared.records.Record.{Record}
-use Rattle.mt_frame.specs.Grammar.{IsBody, body_text}
+use Rattle.mt_frame.specs.Grammar.{AreOfFormat, IsBodyOf, body_text}
+use Rattle.mt_base.specs.declared.format.Format.{Format}
 use Rattle.mt_area_rules.specs.History.{MayFollow}
 use Rattle.mt_log.specs.Batch.{Stands, joined}
 use Rattle.mt_log.specs.declared.batch.Batch.{Batch}
 use Rattle.mt_log.specs.Found.{records_of, places_of}
-use Rattle.mt_log.specs.Holds.{AreRecords, AreBatches, MayComeNext, BreakNoRule, places_from, IsNextBatch}
+use Rattle.mt_log.specs.Holds.{AreRecords, AreBatches, AreBatchesOf, MayComeNext, BreakNoRule, places_from, IsNextBatch}
 use Rattle.mt_log.specs.Quiet.{OnlyReads}
 use Rattle.mt_log.proofs.Pieces.{head_there, one_body_there}
 use Rattle.mt_log.proofs.Prefix.{history_push}
@@ -49,6 +50,10 @@ pub batches_push : (pages : ℕ) (bs : List (List Record)) (b : List Record) →
 batches_push pages [] b all one = (one, tt)
 batches_push pages (x ∷ bs) b all one = (all.0, batches_push pages bs b all.1 one)
 
+pub values_push : (format : Format) (bs : List (List Record)) (b : List Record) → AreBatchesOf format bs → AreOfFormat format b → AreBatchesOf format (bs ++ b ∷ [])
+values_push format [] b all one = (one, tt)
+values_push format (x ∷ bs) b all one = (all.0, values_push format bs b all.1 one)
+
 pub rules_push : (bs : List (List Record)) (b : List Record) → BreakNoRule bs → MayComeNext bs b → BreakNoRule (bs ++ b ∷ [])
 rules_push [] b all may = (may, tt)
 rules_push (x ∷ bs) b all may = history_push (x ∷ bs) b (omega arith) all may
@@ -68,18 +73,18 @@ comes_next first (x ∷ bs) b is may = subst (λ (y : Bool). MayFollow y (joined
 -- ---- no batch where one is due
 
 -- none whose length fits
-pub no_length : (c : List ℕ) (at end pages : ℕ) (before : List (List Record)) → end ≤ at + 2 ^ 32 → ((n : ℕ) → n < 2 ^ 32 → Has c (at + 1) (to_be_bytes w32 n) → end ≤ at + 5 + n) → (b : List Record) → IsNextBatch c at end pages before b → ⊥
-no_length c at end pages before short none b is =
+pub no_length : (format : Format) (c : List ℕ) (at end pages : ℕ) (before : List (List Record)) → end ≤ at + 2 ^ 32 → ((n : ℕ) → n < 2 ^ 32 → Has c (at + 1) (to_be_bytes w32 n) → end ≤ at + 5 + n) → (b : List Record) → IsNextBatch format c at end pages before b → ⊥
+no_length format c at end pages before short none b is =
     let fits = is.fits in
     let past = none (length (body_text b)) (omega arith) (head_there c at b is.text) in
     absurd (omega arith)
 
 -- none whose body is the one that stands there
-pub no_body : (c : List ℕ) (at end pages n : ℕ) (body : List ℕ) (before : List (List Record)) → end ≤ at + 2 ^ 32 → Has c (at + 1) (to_be_bytes w32 n) → n < 2 ^ 32 → Has c (at + 5) body → length body ≡ n
-    → ((b : List Record) → IsBody body b → AreRecords pages b → MayComeNext before b → ⊥) → (b : List Record) → IsNextBatch c at end pages before b → ⊥
-no_body c at end pages n body before short head small has size none b is =
+pub no_body : (format : Format) (c : List ℕ) (at end pages n : ℕ) (body : List ℕ) (before : List (List Record)) → end ≤ at + 2 ^ 32 → Has c (at + 1) (to_be_bytes w32 n) → n < 2 ^ 32 → Has c (at + 5) body → length body ≡ n
+    → ((b : List Record) → IsBodyOf format body b → AreRecords pages b → MayComeNext before b → ⊥) → (b : List Record) → IsNextBatch format c at end pages before b → ⊥
+no_body format c at end pages n body before short head small has size none b is =
     let fits = is.fits in
-    none b (record { each = is.each.0; text = one_body_there c at n body b head small has size is.text (omega arith) }) is.each is.rules
+    none b (record { row = record { each = is.each.0; text = one_body_there c at n body b head small has size is.text (omega arith) }; values = is.of_format }) is.each is.rules
 
 -- ---- answers
 

@@ -2,6 +2,7 @@
 use Rattle.std.proofs.Common.{◌≡◌, ◌⊎◌, inl, inr, ⊎_elim, ◌<◌, ◌≤◌, ◌+◌, ◌^◌, ℕ, List, [], ◌∷◌, length, take, drop, refl, ap, sym, subst, arith}
 use Rattle.mt_disk.specs.declared.device.Device.{Ghosts}
 use Rattle.mt_base.specs.Limits.{device_bytes_of}
+use Rattle.mt_base.specs.declared.format.Format.TheVariants as formats
 use Rattle.mt_disk.specs.Disk.{Follows, Has, LeavesOnly, Only, Torn, Wrote}
 use Rattle.mt_disk.proofs.Frame.{leaves_more, one_of, runs_both, torn_refl, torn_trans, torn_within}
 use Rattle.mt_frame.specs.Laws.{OneSlot}
@@ -19,7 +20,7 @@ pub next_fits : (slot : MasterSlot) → IsSlot slot → slot.epoch < 2 ^ 63 → 
 next_fits slot fits more = record { epoch = (omega arith, omega (arith, more)); area = omega arith; pages = fits.pages; mib = fits.mib }
 
 pub next_before : (slot : MasterSlot) → IsBefore slot (next_slot slot)
-next_before slot = record { epoch = omega arith; pages = refl; mib = refl }
+next_before slot = record { epoch = omega arith; pages = refl; mib = refl; format_order = λ (is : formats.Two ≡ formats.One). absurd cc }
 
 -- ---- where the ruling slot stands
 

@@ -6,7 +6,8 @@ use Rattle.mt_frame.specs.declared.TheConstants.{OPEN_GATE}
 use Rattle.mt_disk.specs.Disk.{Has}
 use Rattle.mt_frame.specs.declared.records.Record.{Record}
 use Rattle.mt_frame.specs.declared.records.Record.TheVariants.{Page, OpEnd, OpDropped, Commit, AbortEnd}
-use Rattle.mt_frame.specs.Grammar.{IsRecord, body_text, batch_text}
+use Rattle.mt_frame.specs.Grammar.{AreOfFormat, IsRecord, body_text, batch_text}
+use Rattle.mt_base.specs.declared.format.Format.{Format}
 use Rattle.mt_area_rules.specs.History.{MayFollow, IsHistory}
 use Rattle.mt_log.specs.Batch.{Stands, Scans, joined}
 
@@ -27,6 +28,10 @@ AreRecords pages records = AllByRecursion IsRecord records × AllByRecursion (Ha
 -- so in each batch
 abbrev pub AreBatches : ℕ → List (List Record) → Type 0
 AreBatches pages batches = AllByRecursion (AreRecords pages) batches
+
+-- each value of them is as long as this format lets it be at most
+abbrev pub AreBatchesOf : Format → List (List Record) → Type 0
+AreBatchesOf format batches = AllByRecursion (AreOfFormat format) batches
 
 -- the batch may stand after these, the area's first ones; with none of them it is the area's first
 abbrev pub MayComeNext : List (List Record) → List Record → Type 0
@@ -52,21 +57,29 @@ pub record HoldsBatches (c : List ℕ) (start end pages : ℕ) (batches : List (
   pub each : AreBatches pages batches
   pub rules : IsHistory batches
 
--- the batch stands at this place, with the next gate before the area's end, and breaks no rule after those before it
-pub record IsNextBatch (c : List ℕ) (place end pages : ℕ) (before : List (List Record))
+-- they are batches of this format
+pub record HoldsOf (format : Format) (c : List ℕ) (start end pages : ℕ) (batches : List (List Record)) : Type 0 where
+  pub held : HoldsBatches c start end pages batches
+  pub of_format : AreBatchesOf format batches
+
+-- The batch stands at this place, with the next gate before the area's end. It is one of the format, and breaks no
+-- rule after those before it.
+pub record IsNextBatch (format : Format) (c : List ℕ) (place end pages : ℕ) (before : List (List Record))
     (batch : List Record) : Type 0 where
   pub text : Has c place (batch_text batch)
   pub fits : place + 5 + length (body_text batch) < end
   pub each : AreRecords pages batch
+  pub of_format : AreOfFormat format batch
   pub rules : MayComeNext before batch
 
--- The area breaks the grammar at this place first: a row of batches that break no rule stands up to it, a batch is
--- due there, since its gate is open or it would be the first one, and none that may stand there does.
-pub record BreaksAt (c : List ℕ) (start end pages place : ℕ) : Type 0 where
+-- The area breaks this format's grammar at this place first: a row of batches that break no rule stands up to it, a
+-- batch is due there, since its gate is open or it would be the first one, and none that may stand there does.
+pub record BreaksAt (format : Format) (c : List ℕ) (start end pages place : ℕ) : Type 0 where
   pub before : List (List Record)
   pub row : Stands c start before place
   pub inside : place < end
   pub each : AreBatches pages before
+  pub of_format : AreBatchesOf format before
   pub rules : BreakNoRule before
   pub due : (get_or c place 0 ≡ OPEN_GATE) ⊎ (before ≡ [])
-  pub none : (batch : List Record) → IsNextBatch c place end pages before batch → ⊥
+  pub none : (batch : List Record) → IsNextBatch format c place end pages before batch → ⊥

@@ -8,7 +8,8 @@ use Rattle.mt_area_rules.specs.History.{may_stand}
 use Rattle.mt_frame.specs.Lengths.{record_length}
 use Rattle.mt_frame.specs.declared.records.Record.{Record}
 use Rattle.mt_log.specs.First.{HasBegun, IsBegun}
-use Rattle.mt_log.specs.Holds.{BreaksAt, HasItsPage, HoldsBatches}
+use Rattle.mt_log.specs.Holds.{BreaksAt, HasItsPage, HoldsBatches, HoldsOf}
+use Rattle.mt_base.specs.declared.format.Format.{Format}
 use Rattle.mt_log.specs.Seen.{bytes_in, first_log, with_record}
 use Rattle.mt_log.specs.Sound.{IsSound, HoldsBeginning}
 use Rattle.mt_log.specs.Stepped.{Stepped}
@@ -62,12 +63,12 @@ abbrev pub OneRow : Type 0
 OneRow = (c : List ℕ) (start end pages : ℕ) (xs ys : List (List Record)) → end < start + 2 ^ 32
     → HoldsBatches c start end pages xs → HoldsBatches c start end pages ys → xs ≡ ys
 
--- and then breaks the grammar nowhere
+-- and then breaks the grammar of their format nowhere
 abbrev pub NotBoth : Type 0
-NotBoth = (c : List ℕ) (start end pages place : ℕ) (xs : List (List Record)) → end < start + 2 ^ 32
-    → HoldsBatches c start end pages xs → BreaksAt c start end pages place → ⊥
+NotBoth = (format : Format) (c : List ℕ) (start end pages place : ℕ) (xs : List (List Record)) → end < start + 2 ^ 32
+    → HoldsOf format c start end pages xs → BreaksAt format c start end pages place → ⊥
 
 -- or breaks the grammar at one place first
 abbrev pub OneFirstPlace : Type 0
-OneFirstPlace = (c : List ℕ) (start end pages p q : ℕ) → end < start + 2 ^ 32 → BreaksAt c start end pages p
-    → BreaksAt c start end pages q → p ≡ q
+OneFirstPlace = (format : Format) (c : List ℕ) (start end pages p q : ℕ) → end < start + 2 ^ 32
+    → BreaksAt format c start end pages p → BreaksAt format c start end pages q → p ≡ q

@@ -6,6 +6,7 @@ use Rattle.mt_base.specs.declared.limits.TheConstants.{MASTER_BYTES, MIB_BYTES, 
 use Rattle.mt_base.specs.declared.refusal.Refusal.{Refusal}
 use Rattle.mt_base.specs.declared.refusal.Refusal.TheVariants.{BadFormat}
 use Rattle.mt_base.specs.Limits.{device_bytes_of}
+use Rattle.mt_base.specs.declared.format.Format.TheVariants.{One}
 use Rattle.mt_disk.specs.Disk.{Has}
 use Rattle.mt_frame.specs.SlotText.{IsSlot, slot_text}
 use Rattle.mt_frame.specs.declared.slots.MasterSlot.{MasterSlot}
@@ -32,11 +33,12 @@ abbrev pub IsFoundAt : ℕ → List ℕ → Option MasterSlot → Type 0
 IsFoundAt at c None = IsClosedAt c at
 IsFoundAt at c (Some slot) = IsOpenAt c at slot
 
--- it may stand beside one that rules: of the same device, and older
+-- It may stand beside one that rules: of the same device, and older. One of format 1 has none of format 2 before it.
 pub record IsBefore (older slot : MasterSlot) : Type 0 where
   pub epoch : older.epoch < slot.epoch
   pub pages : older.pages ≡ slot.pages
   pub mib : older.mib ≡ slot.mib
+  pub format_order : slot.format ≡ One → older.format ≡ One
 
 -- The slot at this place rules: it is open, and the other is closed or older.
 pub record Rules (c : List ℕ) (at other : ℕ) (slot : MasterSlot) : Type 0 where

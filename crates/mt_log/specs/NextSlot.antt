@@ -2,14 +2,21 @@
 use Rattle.std.specs.Prelude.{◌⊎◌, ◌+◌, ◌-◌, ℕ, List, OnOk, Result}
 use Rattle.mt_disk.specs.declared.device.Device.{Ghosts}
 use Rattle.mt_base.specs.declared.limits.TheConstants.{MASTER_BYTES}
+use Rattle.mt_base.specs.declared.format.Format.TheVariants.{Two}
 use Rattle.mt_frame.specs.declared.slots.MasterSlot.{MasterSlot}
 use Rattle.mt_log.specs.Area.{TornFrom}
 use Rattle.mt_log.specs.Masters.{IsClosedAt, IsRuling, Rules}
 use Rattle.mt_disk.specs.Disk.{Follows, HasCause, LeavesOnly, Only, Torn}
 
--- of the same device, one opening later, over the other log area
+-- of the same device and of format 2, one opening later, over the other log area
 abbrev pub next_slot : MasterSlot → MasterSlot
-next_slot slot = record { epoch = slot.epoch + 1; area = 1 - slot.area; pages = slot.pages; mib = slot.mib }
+next_slot slot = record {
+  format = Two;
+  epoch = slot.epoch + 1;
+  area = 1 - slot.area;
+  pages = slot.pages;
+  mib = slot.mib;
+}
 
 -- One of these contents, but for the bytes of the two master slots: this slot rules, or the next one does.
 pub record TurnsTo (ruling : MasterSlot) (contents : List ℕ → Type 0) (c : List ℕ) : Type 0 where

@@ -1,5 +1,5 @@
 // A device's two master slots: which of them is in force, and how one is written. `slot_change` puts the next in force.
-ghost use Rattle.std.specs.Prelude.{◌≡◌, ◌⊎◌, ◌+◌, ◌<◌, ◌≤◌, ℕ, List, length, IfOk, IfErr, Err};
+ghost use Rattle.std.specs.Prelude.{◌≡◌, ◌⊎◌, ◌+◌, ◌<◌, ◌≤◌, ◌↔◌, ℕ, List, length, IsTrue, IfOk, IfErr, Err};
 ghost use Rattle.mt_base.specs.declared.limits.TheConstants.{MASTER_BYTES};
 ghost use Rattle.mt_base.specs.declared.refusal.Refusal.{Refusal};
 ghost use Rattle.mt_disk.specs.Disk.{LeavesOnly, LeavesTheSame};
@@ -7,11 +7,11 @@ ghost use Rattle.mt_frame.specs.SlotText.{IsSlot};
 ghost use Rattle.mt_frame.specs.declared.slots.MasterSlot.{MasterSlot};
 ghost use Rattle.mt_log.specs.Lasting.{WritesMaster};
 ghost use Rattle.mt_log.specs.Quiet.{OnlyReads};
-ghost use Rattle.mt_log.specs.Masters.{BreaksMaster, IsBadAt, IsFoundAt, IsNewer, IsRuling, IsUnformatted};
+ghost use Rattle.mt_log.specs.Masters.{BreaksMaster, IsBadAt, IsBefore, IsFoundAt, IsNewer, IsRuling, IsUnformatted};
 
 use crate::synced_write::write_durably;
-use mt_base::Refusal;
 use mt_base::limits::{MASTER_BYTES, MASTER_SLOT_BYTES, device_bytes};
+use mt_base::{Format, Refusal};
 use mt_disk::{Device, DeviceFault};
 use mt_frame::{MasterSlot, OPEN_GATE, SlotRead, decode_slot, encode_slot, slots_are_read_back};
 
@@ -45,18 +45,32 @@ fn read_slot<D: Device>(device: &mut D, at: u64) -> Result<Option<MasterSlot>, R
     }
 }
 
+// Whether a slot, which is older, may stand beside one that rules.
+fn may_be_before(older: &MasterSlot, slot: &MasterSlot) -> bool
+    requires { older.now.epoch < slot.now.epoch }
+    ensures { IsTrue result ↔ IsBefore older.now slot.now }
+{
+    older.pages == slot.pages
+        && older.mib == slot.mib
+        && (slot.format == Format::Two || older.format == Format::One)
+}
+
 // The newer one of two slots of one device.
 fn newer(first: MasterSlot, second: MasterSlot) -> Result<MasterSlot, Refusal>
     ensures { IsNewer first second result }
 {
-    if first.pages != second.pages || first.mib != second.mib || first.epoch == second.epoch {
+    if first.epoch == second.epoch {
         return Err(Refusal::BadFormat(SECOND_SLOT));
     }
-    if first.epoch < second.epoch {
-        Ok(second)
+    let (older, slot) = if first.epoch < second.epoch {
+        (first, second)
     } else {
-        Ok(first)
+        (second, first)
+    };
+    if !may_be_before(&older, &slot) {
+        return Err(Refusal::BadFormat(SECOND_SLOT));
     }
+    Ok(slot)
 }
 
 /// The master slot that rules a device: an open one, of which the other is closed, or older.
@@ -64,8 +78,9 @@ fn newer(first: MasterSlot, second: MasterSlot) -> Result<MasterSlot, Refusal>
 /// Refusals, in the order of the tests: [`Refusal::NotFormatted`] if the device is shorter than 8192 bytes;
 /// [`Refusal::DeviceFailed`] if and only if a read failed in this call. [`Refusal::BadFormat`] has the place of the
 /// first slot whose gate is open over bytes that are no slot of a device of this length. [`Refusal::NotFormatted`]
-/// comes if both gates are closed, and [`Refusal::BadFormat`] with 4096 if two open slots have the same epoch, or
-/// other sizes. It takes no memory. The device is only read, and its content is as before in any case.
+/// comes if both gates are closed, and [`Refusal::BadFormat`] with 4096 if two open slots have the same epoch or other
+/// sizes, or the newer one is of format 1 and the older one is not. It takes no memory. The device is only read, and
+/// its content is as before in any case.
 pub fn ruling_slot<D: Device>(device: &mut D) -> Result<MasterSlot, Refusal>
     ensures rules { IfOk result (IsRuling (D.seen device.old)) }
     ensures cause { IfErr result (λ why. (why ≡ Refusal.DeviceFailed) × (D.faults device.old < D.faults device.new)

@@ -9,8 +9,8 @@ use crate::area::AreaPlace;
 use crate::batch::Batch;
 use crate::fetch::{body_length, gate_is_open, read_into};
 use mt_area_rules::AreaRules;
-use mt_base::Refusal;
 use mt_base::limits::BATCH_HEAD_BYTES;
+use mt_base::{Format, Refusal};
 use mt_disk::Device;
 use mt_frame::{Record, decode_body};
 use std::alloc::Global;
@@ -20,6 +20,7 @@ use std::alloc::Global;
 pub(crate) struct Reading {
     pub(crate) place: AreaPlace,
     pub(crate) pages: u16,
+    pub(crate) format: Format,
     /// The gate of the batch to be read next.
     pub(crate) next: u64,
     /// The body that was read last.
@@ -58,13 +59,14 @@ fn have_their_pages(records: &[Record], pages: u16) -> bool
 fn admitted(
     alloc: Global,
     body: &[u8],
+    format: Format,
     pages: u16,
     first: bool,
     rules: &mut AreaRules,
 ) -> Result<Option<Vec<Record>>, Refusal>
-    ensures { Admits body.now pages first rules.old rules.new result }
+    ensures { Admits format body.now pages first rules.old rules.new result }
 {
-    let Some(records) = decode_body(alloc, body)? else {
+    let Some(records) = decode_body(alloc, format, body)? else {
         return Ok(None);
     };
     if !have_their_pages(&records, pages) {
@@ -80,15 +82,17 @@ impl Reading {
     ghost use Rattle.mt_log.specs.Reading.{HasRead, ReadsBatch};
 
     // Nothing was read of the area.
-    pub(crate) fn new(alloc: Global, place: AreaPlace, pages: u16) -> Reading
+    pub(crate) fn new(alloc: Global, place: AreaPlace, pages: u16, format: Format) -> Reading
         ensures read { (c : List ℕ) → HasRead c result }
         ensures place { result.place ≡ place }
         ensures pages { result.pages ≡ pages }
+        ensures format { result.format ≡ format }
         ensures next { result.next ≡ place.start }
     {
         Reading {
             place,
             pages,
+            format,
             next: place.start,
             body: Vec::new(alloc),
             rules: AreaRules::new(alloc),
@@ -115,7 +119,15 @@ impl Reading {
         };
         read_into(device, self.next + BATCH_HEAD_BYTES, size, &mut self.body)?;
         let first = self.found.is_empty();
-        let Some(records) = admitted(alloc, &self.body, self.pages, first, &mut self.rules)? else {
+        let Some(records) = admitted(
+            alloc,
+            &self.body,
+            self.format,
+            self.pages,
+            first,
+            &mut self.rules,
+        )?
+        else {
             return Err(Refusal::BadFormat(self.next));
         };
         self.found.push(Batch {

@@ -10,17 +10,19 @@ ghost use Rattle.mt_log.specs.NextSlot.{ClosesBeside, TurnsBeside, TurnsTo, next
 use crate::fetch::gate_is_open;
 use crate::masters::{FIRST_SLOT, SECOND_SLOT, write_master};
 use crate::synced_write::write_durably;
+use mt_base::Format;
 use mt_base::limits::MASTER_SLOT_BYTES;
 use mt_disk::{Device, DeviceFault};
 use mt_frame::{CLOSED_GATE, MasterSlot, encode_slot, slots_are_read_back};
 
-/// The slot that rules next: one opening later, over the other area.
+/// The slot that rules next: of format 2, one opening later, over the other area.
 pub fn slot_after(ruling: &MasterSlot) -> MasterSlot
     requires fits { IsSlot ruling.now }
     requires epoch { ruling.now.epoch < 2 ^ 63 }
     ensures { result ≡ next_slot ruling.now }
 {
     MasterSlot {
+        format: Format::Two,
         epoch: ruling.epoch + 1,
         area: 1 - ruling.area,
         pages: ruling.pages,
@@ -87,7 +89,7 @@ fn rule_beside<D: Device>(
     open_beside(device, at, other, ruling)
 }
 
-/// Has the next master slot rule in place of this one: one opening later, over the other log area.
+/// Has the next master slot rule in place of this one: of format 2, one opening later, over the other log area.
 ///
 /// It closes the gate beside the ruling slot if that gate is open, and syncs. It writes the slot after the gate,
 /// and syncs; then it opens the gate, and syncs. It never writes a closed gate before that gate's slot.

@@ -6,3 +6,4 @@ pub mod Undo
 pub mod Commuting
 pub mod Appends
 pub mod TableLemmas
+pub mod Returns

@@ -10,6 +10,7 @@ use Rattle.mt_model.specs.declared.history.Committed.{Committed}
 use Rattle.mt_model.specs.Model.{Base, IsBase, asks_of, locks_of, reply_of, base_after, inverse_of}
 use Rattle.mt_model.specs.Escrow.{IsAdmissible, HasRoom}
 use Rattle.mt_model.specs.History.{Call, alone, run, IsActed, ops_of, replies_of, after, IsLegal}
+use Rattle.mt_model.specs.Backwards.{calls_back}
 
 -- both orders give the same two replies and the same base
 pub record DoCommute (b : Base) (f g : Op) : Type 0 where
@@ -74,3 +75,9 @@ LegalAppends = (b : Base) (cs ds : List Committed) → IsLegal b (cs ++ ds) ↔ 
 
 abbrev pub AfterAppends : Type 0
 AfterAppends = (b : Base) (cs ds : List Committed) → after b (cs ++ ds) ≡ after (after b cs) ds
+
+-- calls, and then their inverses with the last one's first, are acted and leave the base
+abbrev pub CallsGoBack : Type 0
+CallsGoBack =
+    (b : Base) (cs : List Call) → IsBase b → IsActed b cs
+    → IsActed b (cs ++ calls_back cs) × (run b (cs ++ calls_back cs) ≡ b)

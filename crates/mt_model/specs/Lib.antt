@@ -7,3 +7,4 @@ pub mod Laws
 pub mod Tables
 pub mod Views
 pub mod Performing
+pub mod Backwards

@@ -1,5 +1,5 @@
 //! Laws of the model. Each is a function with an empty body, whose contract is the law.
-ghost use Rattle.mt_model.specs.Laws.{OperationsCommute, InversesTakeBack, NoInverseNoEffect, InversesAskTheSame, BoundsAreKept, TwoNumbersDecide, RepliesAppend, ActedIsAlone, RunIsAlone, LegalAppends, AfterAppends};
+ghost use Rattle.mt_model.specs.Laws.{OperationsCommute, InversesTakeBack, NoInverseNoEffect, InversesAskTheSame, BoundsAreKept, TwoNumbersDecide, RepliesAppend, ActedIsAlone, RunIsAlone, LegalAppends, AfterAppends, CallsGoBack};
 
 /// Operations commute if two transactions may hold their locks at once. Each two of these locks are then on different
 /// objects, or in modes that are granted together. Both orders give the same replies and the same base, unless one
@@ -14,6 +14,12 @@ pub fn inverses_take_back()
     ensures back { InversesTakeBack }
     ensures nothing { NoInverseNoEffect }
     ensures asks { InversesAskTheSame }
+{}
+
+/// Calls that are followed by their inverses, the last one's first, leave the base. Each inverse gives the reply that
+/// its call foretells.
+pub fn calls_go_back()
+    ensures { CallsGoBack }
 {}
 
 /// Operations keep each counter in its bounds.

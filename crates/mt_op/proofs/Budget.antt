@@ -1,5 +1,6 @@
 -- Log bytes: what is kept for an operation is enough, and stays so.
 use Rattle.std.proofs.Common.{◌≡◌, ℕ, Bool, true, false, ◌+◌, ◌-◌, ◌*◌, ◌<◌, ◌≤◌, [], length, None, Some, refl, sym, ap, ◌∙◌, subst, if◌then◌else◌, arith}
+use Rattle.mt_base.specs.declared.limits.TheConstants.{BATCH_HEAD_BYTES, LARGEST_OP_END}
 use Rattle.mt_log.specs.Words.{seen_of, area_size}
 use Rattle.mt_log.specs.declared.log.Log.{Log}
 use Rattle.mt_model.specs.declared.operations.Op.{Op}
@@ -19,7 +20,7 @@ area_small log = let most = log.place.not_too_many in omega arith
 -- ---- an operation whose plan is made
 
 -- its pages and its end fit into what was kept for it while it planned
-made_fits : (reads : Bool) (count written left : ℕ) → count ≤ 8 → (reads ≡ true → count ≡ 0) → (if reads then 0 else 106496) ≤ left → 12317 * (count - written) + (if reads then 0 else 2149) ≤ left
+made_fits : (reads : Bool) (count written left : ℕ) → count ≤ 8 → (reads ≡ true → count ≡ 0) → (if reads then 0 else 106496) ≤ left → 12317 * (count - written) + (if reads then 0 else (BATCH_HEAD_BYTES + LARGEST_OP_END)) ≤ left
 made_fits true count written left few none kept = let zero = none refl in omega arith
 made_fits false count written left few none kept = omega arith
 
@@ -51,7 +52,7 @@ write_left s t before used size stage k more short grown op changes is_writing w
   enough = subst (λ (g : Stage). needs t g ≤ t.left) (sym is_writing)
       (let needed = writing_needs s stage k in
       let count : length (changes_in t) ≡ length (changes_in s) = ap (λ cs. length cs.list.items) changes in
-      let ending : end_bytes t ≡ end_bytes s = ap (λ (o : Op). if only_reads o then 0 else 2149) op in
+      let ending : end_bytes t ≡ end_bytes s = ap (λ (o : Op). if only_reads o then 0 else (BATCH_HEAD_BYTES + LARGEST_OP_END)) op in
       let goal : 12317 * (length (changes_in t) - t.written) + end_bytes t ≤ t.left = omega arith in goal);
   reads = λ is. ap (λ cs. cs.list.items) changes ∙ k.reads (sym (ap only_reads op) ∙ is);
 }

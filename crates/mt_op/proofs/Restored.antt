@@ -1,5 +1,6 @@
 -- Taking back, of all operations together and the one that is taken back: which page is put back, and what each step does.
 use Rattle.std.proofs.Props.{props}
+use Rattle.mt_base.specs.declared.limits.TheConstants.{BATCH_HEAD_BYTES, LARGEST_OP_END}
 use mathlib.Core.Logic.{∥∥₁_elim}
 use Rattle.std.proofs.Common.{◌≡◌, ◌≢◌, ◌⊎◌, inl, inr, ℕ, ◌+◌, ◌-◌, ◌<◌, ◌≤◌, true, false, List, [], ◌∷◌, Contains, length, get_or, take, refl, sym, ap, ◌∙◌, subst, arith, append-nil, length-take}
 use Rattle.std.specs.Prelude.{IsSome, ◌==◌}
@@ -47,7 +48,7 @@ module _ (relations counters : ℕ) where
 pub enough_left : (s : OpScope) → HasBudget s → (s.stage ≡ Writing) ⊎ (s.stage ≡ Taking) → 0 < length (changes_in s) → 22 ≤ s.left
 enough_left s b (inl writing) some = elim (cases_Bool (only_reads s.op)) [
   | inl reads ↦ absurd (let none = ap length (b.reads reads) in omega arith)
-  | inr writes ↦ let e : needs s Writing ≤ s.left = subst (λ (stage : Stage). needs s stage ≤ s.left) writing b.enough in let full : end_bytes s ≡ 2149 = rw writes refl in omega arith
+  | inr writes ↦ let e : needs s Writing ≤ s.left = subst (λ (stage : Stage). needs s stage ≤ s.left) writing b.enough in let full : end_bytes s ≡ BATCH_HEAD_BYTES + LARGEST_OP_END = rw writes refl in omega arith
 ]
 enough_left s b (inr taking) some = subst (λ (stage : Stage). needs s stage ≤ s.left) taking b.enough
 

@@ -28,7 +28,7 @@ use Rattle.mt_slots.specs.Page.{IsPage, Row}
 use Rattle.mt_space.specs.Changes.{PageBytes}
 use Rattle.mt_space.specs.Kinds.{kind}
 use Rattle.mt_steps.proofs.Listed.{all_listed}
-use Rattle.mt_steps.specs.Counters.{AreCounters, count_in}
+use Rattle.mt_counters.specs.Counters.{AreCounters, count_in}
 use Rattle.mt_steps.specs.Held.{Holds}
 use Rattle.mt_steps.specs.Listed.{HasListed, IsSame}
 use Rattle.mt_steps.specs.Plans.{IsGood}

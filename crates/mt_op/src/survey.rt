@@ -43,6 +43,7 @@ impl<D: Device> Operations<D> {
             → IfOk result (λ bytes. bytes ≡ held_in (world D.Device opening self.old) page) }
         ensures whole { IfOk result (λ bytes. length bytes ≡ PAGE_BYTES) }
         ensures read { OnlyReads D.Device self.old self.new }
+        ensures once { D.moment self.new.store.device ≤ D.moment self.old.store.device + 1 }
         ensures quiet { (result ≡ Err Refusal.DeviceFailed → ⊥)
             → D.faults self.new.store.device ≡ D.faults self.old.store.device }
         ensures cause { IfErr result (λ why. (why ≡ Refusal.DeviceFailed)
@@ -68,6 +69,7 @@ impl<D: Device> Operations<D> {
         ensures relations { relations_of base.new ≡ relations_of base.old }
         ensures counters { length (counters_of base.new) ≡ length (counters_of base.old) }
         ensures read { OnlyReads D.Device self.old self.new }
+        ensures once { D.moment self.new.store.device ≤ D.moment self.old.store.device + 1 }
         ensures quiet { (result ≡ Err Refusal.DeviceFailed → ⊥)
             → D.faults self.new.store.device ≡ D.faults self.old.store.device }
         ensures cause { IfErr result (λ why. (why ≡ Refusal.NoMemory) ⊎ (why ≡ Refusal.DeviceFailed)
@@ -93,6 +95,8 @@ impl<D: Device> Operations<D> {
         ensures relations { relations_of base.new ≡ relations_of base.old }
         ensures counters { length (counters_of base.new) ≡ length (counters_of base.old) }
         ensures read { OnlyReads D.Device self.old self.new }
+        ensures calls { D.moment self.new.store.device
+            ≤ D.moment self.old.store.device + pages self.old.store.pool }
         ensures quiet { (result ≡ Err Refusal.DeviceFailed → ⊥)
             → D.faults self.new.store.device ≡ D.faults self.old.store.device }
         ensures cause { IfErr result (λ why. (why ≡ Refusal.NoMemory) ⊎ (why ≡ Refusal.DeviceFailed)
@@ -119,6 +123,9 @@ impl<D: Device> Operations<D> {
             → IfOk result (IsSurvey relations counters (pages self.old.store.pool)
             (held_in (world D.Device opening self.old)) held) }
         ensures read { OnlyReads D.Device self.old self.new }
+        // It reads each page once at most, but for two that are read first.
+        ensures calls { D.moment self.new.store.device
+            ≤ D.moment self.old.store.device + pages self.old.store.pool + 2 }
         ensures quiet { (result ≡ Err Refusal.DeviceFailed → ⊥)
             → D.faults self.new.store.device ≡ D.faults self.old.store.device }
         ensures cause { IfErr result (λ why. (why ≡ Refusal.NoMemory) ⊎ (why ≡ Refusal.DeviceFailed)

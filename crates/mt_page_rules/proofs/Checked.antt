@@ -16,13 +16,15 @@ use Rattle.mt_index.specs.Maps.{Each, Map}
 use Rattle.mt_index.specs.Pages.{AreMap, state_of}
 use Rattle.mt_index.proofs.Lists.{at_parts}
 use Rattle.mt_index.proofs.Looking.{look_in, look_past}
-use Rattle.mt_base.specs.Limits.{IsRelationCount}
+use Rattle.mt_base.specs.Limits.{IsRelationCount, limit_of}
 use Rattle.mt_page_rules.specs.Whole.{AreWhole}
 use Rattle.mt_slots.specs.Page.{Row, count, slot}
 use Rattle.mt_space.specs.Changes.{PageBytes}
 use Rattle.mt_space.specs.Kinds.{kind, IsMap}
 use Rattle.mt_steps.specs.Plans.{IsGood}
-use Rattle.mt_page_rules.specs.Checks.{AllAreListed, AllNameRecords, AreBroken, AreChecked, AreListedAt, AreRecordPages, HasListed, HasRecord, HasSchema, IsIndexed, IsNamedWell}
+use Rattle.mt_base.specs.declared.format.Format.{Format}
+use Rattle.mt_base.specs.declared.format.Format.TheVariants.{One, Two}
+use Rattle.mt_page_rules.specs.Checks.{AllAreListed, AllNameRecords, AreBroken, AreChecked, AreCheckedIn, AreListedAt, AreRecordPages, HasListed, HasRecord, HasSchema, IsIndexed, IsNamedWell}
 use Rattle.mt_page_rules.specs.Faults.{IsFaulty, breaks, unlisted}
 
 pub at_any : {A : Type 0} (xs : List A) (i : ℕ) (d e : A) → i < length xs → get_or xs i d ≡ get_or xs i e
@@ -78,7 +80,7 @@ pub slot_past : (page : List ℕ) (i : ℕ) → count page ≤ i → slot page i
 unfolding slot
 slot_past page i past = grind (arith, nat_tests)
 
-pub listed_past : (items : List (List ℕ)) (relations p s : ℕ) → AreRecordPages items relations → p < length items → kind (bytes_of items) p ≡ 3 → 1022 ≤ s → AreListedAt items p s
+pub listed_past : (items : List (List ℕ)) (relations p s : ℕ) → AreRecordPages Two items relations → p < length items → kind (bytes_of items) p ≡ 3 → 1022 ≤ s → AreListedAt items p s
 listed_past items relations p s pages inside records past row is =
     let shaped = (pages p inside records).shaped in
     let table = shaped.table in
@@ -204,7 +206,18 @@ has_entry total pages m a r k name is =
 
 -- ---- all of it
 
-module _ (items : List (List ℕ)) (relations counters : ℕ) (map : IsMap (length items) (bytes_of items)) (schema : HasSchema items relations counters) (index : IsSound relations (length items) (bytes_of items)) (pages : AreRecordPages items relations) where
+limit_below : (format : Format) → limit_of format ≤ 3000
+limit_below One = omega arith
+limit_below Two = omega arith
+
+-- pages of either format are pages of format 2
+pub pages_of_two : (items : List (List ℕ)) (relations : ℕ) (format : Format) → AreRecordPages format items relations → AreRecordPages Two items relations
+pages_of_two items relations format pages p lt is = record {
+  shaped = (pages p lt is).shaped;
+  within = λ i r there. let fits = (pages p lt is).within i r there in record { relation = fits.relation; key = fits.key; value = let value = fits.value in let below = limit_below format in omega (arith, value, below) };
+}
+
+module _ (items : List (List ℕ)) (relations counters : ℕ) (map : IsMap (length items) (bytes_of items)) (schema : HasSchema items relations counters) (index : IsSound relations (length items) (bytes_of items)) (format : Format) (pages : AreRecordPages format items relations) where
   inside : (p : ℕ) → kind (bytes_of items) p ≢ 0 → p < length items
   inside p some = index.map.within p some
 
@@ -214,8 +227,8 @@ module _ (items : List (List ℕ)) (relations counters : ℕ) (map : IsMap (leng
   within_page : (p s : ℕ) (row : Row) → record_in (bytes_of items) p s ≡ Some row → slot (bytes_of items p) s ≡ Some row
   within_page p s row is = sym (slot_is items p s (bytes_of items p) refl (record_kind (bytes_of items) p s row is)) ∙ is
 
-  pub all_checked : AreWhole items → AllNameRecords items → AllAreListed items → AreChecked items
-  all_checked whole named listed = record {
+  in_two : AreWhole items → AllNameRecords items → AllAreListed items → AreChecked items
+  in_two whole named listed = record {
     relations = relations;
     counters = counters;
     fits = schema.fits;
@@ -227,7 +240,7 @@ module _ (items : List (List ℕ)) (relations counters : ℕ) (map : IsMap (leng
           fixed = index.map.space_fixed;
           each = λ p is. (pages p (used p 3 is (omega arith)) is).shaped;
         };
-        within = λ p s row is. let records = record_kind (bytes_of items) p s row is in (pages p (used p 3 records (omega arith)) records).within s row (within_page p s row is);
+        within = λ p s row is. let records = record_kind (bytes_of items) p s row is in (pages_of_two items relations format pages p (used p 3 records (omega arith)) records).within s row (within_page p s row is);
         index = index.map;
         formed = index.formed;
         named = record {
@@ -243,6 +256,10 @@ module _ (items : List (List ℕ)) (relations counters : ℕ) (map : IsMap (leng
     };
   }
 
+  pub all_checked : AreWhole items → AllNameRecords items → AllAreListed items → AreCheckedIn format items
+  unfolding in_two
+  all_checked whole named listed = record { well_formed = in_two whole named listed; well_valued = pages }
+
 -- good pages pass each look
 module _ (items : List (List ℕ)) (relations counters : ℕ) (good : IsGood relations counters (length items) (bytes_of items)) where
   pub good_names : AllNameRecords items
@@ -254,7 +271,7 @@ module _ (items : List (List ℕ)) (relations counters : ℕ) (good : IsGood rel
   good_listed p lt records s row is m am =
       one_map (length items) (bytes_of items) m good.meaning am good.rows.index row.relation row.key ∙ good.rows.named.named p s row is
 
-  pub good_pages : AreRecordPages items relations
+  pub good_pages : AreRecordPages Two items relations
   good_pages p lt records = record {
     shaped = good.rows.file.each p records;
     within = λ s row is. good.rows.within p s row (slot_is items p s (bytes_of items p) refl records ∙ is);
@@ -267,10 +284,10 @@ module _ (items : List (List ℕ)) (relations counters : ℕ) (good : IsGood rel
   good_schema fits = record { fits = fits; counts = good.counts }
 
 -- the last look
-pub last_look : (items : List (List ℕ)) (o : Option ℕ) → (AllAreListed items → AreChecked items) → MatchOption o (AllAreListed items) (λ p. (p < length items) × (HasListed items p → ⊥)) → MatchOption o (AreChecked items) (λ p. AreBroken items)
-last_look items None checked is = checked is
-last_look items (Some p) checked other = λ relations counters fits good. other.1 (good_listed items relations counters good p other.0)
+pub last_look : (format : Format) (items : List (List ℕ)) (o : Option ℕ) → (AllAreListed items → AreCheckedIn format items) → MatchOption o (AllAreListed items) (λ p. (p < length items) × (HasListed items p → ⊥)) → MatchOption o (AreCheckedIn format items) (λ p. AreBroken format items)
+last_look format items None checked is = checked is
+last_look format items (Some p) checked other = λ relations counters fits good values. other.1 (good_listed items relations counters good p other.0)
 
-pub unlisted_named : (items : List (List ℕ)) (relations counters : ℕ) → HasSchema items relations counters → (o : Option ℕ) → MatchOption o (AllAreListed items) (λ p. (p < length items) × (HasListed items p → ⊥)) → IfSome o (IsFaulty items)
-unlisted_named items relations counters schema None is = tt
-unlisted_named items relations counters schema (Some p) other = breaks relations counters schema (unlisted other.1)
+pub unlisted_named : (format : Format) (items : List (List ℕ)) (relations counters : ℕ) → HasSchema items relations counters → (o : Option ℕ) → MatchOption o (AllAreListed items) (λ p. (p < length items) × (HasListed items p → ⊥)) → IfSome o (IsFaulty format items)
+unlisted_named format items relations counters schema None is = tt
+unlisted_named format items relations counters schema (Some p) other = breaks relations counters schema (unlisted other.1)

@@ -1,7 +1,8 @@
 -- Pages that break no rule, and the parts of that which are looked at one after the other.
 use Rattle.std.specs.Prelude.{◌≡◌, ℕ, ◌<◌, List, length, Some}
-use Rattle.mt_base.specs.declared.limits.TheConstants.{MAX_VALUE_BYTES}
-use Rattle.mt_base.specs.Limits.{IsRelationCount}
+use Rattle.mt_base.specs.Limits.{IsRelationCount, limit_of}
+use Rattle.mt_base.specs.declared.format.Format.{Format}
+use Rattle.mt_base.specs.declared.format.Format.TheVariants.{Two}
 use Rattle.mt_base.specs.declared.numbers.RecordName.{RecordName}
 use Rattle.mt_bucket.specs.Page.{count_of}
 use Rattle.mt_file.specs.File.{record_in}
@@ -10,31 +11,37 @@ use Rattle.mt_index.specs.Maps.{Map}
 use Rattle.mt_index.specs.Pages.{AreMap}
 use Rattle.mt_slots.specs.Page.{Row, IsPage}
 use Rattle.mt_space.specs.Kinds.{kind}
-use Rattle.mt_steps.specs.Counters.{AreCounters}
+use Rattle.mt_counters.specs.Counters.{AreCounters}
 use Rattle.mt_steps.specs.Plans.{IsGood}
 
--- pages in memory that break no rule of some schema's formats, and those that break one of each
+-- a page of records is one of so many relations, with values as long as the format lets them be, and each is
+abbrev pub IsRecordPage : Format → List (List ℕ) → ℕ → ℕ → Type 0
+IsRecordPage format items relations p =
+    kind (bytes_of items) p ≡ 3 → IsPage relations (limit_of format) (bytes_of items p)
+
+abbrev pub AreRecordPages : Format → List (List ℕ) → ℕ → Type 0
+AreRecordPages format items relations = (p : ℕ) → p < length items → IsRecordPage format items relations p
+
+-- pages in memory that break no rule of some schema's formats
 pub record AreChecked (items : List (List ℕ)) : Type 0 where
   pub relations : ℕ
   pub counters : ℕ
   pub fits : IsRelationCount relations
   pub good : IsGood relations counters (length items) (bytes_of items)
 
-abbrev pub AreBroken : List (List ℕ) → Type 0
-AreBroken items = (relations counters : ℕ) → IsRelationCount relations
-    → IsGood relations counters (length items) (bytes_of items) → ⊥
+-- those whose values are of this format, and those that break a rule of each schema in it
+pub record AreCheckedIn (format : Format) (items : List (List ℕ)) : Type 0 where
+  pub well_formed : AreChecked items
+  pub well_valued : AreRecordPages format items well_formed.relations
+
+abbrev pub AreBroken : Format → List (List ℕ) → Type 0
+AreBroken format items = (relations counters : ℕ) → IsRelationCount relations
+    → IsGood relations counters (length items) (bytes_of items) → AreRecordPages format items relations → ⊥
 
 -- page 2 has the counts of so many relations and counters, within their limits
 pub record HasSchema (items : List (List ℕ)) (relations counters : ℕ) : Type 0 where
   pub fits : IsRelationCount relations
   pub counts : AreCounters relations counters (bytes_of items 2)
-
--- a page of records is one of so many relations, and each is
-abbrev pub IsRecordPage : List (List ℕ) → ℕ → ℕ → Type 0
-IsRecordPage items relations p = kind (bytes_of items) p ≡ 3 → IsPage relations MAX_VALUE_BYTES (bytes_of items p)
-
-abbrev pub AreRecordPages : List (List ℕ) → ℕ → Type 0
-AreRecordPages items relations = (p : ℕ) → p < length items → IsRecordPage items relations p
 
 -- a record of this relation and key has the name
 abbrev pub HasRecord : List (List ℕ) → RecordName → ℕ → List ℕ → Type 0
@@ -72,4 +79,4 @@ AllAreListed items = (p : ℕ) → p < length items → HasListed items p
 -- what is known of the pages while they are looked at
 pub record IsIndexed (items : List (List ℕ)) (relations : ℕ) : Type 0 where
   pub index : IsSound relations (length items) (bytes_of items)
-  pub records : AreRecordPages items relations
+  pub records : AreRecordPages Two items relations

@@ -8,15 +8,15 @@ ghost use Rattle.mt_index.specs.Checks.{bytes_of, IsSound};
 ghost use Rattle.mt_space.specs.Kinds.{kind, CanBe, IsMap};
 ghost use Rattle.mt_page_rules.specs.Whole.{AreWhole};
 ghost use Rattle.mt_page_rules.specs.Faults.{IsFaulty};
-ghost use Rattle.mt_page_rules.specs.Checks.{AreChecked, AreBroken, HasSchema, IsRecordPage, AreRecordPages, HasRecord, NamesRecords, AllNameRecords, AreListedAt, HasListed, AllAreListed, IsIndexed};
+ghost use Rattle.mt_page_rules.specs.Checks.{AreCheckedIn, AreBroken, HasSchema, IsRecordPage, AreRecordPages, HasRecord, NamesRecords, AllNameRecords, AreListedAt, HasListed, AllAreListed, IsIndexed};
 ghost use Rattle.mt_page_rules.specs.Naming.{AreNamed, MarksNamed};
 
-use mt_base::limits::{MAX_VALUE_BYTES, PAGE_BYTES, relation_count_fits};
-use mt_base::{PageNo, RecordName, RelNo};
+use mt_base::limits::{PAGE_BYTES, relation_count_fits};
+use mt_base::{Format, PageNo, RecordName, RelNo};
 use mt_bucket::{count, entry};
+use mt_counters::{SchemaSizes, sizes};
 use mt_slots::get;
 use mt_space::pages::{BUCKET, COUNTERS, FIXED, FREE, MAP, RECORDS};
-use mt_steps::{SchemaSizes, sizes};
 use std::alloc::{AllocError, Global};
 
 // Slots of a page of records: each takes 4 bytes.
@@ -50,6 +50,8 @@ fn can_be(total: usize, page: usize, of: u8) -> bool
 pub struct AllPages {
     /// The bytes of each page, by its number.
     pub pages: Vec<[u8; 4096]>,
+    /// The format of the device, which says how long a value may be.
+    pub format: Format,
     ghost whole: { AreWhole pages.items },
     ghost some: { 16 ≤ length pages.items },
     ghost few: { length pages.items ≤ MAX_PAGES },
@@ -86,25 +88,25 @@ impl AllPages {
     {
         let page = &self.pages[usize::from(COUNTERS)];
         relation_count_fits(counted.relations)
-            && mt_steps::check(page, counted.relations, counted.counters)
+            && mt_counters::check(page, counted.relations, counted.counters)
     }
 
     // Whether a page is one of the schema, if it is of records.
     fn is_record_page(&self, page: usize, relations: u16) -> bool
         requires { page < length self.now.pages.items }
-        ensures { MatchBool result (IsRecordPage self.now.pages.items relations page)
-            (IsRecordPage self.now.pages.items relations page → ⊥) }
+        ensures { MatchBool result (IsRecordPage self.now.format self.now.pages.items relations page)
+            (IsRecordPage self.now.format self.now.pages.items relations page → ⊥) }
     {
         if !self.is_of_kind(page, RECORDS) {
             return true;
         }
-        mt_slots::check(&self.pages[page], relations, MAX_VALUE_BYTES)
+        mt_slots::check(&self.pages[page], relations, self.format.value_limit())
     }
 
     // The first page of records whose bytes are none of the schema's.
     fn first_malformed(&self, relations: u16) -> Option<PageNo>
-        ensures { MatchOption result (AreRecordPages self.now.pages.items relations)
-            (λ p. (p < length self.now.pages.items) × (IsRecordPage self.now.pages.items relations p → ⊥)) }
+        ensures { MatchOption result (AreRecordPages self.now.format self.now.pages.items relations)
+            (λ p. (p < length self.now.pages.items) × (IsRecordPage self.now.format self.now.pages.items relations p → ⊥)) }
     {
         for number in 0..self.pages.len() {
             if !self.is_record_page(number, relations) {
@@ -257,13 +259,15 @@ impl AllPages {
     }
 
     /// The page whose own rule is broken first, in the order of the tests; `None` if no page breaks one. They are the
-    /// space map, page 2 as the schema's, the pages of the index, and pages of records by their bytes. Then come bucket
-    /// pages by an entry that names no record of its relation and key, and pages of records by one that the index does
-    /// not name. The only error is want of memory, and the pages stay in any case.
+    /// space map, page 2 as the schema's, the pages of the index, and pages of records by their bytes, which a value
+    /// breaks that is longer than the format lets one be. Then come bucket pages by an entry that names no record of
+    /// its relation and key, and pages of records by one that the index does not name. The only error is want of
+    /// memory, and the pages stay in any case.
     pub fn first_broken(&self, alloc: Global) -> Result<Option<PageNo>, AllocError>
-        ensures found { IfOk result (λ broken. MatchOption broken (AreChecked self.now.pages.items)
-            (λ p. AreBroken self.now.pages.items)) }
-        ensures named { IfOk result (λ broken. IfSome broken (IsFaulty self.now.pages.items)) }
+        ensures found { IfOk result (λ broken. MatchOption broken
+            (AreCheckedIn self.now.format self.now.pages.items)
+            (λ p. AreBroken self.now.format self.now.pages.items)) }
+        ensures named { IfOk result (λ broken. IfSome broken (IsFaulty self.now.format self.now.pages.items)) }
     {
         if !self.has_map() {
             return Ok(Some(PageNo::new(MAP)));

@@ -52,7 +52,7 @@ joined_more old new m = ⊎_elim
 
 -- a slot that names the pages and the area of a log names as many pages there, and the same area
 pub names_same : (ruling : MasterSlot) (pool new : Pool) (log later : Log) → new.place ≡ pool.place → pages new ≡ pages pool → area_start later ≡ area_start log → area_end later ≡ area_end log → Names ruling pool log → Names ruling new later
-names_same ruling pool new log later place count start end n = record { count = n.count ∙ sym count; place = place ∙ n.place; start = n.start ∙ sym start; end = n.end ∙ sym end }
+names_same ruling pool new log later place count start end n = record { count = n.count ∙ sym count; place = place ∙ n.place; start = n.start ∙ sym start; end = n.end ∙ sym end; second = n.second }
 
 module _ {D : Type 0} (g : Ghosts D) (opening : ℕ → List ℕ) (s : Store D) (k : IsKept g opening s) where
   -- a crash now

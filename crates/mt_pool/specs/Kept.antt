@@ -1,5 +1,6 @@
 -- What a log and a pool know together of their device.
 use Rattle.std.specs.Prelude.{◌<◌, ◌≡◌, ℕ, ◌+◌, ◌*◌, ◌≤◌, List, length, map, false, Option, None, Some}
+use Rattle.mt_base.specs.declared.format.Format.TheVariants.{Two}
 use Rattle.mt_base.specs.declared.limits.TheConstants.{MASTER_BYTES, MAX_PAGES, PAGE_BYTES}
 use Rattle.mt_disk.specs.Disk.{LeavesOnly}
 use Rattle.mt_disk.specs.declared.device.Device.{Ghosts}
@@ -39,12 +40,13 @@ carried records = map carried_of records
 abbrev pub store_frames : {D : Type 0} → Store D → ℕ
 store_frames s = frames s.pool
 
--- the slot names these pages, after the two slots, and the area of this log
+-- the slot is of format 2, and names these pages, after the two slots, and the area of this log
 pub record Names (ruling : MasterSlot) (pool : Pool) (log : Log) : Type 0 where
   pub count : ruling.pages ≡ pages pool
   pub place : pool.place ≡ MASTER_BYTES
   pub start : start_of ruling ≡ area_start log
   pub end : end_of ruling ≡ area_end log
+  pub second : ruling.format ≡ Two
 
 -- What a crash left, c, explains the pages as at the opening: the log's area holds batches, and no more, whose
 -- records are a beginning of the appended ones with all durable ones, and each page is its first image in them or

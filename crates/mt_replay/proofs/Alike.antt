@@ -9,7 +9,7 @@ use Rattle.mt_space.proofs.MapLemmas.{map_same}
 use Rattle.mt_space.specs.Kinds.{kind}
 use Rattle.mt_model.specs.Model.{Base}
 use Rattle.mt_space.specs.Changes.{PageBytes}
-use Rattle.mt_steps.specs.Counters.{AreCounters, count_in}
+use Rattle.mt_counters.specs.Counters.{AreCounters, count_in}
 use Rattle.mt_steps.specs.Held.{Holds}
 use Rattle.mt_steps.specs.Plans.{IsGood}
 

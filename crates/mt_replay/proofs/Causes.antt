@@ -2,6 +2,7 @@
 use Rattle.std.proofs.Common.{◌≡◌, ◌⊎◌, inl, inr, ℕ, ◌<◌, List, length, refl, sym, ap, ◌∙◌, subst}
 use Rattle.std.specs.Prelude.{Result, Ok, Err, IfErr}
 use Rattle.std.specs.List.{AllByRecursion}
+use Rattle.mt_base.specs.declared.format.Format.{Format}
 use Rattle.mt_base.specs.declared.refusal.Refusal.{Refusal}
 use Rattle.mt_base.specs.declared.refusal.Refusal.TheVariants.{BadFormat, DeviceFailed, NoMemory}
 use Rattle.mt_frame.specs.declared.slots.MasterSlot.{MasterSlot}
@@ -14,7 +15,7 @@ use Rattle.mt_pool.specs.Images.{GivesPages}
 use Rattle.mt_pool.specs.Kept.{carried}
 use Rattle.mt_space.specs.Changes.{PageBytes}
 use Rattle.mt_steps.specs.Plans.{IsGood}
-use Rattle.mt_page_rules.specs.Checks.{AreChecked}
+use Rattle.mt_page_rules.specs.Checks.{AreCheckedIn}
 use Rattle.mt_replay.specs.Laws.{OnlyOwnPagesMatter}
 use Rattle.mt_replay.specs.Losers.{all_finished, HasEnded, HasUndone, StopsAt}
 use Rattle.mt_log.specs.Masters.{IsRuling, area_end, area_start}
@@ -36,12 +37,13 @@ scan_cause (Err why) F P Q other bad (inr (inr (at, is))) = inr (inr (at, is, ot
 
 -- ---- the losers are undone
 
-pub undone_good : OnlyOwnPagesMatter → (held : List (List ℕ)) (list : List Loser) (items : List (List ℕ)) → AreChecked held → HasUndone held list items → AreUndone held list items
-undone_good own held list items before u =
+pub undone_good : OnlyOwnPagesMatter → (format : Format) (held : List (List ℕ)) (list : List Loser) (items : List (List ℕ)) → AreCheckedIn format held → HasUndone held list items → AreUndone format held list items
+undone_good own format held list items known u =
+    let before = known.well_formed in
     let k = u.undone before.relations before.counters (bytes_of held) (λ p lt. refl) before.good in
     let alike : (p : ℕ) → p < length held → bytes_of items p ≡ k.0 p = λ p lt. k.1 p (subst (λ (n : ℕ). p < n) (sym u.count) lt) in
     record {
-      before = before;
+      before = known;
       undone = u;
       after = record {
         relations = before.relations;
@@ -51,22 +53,22 @@ undone_good own held list items before u =
       };
     }
 
-pub undo_cause : {T : Type 0} (held : List (List ℕ)) (list : List Loser) (r : Result T Refusal) → AreChecked held → ((at : ℕ) → r ≡ Err (BadFormat at) → StopsAt held list at)
-    → IfErr r (λ why. (why ≡ NoMemory) ⊎ ((at : ℕ) × (why ≡ BadFormat at))) → IfErr r (λ why. (why ≡ NoMemory) ⊎ ((at : ℕ) × (why ≡ BadFormat at) × StopsUndoing held list at))
-undo_cause held list (Ok x) before stops cause = tt
-undo_cause held list (Err why) before stops (inl memory) = inl memory
-undo_cause held list (Err why) before stops (inr (at, is)) = inr (at, is, inr (before, stops at (ap (λ (w : Refusal). Err w) is)))
+pub undo_cause : {T : Type 0} (format : Format) (held : List (List ℕ)) (list : List Loser) (r : Result T Refusal) → AreCheckedIn format held → ((at : ℕ) → r ≡ Err (BadFormat at) → StopsAt held list at)
+    → IfErr r (λ why. (why ≡ NoMemory) ⊎ ((at : ℕ) × (why ≡ BadFormat at))) → IfErr r (λ why. (why ≡ NoMemory) ⊎ ((at : ℕ) × (why ≡ BadFormat at) × StopsUndoing format held list at))
+undo_cause format held list (Ok x) before stops cause = tt
+undo_cause format held list (Err why) before stops (inl memory) = inl memory
+undo_cause format held list (Err why) before stops (inr (at, is)) = inr (at, is, inr (before, stops at (ap (λ (w : Refusal). Err w) is)))
 
 -- ---- a restart
 
 pub cause_area : (Breaks : List ℕ → ℕ → Type 0) (c : List ℕ) → ((at : ℕ) → BreaksLog c at → Breaks c at) → (F G : Type 0) (slot : MasterSlot) (why : Refusal) → IsRuling c slot → (F → G)
-    → (why ≡ NoMemory) ⊎ (((why ≡ DeviceFailed) × F) ⊎ ((at : ℕ) × (why ≡ BadFormat at) × BreaksAt c (area_start slot) (area_end slot) slot.pages at)) → IsCause Breaks c G why
+    → (why ≡ NoMemory) ⊎ (((why ≡ DeviceFailed) × F) ⊎ ((at : ℕ) × (why ≡ BadFormat at) × BreaksAt slot.format c (area_start slot) (area_end slot) slot.pages at)) → IsCause Breaks c G why
 cause_area Breaks c breaks F G slot why rules more (inl memory) = subst (IsCause Breaks c G) (sym memory) tt
 cause_area Breaks c breaks F G slot why rules more (inr (inl failed)) = subst (IsCause Breaks c G) (sym failed.0) (more failed.1)
 cause_area Breaks c breaks F G slot why rules more (inr (inr bad)) = subst (IsCause Breaks c G) (sym bad.1) (breaks bad.0 (in_area slot rules bad.2))
 
 pub cause_behind : (c : List ℕ) (G : Type 0) (slot : MasterSlot) (batches : List Batch) (held : List (List ℕ)) (list : List Loser) (why : Refusal) → AreRepeated c slot batches held list
-    → (why ≡ NoMemory) ⊎ ((at : ℕ) × (why ≡ BadFormat at) × StopsUndoing held list at) → IsCause BreaksFormat c G why
+    → (why ≡ NoMemory) ⊎ ((at : ℕ) × (why ≡ BadFormat at) × StopsUndoing slot.format held list at) → IsCause BreaksFormat c G why
 cause_behind c G slot batches held list why repeated (inl memory) = subst (IsCause BreaksFormat c G) (sym memory) tt
 cause_behind c G slot batches held list why repeated (inr bad) = subst (IsCause BreaksFormat c G) (sym bad.1) (behind slot batches held list repeated bad.2)
 

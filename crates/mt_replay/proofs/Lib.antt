@@ -12,3 +12,4 @@ pub mod Inverses
 pub mod Areas
 pub mod Causes
 pub mod Marks
+pub mod Extending

@@ -14,7 +14,7 @@ use Rattle.mt_frame.specs.declared.records.LoggedOp.{LoggedOp}
 use Rattle.mt_frame.specs.declared.records.Record.{Record}
 use Rattle.mt_frame.specs.declared.records.Record.TheVariants.{Page, OpEnd, OpDropped, Commit, AbortEnd}
 use Rattle.mt_log.specs.declared.batch.Batch.{Batch}
-use Rattle.mt_replay.specs.Recorded.{Recorded, Finished, plus_record, tell, losers, others, is_but, without}
+use Rattle.mt_replay.specs.Recorded.{Recorded, Finished, nothing, plus_record, tell, losers, others, is_but, without}
 use Rattle.mt_replay.specs.Losers.{finished_of, all_finished, HasEnded, HasRecorded, Tells}
 use Rattle.mt_replay.specs.declared.losers.Loser.{Loser}
 use Rattle.mt_replay.specs.declared.losers.Telling.{Telling}
@@ -60,22 +60,19 @@ left_ended false e u = refl
 abbrev pub survives : List Record → Finished → Bool
 survives rs f = not (some_record (ends_txn f.txn) rs || some_record (undoes_op f.txn f.op) rs)
 
-abbrev pub none : Recorded
-none = record { live = []; books = [] }
-
 -- what a record leaves of the losers behind it
 abbrev pub own : Record → List Record → List Finished
-own r rs = filter (survives rs) (plus_record none r).live
+own r rs = filter (survives rs) (plus_record nothing r).live
 
 -- what is live behind an end, which is an inverse or is not
-abbrev reported_by : Recorded → ℕ → ℕ → ℕ → LoggedOp → Bool → Recorded
-reported_by s txn op undoes done b = cond b (record { live = s.live ++ record { txn = txn; op = op; done = done } ∷ []; books = s.books }) (record { live = without txn undoes s.live; books = s.books })
+abbrev reported_by : List Finished → ℕ → ℕ → ℕ → LoggedOp → Bool → List Finished
+reported_by live txn op undoes done b = cond b (live ++ record { txn = txn; op = op; done = done } ∷ []) (without txn undoes live)
 
 abbrev survives_end : List Record → ℕ → ℕ → Bool → Finished → Bool
 survives_end rs txn undoes b f = not (some_record (ends_txn f.txn) rs || (((txn == f.txn) && ((undoes == f.op) && not b)) || some_record (undoes_op f.txn f.op) rs))
 
 step_end : (s : Recorded) (txn op undoes : ℕ) (done : LoggedOp) (rs : List Record) (b : Bool)
-    → filter (survives rs) (reported_by s txn op undoes done b).live ≡ filter (survives_end rs txn undoes b) s.live ++ filter (survives rs) (reported_by none txn op undoes done b).live
+    → filter (survives rs) (reported_by s.live txn op undoes done b) ≡ filter (survives_end rs txn undoes b) s.live ++ filter (survives rs) (reported_by [] txn op undoes done b)
 step_end s txn op undoes done rs true =
     filter-append (survives rs) s.live (record { txn = txn; op = op; done = done } ∷ [])
     ∙ ap (λ (fs : List Finished). fs ++ filter (survives rs) (record { txn = txn; op = op; done = done } ∷ []))
@@ -111,10 +108,10 @@ tell_live s (r ∷ rs) =
     tell_live (plus_record s r) rs
     ∙ ap (λ (fs : List Finished). fs ++ losers rs) (step s r rs)
     ∙ append_assoc (filter (survives (r ∷ rs)) s.live) (own r rs) (losers rs)
-    ∙ ap (λ (fs : List Finished). filter (survives (r ∷ rs)) s.live ++ fs) (sym (tell_live (plus_record none r) rs))
+    ∙ ap (λ (fs : List Finished). filter (survives (r ∷ rs)) s.live ++ fs) (sym (tell_live (plus_record nothing r) rs))
 
 pub losers_next : (r : Record) (rs : List Record) → losers (r ∷ rs) ≡ own r rs ++ losers rs
-losers_next r rs = tell_live (plus_record none r) rs
+losers_next r rs = tell_live (plus_record nothing r) rs
 
 -- ---- lists of losers
 
@@ -153,7 +150,7 @@ tells_loser batch l old new place among grammar alone is same_ended same_undone 
     ended = λ t. (λ i. contains nat_cmp (same_ended i) t) ∙ h.ended t;
     undone = λ t o. (λ i. contains pair_cmp (same_undone i) (t, o)) ∙ h.undone t o ∙ sym (ap (λ (a : Bool). a || some_record (undoes_op t o) behind) (and_false (l.txn == t) (0 == o)));
   };
-  ended = λ batches there all. subst (AllByRecursion (HasEnded batches)) (sym is) (all_push (HasEnded batches) old.losers.items l all (record { batch = batch; among = there; place = place; end = among; grammar = grammar }));
+  ended = λ batches there all. subst (AllByRecursion (HasEnded batches)) (sym is) (all_push (HasEnded batches) old.losers.items l all (record { ends_in = batch; among = there; place = place; end = among; grammar = grammar }));
 }
 
 -- the end of an inverse
@@ -165,7 +162,7 @@ tells_inverse batch txn op undoes done old new some same same_ended noted = reco
   outcome = λ behind h. record {
     losers = ap (λ (ls : List Loser). all_finished (reverse ls)) same ∙ h.losers
         ∙ sym (losers_next (OpEnd txn op undoes done) behind
-        ∙ ap (λ (b : Bool). filter (survives behind) (reported_by none txn op undoes done b).live ++ losers behind) (ne_eqb undoes 0 some));
+        ∙ ap (λ (b : Bool). filter (survives behind) (reported_by [] txn op undoes done b) ++ losers behind) (ne_eqb undoes 0 some));
     ended = λ t. (λ i. contains nat_cmp (same_ended i) t) ∙ h.ended t;
     undone = λ t o.
         noted t o ∙ ap (λ (a : Bool). a || ((txn == t) && (undoes == o))) (h.undone t o) ∙ or_comm (some_record (undoes_op t o) behind) ((txn == t) && (undoes == o))

@@ -7,6 +7,7 @@ pub mod Memory
 pub mod Passes
 pub mod Losers
 pub mod Stands
+pub mod Extension
 pub mod Refused
 pub mod Reads
 pub mod Marking

@@ -31,10 +31,10 @@ AreOfGrammar batches = AllByRecursion (λ (batch : Batch). AllByRecursion IsReco
 
 -- the record of the loser's end stands in the batch at its offset
 pub record HasEnded (batches : List Batch) (l : Loser) : Type 0 where
-  pub batch : Batch
-  pub among : Contains batches batch
-  pub place : batch.place ≡ l.place
-  pub end : Contains batch.records.items (OpEnd l.txn l.op 0 l.done)
+  pub ends_in : Batch
+  pub among : Contains batches ends_in
+  pub place : ends_in.place ≡ l.place
+  pub end : Contains ends_in.records.items (OpEnd l.txn l.op 0 l.done)
   pub grammar : IsOperation l.done
 
 -- what these records say: the losers, the latest end first, the transactions that end, and the operations that

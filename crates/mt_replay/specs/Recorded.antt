@@ -58,7 +58,7 @@ calls_in (r ∷ rs) = call_in r ++ calls_in rs
 
 -- ---- what has committed, and what is left to undo
 
--- a finished operation that is no inverse, and that no finished inverse of its transaction names
+-- a finished operation, under its number
 pub record Finished : Type 0 where
   pub txn : ℕ
   pub op : ℕ
@@ -67,10 +67,15 @@ pub record Finished : Type 0 where
 abbrev pub calls_of : List Finished → List Call
 calls_of fs = map (λ (f : Finished). call_of f.done) fs
 
--- those of transactions that have not ended, in the order of their ends, and those of each that has committed
+-- Of transactions that have not ended: the operations that stand, which are no inverses and which no finished inverse
+-- names, and all that have ended, inverses among them, each in the order of ends. Of each that has committed, all.
 pub record Recorded : Type 0 where
   pub live : List Finished
+  pub ends : List Finished
   pub books : List (List Finished)
+
+abbrev pub nothing : Recorded
+nothing = record { live = []; ends = []; books = [] }
 
 abbrev pub its : ℕ → List Finished → List Finished
 its t fs = filter (λ (f : Finished). f.txn == t) fs
@@ -84,24 +89,31 @@ is_but t o f = not (f.txn == t) || not (f.op == o)
 abbrev pub without : ℕ → ℕ → List Finished → List Finished
 without t o fs = filter (is_but t o) fs
 
+-- what is live once an operation has ended, which is no inverse, or is one of this operation
+abbrev pub live_after : List Finished → ℕ → Finished → List Finished
+live_after live undoes f = if undoes == 0 then live ++ f ∷ [] else without f.txn undoes live
+
 -- what a record adds: an end of its own, an inverse, a commit, the end of an abort
 abbrev pub plus_record : Recorded → Record → Recorded
 plus_record s (Page txn op page image start old new) = s
-plus_record s (OpEnd txn op undoes done) =
-    if undoes == 0 then record { live = s.live ++ record { txn = txn; op = op; done = done } ∷ []; books = s.books }
-    else record { live = without txn undoes s.live; books = s.books }
+plus_record s (OpEnd txn op undoes done) = record {
+  live = live_after s.live undoes (record { txn = txn; op = op; done = done });
+  ends = s.ends ++ record { txn = txn; op = op; done = done } ∷ [];
+  books = s.books;
+}
 plus_record s (OpDropped txn op) = s
-plus_record s (Commit txn) = record { live = others txn s.live; books = s.books ++ its txn s.live ∷ [] }
-plus_record s (AbortEnd txn) = record { live = others txn s.live; books = s.books }
+plus_record s (Commit txn) =
+    record { live = others txn s.live; ends = others txn s.ends; books = s.books ++ its txn s.ends ∷ [] }
+plus_record s (AbortEnd txn) = record { live = others txn s.live; ends = others txn s.ends; books = s.books }
 
 abbrev pub tell : Recorded → List Record → Recorded
 tell s [] = s
 tell s (r ∷ rs) = tell (plus_record s r) rs
 
 abbrev pub tells : List Record → Recorded
-tells rs = tell (record { live = []; books = [] }) rs
+tells rs = tell nothing rs
 
--- the losers: the finished operations of transactions that have not ended
+-- the losers: what stands of transactions that have not ended
 abbrev pub losers : List Record → List Finished
 losers rs = (tells rs).live
 

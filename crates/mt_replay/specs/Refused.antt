@@ -2,6 +2,7 @@
 use Rattle.std.specs.Prelude.{◌≡◌, ◌⊎◌, ℕ, ◌+◌, ◌*◌, List, length}
 use Rattle.std.specs.List.{AllByRecursion}
 use Rattle.mt_base.specs.declared.limits.TheConstants.{MASTER_BYTES, PAGE_BYTES}
+use Rattle.mt_base.specs.declared.format.Format.{Format}
 use Rattle.mt_base.specs.declared.refusal.Refusal.{Refusal}
 use Rattle.mt_base.specs.declared.refusal.Refusal.TheVariants.{NoMemory, DeviceFailed, NotFormatted, BadFormat}
 use Rattle.mt_frame.specs.declared.records.Record.{Record}
@@ -13,7 +14,7 @@ use Rattle.mt_log.specs.declared.batch.Batch.{Batch}
 use Rattle.mt_pool.specs.Images.{GivesPages}
 use Rattle.mt_pool.specs.Kept.{carried}
 use Rattle.mt_space.specs.Changes.{PageBytes}
-use Rattle.mt_page_rules.specs.Checks.{AreChecked}
+use Rattle.mt_page_rules.specs.Checks.{AreChecked, AreCheckedIn}
 use Rattle.mt_page_rules.specs.Faults.{IsFaulty}
 use Rattle.mt_replay.specs.Figures.{AreFigures}
 use Rattle.mt_replay.specs.Losers.{all_finished, HasEnded, HasUndone, StopsAt}
@@ -37,9 +38,9 @@ pub record AreRepeated (c : List ℕ) (slot : MasterSlot) (batches : List Batch)
   pub losers : all_finished list ≡ losers (joined (records_of batches))
   pub ended : AllByRecursion (HasEnded batches) list
 
--- the pages held break no rule, the losers' inverses are made on them, and what they leave breaks none
-pub record AreUndone (held : List (List ℕ)) (list : List Loser) (items : List (List ℕ)) : Type 0 where
-  pub before : AreChecked held
+-- the pages held break no rule of this format, the losers' inverses are made on them, and what they leave breaks none
+pub record AreUndone (format : Format) (held : List (List ℕ)) (list : List Loser) (items : List (List ℕ)) : Type 0 where
+  pub before : AreCheckedIn format held
   pub undone : HasUndone held list items
   pub after : AreChecked items
 
@@ -49,7 +50,7 @@ pub record IsReplayed (c : List ℕ) (slot : MasterSlot) (items : List (List ℕ
   pub held : List (List ℕ)
   pub list : List Loser
   pub repeated : AreRepeated c slot batches held list
-  pub undone : AreUndone held list items
+  pub undone : AreUndone slot.format held list items
 
 -- the log's area, as the ruling slot names it, and its figures
 pub record IsLog (c : List ℕ) (slot : MasterSlot) (figures : Figures) : Type 0 where
@@ -60,24 +61,24 @@ pub record IsLog (c : List ℕ) (slot : MasterSlot) (figures : Figures) : Type 0
 -- ---- refusals
 
 -- the offset of the slot of a page that breaks a rule
-abbrev pub IsFaultAt : List (List ℕ) → ℕ → Type 0
-IsFaultAt held at = (p : ℕ) × (at ≡ MASTER_BYTES + PAGE_BYTES * p) × IsFaulty held p
+abbrev pub IsFaultAt : Format → List (List ℕ) → ℕ → Type 0
+IsFaultAt format held at = (p : ℕ) × (at ≡ MASTER_BYTES + PAGE_BYTES * p) × IsFaulty format held p
 
 -- a page held breaks a rule, or none does and an inverse is not what its loser's record says
-abbrev pub StopsUndoing : List (List ℕ) → List Loser → ℕ → Type 0
-StopsUndoing held list at = IsFaultAt held at ⊎ (AreChecked held × StopsAt held list at)
+abbrev pub StopsUndoing : Format → List (List ℕ) → List Loser → ℕ → Type 0
+StopsUndoing format held list at = IsFaultAt format held at ⊎ (AreCheckedIn format held × StopsAt held list at)
 
 -- the bytes break a rule at this offset: of the master slots, or of the batches of the area that the ruling slot names
 pub data BreaksLog (c : List ℕ) (at : ℕ) : Type 0 where
   in_master : BreaksMaster c at → BreaksLog c at
-  in_area : (slot : MasterSlot) → IsRuling c slot → BreaksAt c (area_start slot) (area_end slot) slot.pages at
-      → BreaksLog c at
+  in_area : (slot : MasterSlot) → IsRuling c slot
+      → BreaksAt slot.format c (area_start slot) (area_end slot) slot.pages at → BreaksLog c at
 
 -- or after these
 pub data BreaksFormat (c : List ℕ) (at : ℕ) : Type 0 where
   in_log : BreaksLog c at → BreaksFormat c at
   behind : (slot : MasterSlot) (batches : List Batch) (held : List (List ℕ)) (list : List Loser)
-      → AreRepeated c slot batches held list → StopsUndoing held list at → BreaksFormat c at
+      → AreRepeated c slot batches held list → StopsUndoing slot.format held list at → BreaksFormat c at
 
 -- the cause of a refusal of these bytes, in a call in which the device failed or did not, if rules are broken so
 abbrev pub IsCause : (List ℕ → ℕ → Type 0) → List ℕ → Type 0 → Refusal → Type 0

@@ -2,6 +2,7 @@
 // mt_restart calls it. The device is only read.
 ghost use Rattle.std.specs.Prelude.{◌≡◌, ◌⊎◌, ◌<◌, ◌≤◌, ℕ, List, ◌^◌, length, IfOk, IfErr, Err};
 ghost use Rattle.mt_base.specs.declared.limits.TheConstants.{MAX_PAGES};
+ghost use Rattle.mt_base.specs.declared.format.Format.{Format};
 ghost use Rattle.mt_base.specs.declared.refusal.Refusal.{Refusal};
 ghost use Rattle.mt_disk.specs.Disk.{LeavesOnly, LeavesTheSame};
 ghost use Rattle.mt_frame.specs.declared.records.Record.{Record};
@@ -17,7 +18,7 @@ ghost use Rattle.mt_replay.specs.Marking.{IsMarked};
 ghost use Rattle.mt_page_rules.specs.Whole.{AreWhole};
 ghost use Rattle.mt_log.specs.Masters.{IsRuling, IsUnformatted, area_end, area_start};
 ghost use Rattle.mt_replay.specs.Refused.{AreUndone, BreaksFormat, BreaksLog, IsCause, IsLog, IsReplayed, StopsUndoing};
-ghost use Rattle.mt_replay.specs.Stands.{AreHeld, CanRestart, HasArea, ShowsBase};
+ghost use Rattle.mt_replay.specs.Stands.{AreHeld, CanReplay, HasArea, ShowsBase};
 
 use crate::figures::{Figures, figures_of};
 use crate::laws::{each_inverse_finds, only_own_pages_matter, restart_finds_the_base};
@@ -25,7 +26,7 @@ use crate::losers::{Loser, losers_of};
 use crate::page_slots::lost_pages;
 use crate::pages_held::{HeldPages, held_pages};
 use crate::undo_pass::Restored;
-use mt_base::Refusal;
+use mt_base::{Format, Refusal};
 use mt_disk::Device;
 use mt_frame::MasterSlot;
 use mt_log::{AreaPlace, Batch, ruling_slot, scan};
@@ -69,32 +70,84 @@ pub fn read_area<D: Device>(
     ensures quiet { (result ≡ Err Refusal.DeviceFailed → ⊥) → D.faults device.new ≡ D.faults device.old }
     ensures cause { IfErr result (λ why. (why ≡ Refusal.NoMemory)
         ⊎ (((why ≡ Refusal.DeviceFailed) × (D.faults device.old < D.faults device.new))
-        ⊎ ((at : ℕ) × (why ≡ Refusal.BadFormat at) × BreaksAt (D.seen device.old) (area_start ruling.now)
-        (area_end ruling.now) ruling.now.pages at))) }
+        ⊎ ((at : ℕ) × (why ≡ Refusal.BadFormat at) × BreaksAt ruling.now.format (D.seen device.old)
+        (area_start ruling.now) (area_end ruling.now) ruling.now.pages at))) }
 {
     let area = AreaPlace::named_by(ruling);
-    scan(alloc, device, area, ruling.pages)
+    scan(alloc, device, area, ruling.pages, ruling.format)
 }
 
 // The pages held, once they were looked at and the losers are undone.
-fn undone(alloc: Global, pages: Vec<[u8; 4096]>, losers: &[Loser]) -> Result<Restored, Refusal>
+fn undone(
+    alloc: Global,
+    format: Format,
+    pages: Vec<[u8; 4096]>,
+    losers: &[Loser],
+) -> Result<Restored, Refusal>
     requires whole { AreWhole pages.items }
     requires some { 16 ≤ length pages.items }
     requires few { length pages.items ≤ MAX_PAGES }
     requires grammar { AllByRecursion (λ loser. IsOperation loser.done) losers.now }
-    ensures found { (relations counters : ℕ) (b : Base) → AreHeld relations counters pages.items losers.now b
+    ensures found { (relations counters : ℕ) (b : Base) → AreHeld format relations counters pages.items losers.now b
         → IfOk result (λ restored. ShowsBase relations counters restored.pages.items b) }
     ensures no_other_refusal { (relations counters : ℕ) (b : Base)
-        → AreHeld relations counters pages.items losers.now b → IfErr result (λ why. why ≡ Refusal.NoMemory) }
-    ensures undone { IfOk result (λ restored. AreUndone pages.items losers.now restored.pages.items) }
+        → AreHeld format relations counters pages.items losers.now b → IfErr result (λ why. why ≡ Refusal.NoMemory) }
+    ensures undone { IfOk result (λ restored. AreUndone format pages.items losers.now restored.pages.items) }
     ensures cause { IfErr result (λ why. (why ≡ Refusal.NoMemory)
-        ⊎ ((at : ℕ) × (why ≡ Refusal.BadFormat at) × StopsUndoing pages.items losers.now at)) }
+        ⊎ ((at : ℕ) × (why ≡ Refusal.BadFormat at) × StopsUndoing format pages.items losers.now at)) }
 {
     restart_finds_the_base();
     each_inverse_finds();
     only_own_pages_matter();
-    let checked = Restored::checked(alloc, pages)?;
+    let checked = Restored::checked(alloc, format, pages)?;
     checked.undo_all(alloc, losers)
+}
+
+/// The passes of a restart in memory, over the area that this slot names, which rules. They are those of [`replay`],
+/// once the slots are read.
+///
+/// Refusals are [`Refusal::NoMemory`]; [`Refusal::DeviceFailed`], if and only if the device failed in this call; and
+/// [`Refusal::BadFormat`] of a batch, of a page, or of the batch of a loser. The device is only read.
+pub fn replay_by<D: Device>(
+    alloc: Global,
+    device: &mut D,
+    ruling: MasterSlot,
+) -> Result<Replayed, Refusal>
+    requires rules { IsRuling (D.seen device.old) ruling }
+    requires only { (slot : MasterSlot) → IsRuling (D.seen device.old) slot → ruling ≡ slot }
+    ensures log { IfOk result (λ replayed. IsLog (D.seen device.old) replayed.ruling replayed.figures) }
+    ensures replayed { IfOk result (λ replayed. IsReplayed (D.seen device.old) replayed.ruling
+        replayed.restored.pages.items) }
+    ensures marked { IfOk result (λ replayed. IsMarked (D.seen device.old) replayed.ruling
+        replayed.restored.pages.items replayed.imaged.items replayed.lost.items) }
+    ensures cause { IfErr result (IsCause BreaksFormat (D.seen device.old)
+        (D.faults device.old < D.faults device.new)) }
+    ensures found { (format : Format) (relations counters : ℕ) (b : Base)
+        → CanReplay format relations counters (D.seen device.old) b
+        → IfOk result (λ replayed. ShowsBase relations counters replayed.restored.pages.items b) }
+    ensures no_other_refusal { (format : Format) (relations counters : ℕ) (b : Base)
+        → CanReplay format relations counters (D.seen device.old) b
+        → IfErr result (λ why. (why ≡ Refusal.NoMemory) ⊎ (why ≡ Refusal.DeviceFailed)) }
+    ensures reads { OnlyReads D.Device device.old device.new }
+    ensures quiet { (result ≡ Err Refusal.DeviceFailed → ⊥) → D.faults device.new ≡ D.faults device.old }
+{
+    let batches = read_area(alloc, device, &ruling)?;
+    let held = held_pages(alloc, device, ruling.pages, &batches)?;
+    let losers = losers_of(alloc, &batches)?;
+    let HeldPages {
+        pages,
+        found,
+        imaged,
+    } = held;
+    let restored = undone(alloc, ruling.format, pages, &losers)?;
+    let lost = lost_pages(alloc, &found, &restored.pages, &imaged)?;
+    Ok(Replayed {
+        ruling,
+        figures: figures_of(&batches),
+        restored,
+        imaged,
+        lost,
+    })
 }
 
 /// What the bytes of a device represent: the passes of a restart in memory. The ruling slot names the log's area. The
@@ -127,10 +180,11 @@ pub fn replay<D: Device>(alloc: Global, device: &mut D) -> Result<Replayed, Refu
         (D.faults device.old < D.faults device.new)) }
     ensures unformatted { IsUnformatted (D.seen device.old)
         → IfErr result (λ why. (why ≡ Refusal.NotFormatted) ⊎ (why ≡ Refusal.DeviceFailed)) }
-    ensures found { (relations counters : ℕ) (b : Base) → CanRestart relations counters (D.seen device.old) b
+    ensures found { (format : Format) (relations counters : ℕ) (b : Base)
+        → CanReplay format relations counters (D.seen device.old) b
         → IfOk result (λ replayed. ShowsBase relations counters replayed.restored.pages.items b) }
-    ensures no_other_refusal { (relations counters : ℕ) (b : Base)
-        → CanRestart relations counters (D.seen device.old) b
+    ensures no_other_refusal { (format : Format) (relations counters : ℕ) (b : Base)
+        → CanReplay format relations counters (D.seen device.old) b
         → IfErr result (λ why. (why ≡ Refusal.NoMemory) ⊎ (why ≡ Refusal.DeviceFailed)) }
     ensures seen { D.seen device.new ≡ D.seen device.old }
     ensures crash { LeavesTheSame (D.may_leave device.old) (D.may_leave device.new) }
@@ -138,23 +192,7 @@ pub fn replay<D: Device>(alloc: Global, device: &mut D) -> Result<Replayed, Refu
     ensures quiet { (result ≡ Err Refusal.DeviceFailed → ⊥) → D.faults device.new ≡ D.faults device.old }
 {
     let ruling = ruling_slot(device)?;
-    let batches = read_area(alloc, device, &ruling)?;
-    let held = held_pages(alloc, device, ruling.pages, &batches)?;
-    let losers = losers_of(alloc, &batches)?;
-    let HeldPages {
-        pages,
-        found,
-        imaged,
-    } = held;
-    let restored = undone(alloc, pages, &losers)?;
-    let lost = lost_pages(alloc, &found, &restored.pages, &imaged)?;
-    Ok(Replayed {
-        ruling,
-        figures: figures_of(&batches),
-        restored,
-        imaged,
-        lost,
-    })
+    replay_by(alloc, device, ruling)
 }
 
 /// What the log of a device comes to: the ruling slot, and the figures of the batches of the area that it names. No
@@ -165,8 +203,8 @@ pub fn replay<D: Device>(alloc: Global, device: &mut D) -> Result<Replayed, Refu
 /// The device is only read, and its content is as before in any case.
 pub fn read_log<D: Device>(alloc: Global, device: &mut D) -> Result<(MasterSlot, Figures), Refusal>
     ensures log { IfOk result (λ log. IsLog (D.seen device.old) log.0 log.1) }
-    ensures no_other_refusal { (relations counters : ℕ) (b : Base)
-        → CanRestart relations counters (D.seen device.old) b
+    ensures no_other_refusal { (format : Format) (relations counters : ℕ) (b : Base)
+        → CanReplay format relations counters (D.seen device.old) b
         → IfErr result (λ why. (why ≡ Refusal.NoMemory) ⊎ (why ≡ Refusal.DeviceFailed)) }
     ensures cause { IfErr result (IsCause BreaksLog (D.seen device.old)
         (D.faults device.old < D.faults device.new)) }

@@ -14,10 +14,12 @@ mod losers;
 mod page_slots;
 mod pages_held;
 mod repeat;
+mod schema_extension;
 mod undo_pass;
 
-pub use device_replay::{Replayed, read_area, read_log, replay};
+pub use device_replay::{Replayed, read_area, read_log, replay, replay_by};
 pub use figures::Figures;
 pub use laws::{each_inverse_finds, only_own_pages_matter, restart_finds_the_base};
 pub use losers::{Loser, losers_of};
+pub use schema_extension::extend_schema;
 pub use undo_pass::{Restored, effect_of};

@@ -36,7 +36,7 @@ pub(crate) fn read_slots<D: Device>(
 }
 
 // Whether a page without an image has other bytes than its slot.
-fn is_lost(found: &[u8; 4096], page: &[u8; 4096], imaged: bool) -> bool
+pub(crate) fn is_lost(found: &[u8; 4096], page: &[u8; 4096], imaged: bool) -> bool
     ensures { TellsLost page.now imaged found.now result }
 {
     !imaged && found.as_slice() != page.as_slice()

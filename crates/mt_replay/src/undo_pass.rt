@@ -9,7 +9,7 @@ ghost use Rattle.mt_inverse.specs.Effects.{op_with, reply_with, reply_back as ba
 ghost use Rattle.mt_space.specs.Changes.{PageBytes, AreShort};
 ghost use Rattle.mt_page_rules.specs.Whole.{AreWhole};
 ghost use Rattle.mt_replay.specs.Memory.{AreFirst, AreGood, Sets, Makes};
-ghost use Rattle.mt_page_rules.specs.Checks.{AreBroken, AreChecked};
+ghost use Rattle.mt_page_rules.specs.Checks.{AreBroken, AreCheckedIn};
 ghost use Rattle.mt_page_rules.specs.Faults.{IsFaulty};
 ghost use Rattle.mt_replay.specs.Recoverable.{IsOf};
 ghost use Rattle.mt_replay.specs.Recorded.{op_of, reply_in, reply_back};
@@ -17,7 +17,8 @@ ghost use Rattle.mt_replay.specs.Undoing.{IsRoom, IsUndoPlan, Misses, Undoes};
 
 use crate::losers::Loser;
 use mt_base::limits::MASTER_BYTES;
-use mt_base::{Edit, PageNo, Refusal};
+use mt_base::{Edit, Format, PageNo, Refusal};
+use mt_counters::{SchemaSizes, sizes};
 use mt_file::fits;
 use mt_frame::LoggedOp;
 use mt_index::Search;
@@ -26,7 +27,7 @@ use mt_page_rules::AllPages;
 use mt_pool::slot_at;
 use mt_space::pages::{COUNTERS, MAP, RECORDS};
 use mt_space::{Changes, Pages, patch};
-use mt_steps::{Act, SchemaSizes, bytes_put, plan, sizes};
+use mt_steps::{Act, bytes_put, plan};
 use std::alloc::Global;
 
 /// All pages of a device in memory, which break no rule of their formats. Each of them is at hand, so a plan over
@@ -137,31 +138,35 @@ fn make_all(pages: &mut Vec<[u8; 4096]>, changes: &Changes)
 impl Restored {
     ghost use Rattle.mt_replay.specs.Losers.{HasUndone, StopsAt};
 
-    /// Takes all pages of a device, if they break no rule of their formats and of the index. Each entry names a
-    /// record of its relation and key, and each record has one entry. Each bucket page stands in the chain of its
-    /// keys.
+    /// Takes all pages of a device of this format, if they break no rule of their formats and of the index. Each entry
+    /// names a record of its relation and key, and each record has one entry. Each bucket page stands in the chain of
+    /// its keys. No value is longer than the device's format lets one be.
     ///
     /// Else they are refused with [`Refusal::BadFormat`] and the offset of the slot of a page that breaks one, and let
     /// go. The page is named whose own rule is broken first, in the order of the tests. They are page 2 as the
     /// schema's, the pages of the index, and pages of records by their bytes. Then come bucket pages by an entry that
     /// names no such record, and pages of records by one that the index does not name. The only other refusal is
     /// [`Refusal::NoMemory`].
-    pub fn checked(alloc: Global, pages: Vec<[u8; 4096]>) -> Result<Restored, Refusal>
+    pub fn checked(
+        alloc: Global,
+        format: Format,
+        pages: Vec<[u8; 4096]>,
+    ) -> Result<Restored, Refusal>
         requires whole { AreWhole pages.items }
         requires some { 16 ≤ length pages.items }
         requires few { length pages.items ≤ MAX_PAGES }
         ensures pages { IfOk result (λ restored. restored.pages.items ≡ pages.items) }
-        ensures good { IfOk result (λ restored. AreChecked restored.pages.items) }
-        ensures bad { (at : ℕ) → result ≡ Err (Refusal.BadFormat at) → AreBroken pages.items }
+        ensures good { IfOk result (λ restored. AreCheckedIn format restored.pages.items) }
+        ensures bad { (at : ℕ) → result ≡ Err (Refusal.BadFormat at) → AreBroken format pages.items }
         ensures cause { IfErr result (λ why. (why ≡ Refusal.NoMemory)
-            ⊎ ((p : ℕ) × (why ≡ Refusal.BadFormat (MASTER_BYTES + PAGE_BYTES * p)) × IsFaulty pages.items p)) }
+            ⊎ ((p : ℕ) × (why ≡ Refusal.BadFormat (MASTER_BYTES + PAGE_BYTES * p)) × IsFaulty format pages.items p)) }
     {
-        let all = AllPages { pages };
+        let all = AllPages { pages, format };
         let broken = all.first_broken(alloc)?;
         match broken {
             Some(page) => Err(Refusal::BadFormat(slot_at(MASTER_BYTES, page))),
             None => {
-                let AllPages { pages } = all;
+                let AllPages { pages, .. } = all;
                 Ok(Restored { pages })
             }
         }

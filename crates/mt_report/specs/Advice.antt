@@ -10,7 +10,7 @@ use Rattle.mt_script.specs.declared.faults.LineFault.{LineFault}
 use Rattle.mt_script.specs.declared.faults.LineFault.TheVariants.{TooManyLines, TooLong, Unended, Blank, CarriageReturn, Tab, Unprintable, UnknownWord, WrongOperands}
 use Rattle.mt_script.specs.declared.answers.Answer.TheVariants.{Refused as RefusedLine}
 use Rattle.mt_args.specs.declared.command.Command.{Command}
-use Rattle.mt_args.specs.declared.command.Command.TheVariants.{Try, Schedule, Check, Format, Dump, Explain, Run, Show}
+use Rattle.mt_args.specs.declared.command.Command.TheVariants.{Try, Schedule, Check, Format, Dump, Explain, Migrate, Run, Show}
 use Rattle.mt_report.specs.declared.faults.Fault.{Fault}
 use Rattle.mt_report.specs.declared.faults.Fault.TheVariants.{Output, Refused, Stopped, Unread, Unscheduled}
 use Rattle.mt_folder.specs.Reasons.{reason_text}
@@ -53,6 +53,11 @@ abbrev pub script_advice : Option Reason → List ℕ
 script_advice None = codes "see that it is there and can be read"
 script_advice (Some reason) = reason_text reason
 
+-- what to do about a device of another format than a command takes
+abbrev pub format_advice : Command → List ℕ
+format_advice (Migrate file growth wait) = codes "it is of format 2 already, and can be opened"
+format_advice _ = codes "it is of format 1; `mtk migrate` carries it over to format 2"
+
 -- what to do about a refusal of a command, if the folder's call failed for this reason
 abbrev pub advice_on : Command → Option Reason → Refusal → List ℕ
 advice_on command reason refusal.NoMemory = memory_advice command
@@ -63,6 +68,7 @@ advice_on command reason (refusal.BadFormat place) = advice_at place
 advice_on command reason refusal.BadLength = excess_text (excess_in command)
 advice_on command reason refusal.LogFull =
     codes "its log cannot be turned over; keep the file, which `mtk check` still reads"
+advice_on command reason refusal.WrongFormat = format_advice command
 advice_on command reason _ = codes "see docs/MANUAL.md"
 
 -- ---- a script or a schedule that was not read
@@ -131,6 +137,7 @@ named_in (Check file pages wait) = shown_file (string_bytes file)
 named_in (Format file numbers wait) = shown_file (string_bytes file)
 named_in (Dump file wait) = shown_file (string_bytes file)
 named_in (Explain file wait) = shown_file (string_bytes file)
+named_in (Migrate file growth wait) = shown_file (string_bytes file)
 named_in (Run s wait) = shown_file (string_bytes s.file)
 named_in (Show text) = codes "mtk"
 

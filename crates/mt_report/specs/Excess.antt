@@ -4,10 +4,10 @@ use Rattle.std.specs.Fmt.{decimal, signed_decimal}
 use Rattle.std.specs.List.{concat}
 use Rattle.mt_base.specs.declared.limits.TheConstants.{MAX_AREA_MIB, MAX_BOUND, MAX_COUNTERS, MAX_PAGES, MAX_RELATIONS, MAX_SESSIONS, MIN_AREA_MIB, MIN_PAGES}
 use Rattle.mt_args.specs.declared.command.Command.{Command}
-use Rattle.mt_args.specs.declared.command.Command.TheVariants.{Format, Run}
+use Rattle.mt_args.specs.declared.command.Command.TheVariants.{Format, Migrate, Run}
 use Rattle.mt_args.specs.declared.numbers.Numbers.{Numbers}
 use Rattle.mt_report.specs.declared.excess.Excess.{Excess}
-use Rattle.mt_report.specs.declared.excess.Excess.TheVariants.{Pages, Area, Relations, Counters, Counter, Scripts, Nothing}
+use Rattle.mt_report.specs.declared.excess.Excess.TheVariants.{Pages, Area, Relations, Counters, Counter, Sums, Scripts, Nothing}
 
 abbrev pub lies_within : ℕ → ℕ → ℕ → Bool
 lies_within low high number = nat_le low number && nat_le number high
@@ -35,9 +35,15 @@ excess_of n =
     (Area n.area))
     (Pages n.pages)
 
+-- of what a schema is to get more: the counters as they are named, and else the sums, which the device alone knows
+abbrev pub or_sums : Excess → Excess
+or_sums Nothing = Sums
+or_sums excess = excess
+
 -- of a command: of `run` it is the number of its scripts
 abbrev pub excess_in : Command → Excess
 excess_in (Format file numbers wait) = excess_of numbers
+excess_in (Migrate file growth wait) = or_sums (counters_excess growth.counters.items)
 excess_in (Run s wait) =
     cond (lies_within 1 MAX_SESSIONS (length s.scripts.items)) Nothing (Scripts (length s.scripts.items))
 excess_in _ = Nothing
@@ -59,5 +65,6 @@ excess_text (Area number) = outside_text (codes "AREA") number (codes "4 to 64")
 excess_text (Relations number) = outside_text (codes "RELATIONS") number (codes "1 to 64")
 excess_text (Counters number) = outside_text (codes "the number of counters") number (codes "at most 128")
 excess_text (Counter low high start) = counter_excess_text low high start
+excess_text Sums = codes "with those that the device has it must be at most 64 relations and 128 counters"
 excess_text (Scripts number) = outside_text (codes "the number of scripts") number (codes "1 to 64")
 excess_text Nothing = codes "see docs/MANUAL.md"

@@ -2,10 +2,10 @@
 ghost use Rattle.std.specs.Prelude.{◌≡◌, OnErr, OnOk};
 ghost use Rattle.std.specs.Io.KnownBytes.{Appends};
 ghost use Rattle.mt_script.specs.Answers.{AppendsFront};
-ghost use Rattle.mt_report.specs.Excess.{counter_excess, counter_excess_text, counters_excess, excess_in, excess_of, excess_text, is_counter, lies_within, outside_text};
+ghost use Rattle.mt_report.specs.Excess.{counter_excess, counter_excess_text, counters_excess, excess_in, excess_of, excess_text, is_counter, lies_within, or_sums, outside_text};
 
 use itoa::Buffer;
-use mt_args::{Command, Numbers};
+use mt_args::{Command, Growth, Numbers};
 use mt_base::limits::{
     MAX_AREA_MIB, MAX_BOUND, MAX_COUNTERS, MAX_PAGES, MAX_RELATIONS, MAX_SESSIONS, MIN_AREA_MIB,
     MIN_PAGES,
@@ -26,6 +26,8 @@ pub(crate) enum Excess {
     Counters(u64),
     /// Low, high and start of a counter.
     Counter(i64, i64, i64),
+    /// The sum of relations or of counters, with those that a device has.
+    Sums,
     /// How many scripts there are.
     Scripts(u64),
     /// None is.
@@ -88,12 +90,24 @@ fn excess_of(numbers: &Numbers) -> Excess
     }
 }
 
+/// What is outside its limits of what a schema is to get more. If no counter is, it is a sum, which the device alone
+/// knows.
+fn growth_excess(growth: &Growth) -> Excess
+    ensures { result ≡ or_sums (counters_excess growth.now.counters.items) }
+{
+    match counters_excess(growth.counters.as_slice()) {
+        Excess::Nothing => Excess::Sums,
+        excess => excess,
+    }
+}
+
 /// The first number of a command that is outside its limits.
 pub(crate) fn excess_in(command: &Command) -> Excess
     ensures { result ≡ excess_in command.now }
 {
     match command {
         Command::Format { numbers, .. } => excess_of(numbers),
+        Command::Migrate { growth, .. } => growth_excess(growth),
         Command::Run { serving, .. } => {
             let many = serving.scripts.len() as u64;
             if lies_within(1, MAX_SESSIONS as u64, many) {
@@ -168,6 +182,10 @@ pub(crate) fn write_excess<W: Write>(writer: &mut W, excess: &Excess) -> Result<
             write_outside(writer, "the number of counters", *number, "at most 128")
         }
         Excess::Counter(low, high, start) => write_counter(writer, *low, *high, *start),
+        Excess::Sums => put(
+            writer,
+            b"with those that the device has it must be at most 64 relations and 128 counters",
+        ),
         Excess::Scripts(number) => {
             write_outside(writer, "the number of scripts", *number, "1 to 64")
         }

@@ -2,7 +2,7 @@
 ghost use Rattle.std.specs.Prelude.{◌≡◌, ◌++◌, [], OnOk, OnErr, codes, get_or, map, string_bytes};
 ghost use Rattle.std.specs.Io.KnownBytes.{Appends};
 ghost use Rattle.mt_script.specs.Answers.{AppendsFront};
-ghost use Rattle.mt_report.specs.Advice.{IsReportedOf, about, advice_at, advice_line, advice_of, advice_on, device_advice, fault_line, file_advice, line_advice, memory_advice, named_in, script_advice, script_named, shown_file, shown_name, stop_advice, reported_of, unread_advice, unread_text};
+ghost use Rattle.mt_report.specs.Advice.{IsReportedOf, about, advice_at, advice_line, advice_of, advice_on, device_advice, fault_line, file_advice, format_advice, line_advice, memory_advice, named_in, script_advice, script_named, shown_file, shown_name, stop_advice, reported_of, unread_advice, unread_text};
 
 use crate::event_words::EventWord;
 use crate::excess::{excess_in, write_excess};
@@ -86,6 +86,7 @@ fn named_in(command: &Command) -> &str
         Command::Format { file, .. } => shown(file.as_str()),
         Command::Dump { file, .. } => shown(file.as_str()),
         Command::Explain { file, .. } => shown(file.as_str()),
+        Command::Migrate { file, .. } => shown(file.as_str()),
         Command::Run { serving, .. } => shown(serving.file.as_str()),
         Command::Show { text: _ } => PROGRAM,
     }
@@ -172,6 +173,16 @@ fn script_advice(reason: &Option<Reason>) -> &'static str
     }
 }
 
+/// What to do about a device of another format than a command takes.
+fn format_advice(command: &Command) -> &'static str
+    ensures { result.now ≡ format_advice command.now }
+{
+    match command {
+        Command::Migrate { .. } => "it is of format 2 already, and can be opened",
+        _ => "it is of format 1; `mtk migrate` carries it over to format 2",
+    }
+}
+
 /// Writes what to do about a refusal of a command, if the folder's call failed for this reason.
 fn write_advice_on<W: Write>(
     writer: &mut W,
@@ -197,6 +208,7 @@ fn write_advice_on<W: Write>(
             writer,
             b"its log cannot be turned over; keep the file, which `mtk check` still reads",
         ),
+        Refusal::WrongFormat => put(writer, format_advice(command).as_bytes()),
         _ => put(writer, b"see docs/MANUAL.md"),
     }
 }

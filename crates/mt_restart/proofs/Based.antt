@@ -5,7 +5,7 @@ use Rattle.mt_model.specs.Model.{Base, IsBase, IsInBounds}
 use Rattle.mt_model.specs.Tables.{IsLimited, no_count}
 use Rattle.mt_model.specs.declared.counters.Count.{Count}
 use Rattle.mt_space.specs.Changes.{PageBytes}
-use Rattle.mt_steps.specs.Counters.{count_in}
+use Rattle.mt_counters.specs.Counters.{count_in}
 use Rattle.mt_steps.specs.Held.{Holds}
 use Rattle.mt_steps.proofs.HeldBase.{base_with, counts_with, rows_held}
 use Rattle.mt_steps.specs.Plans.{IsGood}

@@ -18,5 +18,6 @@ pub mod EarlyCauses
 mod Rotations
 pub mod Standings
 mod Unlost
+mod Migrating
 mod Counted
 pub mod Living

@@ -7,7 +7,7 @@ use Rattle.mt_model.specs.declared.tables.Base as code
 use Rattle.mt_op.proofs.Surveyed.{same_base}
 use Rattle.mt_space.specs.Kinds.{kind}
 use Rattle.mt_steps.proofs.Listed.{nothing_listed, skip_page}
-use Rattle.mt_steps.specs.Counters.{count_in}
+use Rattle.mt_counters.specs.Counters.{count_in}
 use Rattle.mt_steps.specs.Held.{Holds}
 use Rattle.mt_steps.specs.Listed.{HasListed, IsSame}
 use Rattle.mt_steps.specs.Plans.{IsGood}

@@ -72,6 +72,7 @@ module _ {D : Type 0} (g : Ghosts D) (frames : ℕ) (device : D) (r : Recovered)
     place = is.beside.place;
     start = ap start_of is.next ∙ sym is.turned.next.start;
     end = ap end_of is.next ∙ sym (end_of_log r.log (start_of (next_slot is.ruling)) (size_of is.ruling) is.turned.next.start is.turned.next.size);
+    second = ap (λ (m : MasterSlot). m.format) is.next;
   }
 
   pub rules_next : (c : List ℕ) → g.may_leave device c → IsRuling c r.ruling
@@ -114,6 +115,7 @@ module _ {D : Type 0} (g : Ghosts D) (frames : ℕ) (device : D) (r : Recovered)
       images = log_images o.store.log log_is;
       room = some_room o.store.log;
       pending = is.beside.pending;
+      aside = is.beside.aside;
     }
 
     pub opens_again : (b : Base) → Holds (bytes_of r.restored.pages.items) b → IsBase b → Opens g o r.beside.escrow r.beside.relations r.beside.counters b

@@ -6,7 +6,7 @@ use Rattle.mt_disk.specs.Disk.{Torn}
 use Rattle.mt_frame.specs.declared.records.Record.{Record}
 use Rattle.mt_frame.specs.declared.slots.MasterSlot.{MasterSlot}
 use Rattle.mt_log.specs.Batch.{joined}
-use Rattle.mt_log.specs.Holds.{HoldsBatches}
+use Rattle.mt_log.specs.Holds.{AreBatchesOf, HoldsBatches}
 use Rattle.mt_log.specs.Masters.{IsRuling, Rules, area_end, area_size, area_start}
 use Rattle.mt_pool.specs.Images.{Carried, GivesPages, has_image, page_in, slot}
 use Rattle.mt_pool.specs.Kept.{carried}
@@ -37,6 +37,7 @@ pub read_slots : (marked : List Bool) (d c : List ℕ) (slot : MasterSlot) (open
 read_slots marked d c slot opening batches count imaged only read = record {
   rules = ruling_elsewhere 8192 (4096 * length marked) d c slot read.rules only.within (omega arith);
   held = held_elsewhere 8192 (4096 * length marked) (area_start slot) (area_end slot) slot.pages batches d c read.held only.within (inl (omega (arith, count))) (omega arith);
+  of_its_format = read.of_its_format;
   gives = subst (λ (n : ℕ). GivesPages 8192 n opening (carried (joined batches)) c) count
       (gives_slots marked d c opening (carried (joined batches)) imaged only (subst (λ (n : ℕ). GivesPages 8192 n opening (carried (joined batches)) d) (sym count) read.gives));
 }
@@ -69,6 +70,7 @@ read_other_area d c slot opening batches torn read =
     record {
       rules = ruling_elsewhere start (area_size slot) d c slot read.rules torn (omega arith);
       held = held_elsewhere start (area_size slot) (area_start slot) (area_end slot) slot.pages batches d c read.held torn (areas_apart slot (one_area d slot read.rules)) (omega arith);
+      of_its_format = read.of_its_format;
       gives = gives_elsewhere start (area_size slot) slot.pages opening (carried (joined batches)) d c read.gives torn (inl (omega arith));
     }
 
@@ -77,18 +79,20 @@ read_other_area d c slot opening batches torn read =
 -- an area holds these batches, which give the pages as at the opening, whichever slot rules
 pub record IsHeldAs (c : List ℕ) (slot : MasterSlot) (opening : ℕ → List ℕ) (batches : List (List Record)) : Type 0 where
   pub held : HoldsBatches c (area_start slot) (area_end slot) slot.pages batches
+  pub of_its_format : AreBatchesOf slot.format batches
   pub gives : GivesPages 8192 slot.pages opening (carried (joined batches)) c
 
 pub held_read : (c : List ℕ) (slot : MasterSlot) (opening : ℕ → List ℕ) (batches : List (List Record)) → IsReadAs c slot opening batches → IsHeldAs c slot opening batches
-held_read c slot opening batches read = record { held = read.held; gives = read.gives }
+held_read c slot opening batches read = record { held = read.held; of_its_format = read.of_its_format; gives = read.gives }
 
 pub read_held : (c : List ℕ) (slot : MasterSlot) (opening : ℕ → List ℕ) (batches : List (List Record)) → IsRuling c slot → IsHeldAs c slot opening batches → IsReadAs c slot opening batches
-read_held c slot opening batches rules h = record { rules = rules; held = h.held; gives = h.gives }
+read_held c slot opening batches rules h = record { rules = rules; held = h.held; of_its_format = h.of_its_format; gives = h.gives }
 
 pub master_torn : (at n : ℕ) (d c : List ℕ) (slot : MasterSlot) (opening : ℕ → List ℕ) (batches : List (List Record))
     → Torn at n d c → at + n ≤ 8192 → IsHeldAs d slot opening batches → IsHeldAs c slot opening batches
 master_torn at n d c slot opening batches torn below h = record {
   held = held_elsewhere at n (area_start slot) (area_end slot) slot.pages batches d c h.held torn (inl (omega (arith, below))) (omega arith);
+  of_its_format = h.of_its_format;
   gives = gives_elsewhere at n slot.pages opening (carried (joined batches)) d c h.gives torn (inr below);
 }
 

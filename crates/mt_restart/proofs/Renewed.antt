@@ -18,6 +18,7 @@ use Rattle.mt_pool.specs.Images.{slot}
 use Rattle.mt_pool.proofs.Safe.{bool_cases}
 use Rattle.mt_restart.specs.Found.{AreMarked, HasBegun, HasTurned, IsNextLog, ReadsOldOrNext}
 use Rattle.mt_log.specs.NextSlot.{TurnsTo, next_slot}
+use Rattle.mt_log.proofs.Values.{batches_of_two}
 use Rattle.mt_replay.specs.Stands.{IsReadAs}
 use Rattle.mt_restart.specs.Turned.{AreImagesOf, AreInPlace, ButForSlots, OnlySlots}
 use Rattle.mt_restart.specs.declared.restart_writes.Marks.{Marks}
@@ -94,6 +95,7 @@ module _ {D : Type 0} (g : Ghosts D) (ruling : MasterSlot) (items : List (List �
   next_pages : (c : List ℕ) → g.may_leave s c → IsHeldAs c (next_slot ruling) (bytes_of items) (m.images.items ∷ [])
   next_pages c left = subst (λ (x : List ℕ). IsHeldAs x (next_slot ruling) (bytes_of items) (m.images.items ∷ [])) (sym (b.only c left)) (record {
     held = b.held;
+    of_its_format = batches_of_two ruling.pages (m.images.items ∷ []) b.held.each;
     gives = next_gives items m.lost.items m.images.items i (g.seen s) ruling.pages count b.slots;
   })
 

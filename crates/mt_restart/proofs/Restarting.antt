@@ -1,5 +1,5 @@
 -- A restart finds again what a turn of the log leaves.
-use Rattle.std.proofs.Common.{◌≡◌, ⊎_elim, ◌+◌, ◌*◌, ◌<◌, ◌≤◌, ℕ, List, [], ◌∷◌, length, refl, sym, subst, arith, append-nil}
+use Rattle.std.proofs.Common.{◌≡◌, ◌⊎◌, inl, inr, ⊎_elim, ◌+◌, ◌*◌, ◌<◌, ◌≤◌, ℕ, List, [], ◌∷◌, length, refl, sym, ap, ◌∙◌, subst, arith, append-nil}
 use Rattle.std.specs.List.{AllByRecursion}
 use Rattle.std.proofs.lemmas.List.Elements.{All-from_recursion}
 use Rattle.mt_base.specs.Limits.{IsRelationCount}
@@ -19,8 +19,10 @@ use Rattle.mt_op.specs.Begun.{AreImages}
 use Rattle.mt_pool.specs.Turns.{IsImageOnly}
 use Rattle.mt_replay.specs.Laws.{OnlyOwnPagesMatter}
 use Rattle.mt_replay.specs.Recoverable.{IsOf, IsRecoverable, all_pages, inverse_images, pages_held}
-use Rattle.mt_replay.specs.Stands.{CanRestart, IsReadAs, ShowsBase}
-use Rattle.mt_replay.specs.Recorded.{Finished, Recorded, calls_in, calls_of, run_all, stands_for, tells}
+use Rattle.mt_replay.specs.Stands.{CanReplay, CanRestart, HaveFirstValues, IsReadAs, ShowsBase}
+use Rattle.mt_base.specs.declared.format.Format.{Format}
+use Rattle.mt_base.specs.declared.format.Format.TheVariants.{One, Two}
+use Rattle.mt_replay.specs.Recorded.{Finished, Recorded, nothing, calls_in, calls_of, run_all, stands_for, tells}
 use Rattle.mt_space.specs.Changes.{PageBytes}
 use Rattle.mt_steps.specs.Held.{Holds}
 use Rattle.mt_steps.specs.Plans.{IsGood, free_pages}
@@ -48,23 +50,17 @@ are_images n rs only = All-from_recursion (λ (r : Record). txn_of r ≡ 0) rs (
 
 -- ---- a restart over images
 
-nothing_reported : Recorded
-nothing_reported = record { live = []; books = [] }
-
 module _ (relations counters total bytes : ℕ) (pages : PageBytes) (b : Base) (images : List Record) (each : AllByRecursion IsRecord images) (alone : AreImages images) where
-  outcome : tells images ≡ nothing_reported
-  unfolding nothing_reported
-  outcome = (images_end_nothing images each alone).outcome (record { live = []; books = [] })
+  outcome : tells images ≡ nothing
+  outcome = (images_end_nothing images each alone).outcome nothing
 
   no_calls : calls_in images ≡ []
   no_calls = (images_end_nothing images each alone).calls
 
   pub stands_still : b ≡ stands_for b images
-  unfolding nothing_reported
   stands_still = subst (λ (t : Recorded). b ≡ run_all b t.books) (sym outcome) refl
 
   pub recoverable_images : IsGood relations counters total pages → IsBase b → 5 < bytes → IsRecoverable relations counters total bytes pages b images
-  unfolding nothing_reported
   recoverable_images good bounds large =
       let held = images_held pages images alone in
       record {
@@ -85,40 +81,49 @@ module _ (relations counters total bytes : ℕ) (pages : PageBytes) (b : Base) (
 
 -- ---- what a crash leaves, read as the old area or as the next one
 
-pub read_first : OneSlot → (relations counters : ℕ) (c0 : List ℕ) (b : Base) (ruling : MasterSlot) → IsRuling c0 ruling → (found : CanRestart relations counters c0 b) → IsReadAs c0 ruling found.stands.opening found.stands.batches
-read_first one relations counters c0 b ruling rules found =
+pub read_first : OneSlot → (format : Format) (relations counters : ℕ) (c0 : List ℕ) (b : Base) (ruling : MasterSlot) → IsRuling c0 ruling → (found : CanReplay format relations counters c0 b) → IsReadAs c0 ruling found.stands.opening found.stands.batches
+read_first one format relations counters c0 b ruling rules found =
     let s = found.stands in
     subst (λ (m : MasterSlot). IsReadAs c0 m s.opening s.batches) (one_rules one c0 s.slot ruling s.read.rules rules) s.read
 
-pub restarts_old : OneSlot → (relations counters : ℕ) (c0 c : List ℕ) (b : Base) (ruling : MasterSlot) → IsRuling c0 ruling → (found : CanRestart relations counters c0 b) → IsReadAs c ruling found.stands.opening found.stands.batches → CanRestart relations counters c b
-restarts_old one relations counters c0 c b ruling rules found read =
+pub restarts_old : OneSlot → (format : Format) (relations counters : ℕ) (c0 c : List ℕ) (b : Base) (ruling : MasterSlot) → IsRuling c0 ruling → (found : CanReplay format relations counters c0 b) → IsReadAs c ruling found.stands.opening found.stands.batches → CanReplay format relations counters c b
+restarts_old one format relations counters c0 c b ruling rules found read =
     let s = found.stands in
+    let same = one_rules one c0 s.slot ruling s.read.rules rules in
     record {
       stands = record { slot = ruling; opening = s.opening; batches = s.batches; read = read; first = s.first; holds = s.holds; bounds = s.bounds; is = s.is };
+      is_of = ap (λ (m : MasterSlot). m.format) (sym same) ∙ found.is_of;
       fits = found.fits;
-      recoverable = subst (λ (m : MasterSlot). IsRecoverable relations counters m.pages (area_size m) s.opening s.first (joined s.batches)) (one_rules one c0 s.slot ruling s.read.rules rules) found.recoverable;
+      recoverable = subst (λ (m : MasterSlot). IsRecoverable relations counters m.pages (area_size m) s.opening s.first (joined s.batches)) same found.recoverable;
+      short = subst (λ (m : MasterSlot). m.format ≡ One → HaveFirstValues relations m.pages (pages_held s.opening (joined s.batches))) same found.short;
     }
 
 pub restarts_next : (relations counters : ℕ) (c : List ℕ) (b : Base) (next : MasterSlot) (pages : PageBytes) (images : List Record) → AllByRecursion IsRecord images → AreImages images
-    → IsReadAs c next pages (images ∷ []) → IsRelationCount relations → IsGood relations counters next.pages pages → Holds pages b → IsBase b → 5 < area_size next → CanRestart relations counters c b
-restarts_next relations counters c b next pages images each alone read fits good holds bounds large =
+    → IsReadAs c next pages (images ∷ []) → IsRelationCount relations → IsGood relations counters next.pages pages → Holds pages b → IsBase b → 5 < area_size next → next.format ≡ Two → CanRestart relations counters c b
+restarts_next relations counters c b next pages images each alone read fits good holds bounds large second =
     let same = sym (append-nil images) in
     record {
       stands = record { slot = next; opening = pages; batches = images ∷ []; read = read; first = b; holds = holds; bounds = bounds; is = subst (λ (rs : List Record). b ≡ stands_for b rs) same (stands_still relations counters next.pages (area_size next) pages b images each alone) };
+      is_of = second;
       fits = fits;
       recoverable = subst (λ (rs : List Record). IsRecoverable relations counters next.pages (area_size next) pages b rs) same (recoverable_images relations counters next.pages (area_size next) pages b images each alone good bounds large);
+      short = λ first. absurd (let both : Two ≡ One = sym second ∙ first in cc);
     }
 
--- so either stands for the base that the pages at hand hold
-pub either_restarts : OneSlot → OnlyOwnPagesMatter → (relations counters : ℕ) (c0 c : List ℕ) (b : Base) (frames : ℕ) (f : Findings) → IsFound c0 frames f → ShowsBase relations counters f.restored.pages.items b → (found : CanRestart relations counters c0 b)
-    → ReadsOldOrNext f.ruling found.stands.opening found.stands.batches f.restored.pages.items f.marks.images.items c → CanRestart relations counters c b
-either_restarts one own relations counters c0 c b frames f is shows found either =
-    let items = f.restored.pages.items in
-    let k = is.marked in
-    let fits = is.turns.fits in
-    let alike = own relations counters (length items) shows.pages (bytes_of items) (λ p lt. shows.first p lt) shows.good in
-    ⊎_elim
-    (λ (old : IsReadAs c f.ruling found.stands.opening found.stands.batches). restarts_old one relations counters c0 c b f.ruling k.rules found old)
-    (λ (next : IsReadAs c (next_slot f.ruling) (bytes_of items) (f.marks.images.items ∷ [])). restarts_next relations counters c b (next_slot f.ruling) (bytes_of items) f.marks.images.items k.images.grammar (are_images (length items) f.marks.images.items k.images.only) next found.fits
-    (subst (λ (n : ℕ). IsGood relations counters n (bytes_of items)) k.count alike.0) (alike.1 b shows.holds) (subst IsBase (sym found.stands.is) found.recoverable.serial.bounds) (omega (arith, fits)))
-    either
+-- so the old area represents the base that it did, and the next one the base that the pages at hand hold
+module _ (one : OneSlot) (own : OnlyOwnPagesMatter) (format : Format) (relations counters : ℕ) (c0 c : List ℕ) (b : Base) (frames : ℕ) (f : Findings) (is : IsFound c0 frames f) (found : CanReplay format relations counters c0 b)
+    (relations2 counters2 : ℕ) (b2 : Base) (fits : IsRelationCount relations2) (bounds : IsBase b2) (shows : ShowsBase relations2 counters2 f.restored.pages.items b2) where
+  next_restarts : IsReadAs c (next_slot f.ruling) (bytes_of f.restored.pages.items) (f.marks.images.items ∷ []) → CanRestart relations2 counters2 c b2
+  next_restarts next =
+      let items = f.restored.pages.items in
+      let k = is.marked in
+      let room = is.turns.fits in
+      let alike = own relations2 counters2 (length items) shows.pages (bytes_of items) (λ p lt. shows.first p lt) shows.good in
+      restarts_next relations2 counters2 c b2 (next_slot f.ruling) (bytes_of items) f.marks.images.items k.images.grammar (are_images (length items) f.marks.images.items k.images.only) next fits
+      (subst (λ (n : ℕ). IsGood relations2 counters2 n (bytes_of items)) k.count alike.0) (alike.1 b2 shows.holds) bounds (omega (arith, room)) refl
+
+  pub old_or_next : ReadsOldOrNext f.ruling found.stands.opening found.stands.batches f.restored.pages.items f.marks.images.items c → CanReplay format relations counters c b ⊎ CanRestart relations2 counters2 c b2
+  old_or_next either = ⊎_elim
+      (λ (old : IsReadAs c f.ruling found.stands.opening found.stands.batches). inl (restarts_old one format relations counters c0 c b f.ruling is.marked.rules found old))
+      (λ (next : IsReadAs c (next_slot f.ruling) (bytes_of f.restored.pages.items) (f.marks.images.items ∷ [])). inr (next_restarts next))
+      either

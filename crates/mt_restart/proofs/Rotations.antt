@@ -228,12 +228,12 @@ pub stop_cause : {D : Type 0} {g : Ghosts D} (old new : D) (n : Kernel D g) (why
     → (why ≡ refusal.DeviceFailed → ⊥) → g.seen n.core.operations.store.device ≡ g.seen old → is_failed n ≡ false → IsKeptCause n why
 stop_cause old new n refusal.NoMemory cause some not same well = well
 stop_cause old new n refusal.DeviceFailed cause some not same well = absurd (not refl)
-stop_cause old new n refusal.LogFull cause some not same well = (well, subst CannotTurn (sym same) (⊎_elim (λ none. absurd none) (λ full. full.1) cause))
+stop_cause old new n refusal.LogFull cause some not same well = (well, subst CannotTurn (sym same) (⊎_elim (λ none. absurd none) (λ more. ⊎_elim (λ full. full.1) (λ other. absurd (let no = other.0 in cc)) more) cause))
 stop_cause old new n _ cause some not same well = ∥∥₁_elim some (hlevel props) (⊎_elim (λ is. absurd cc) (⊎_elim (λ is. absurd cc) (λ is. absurd cc)))
 
 -- and where it has
 pub fault_cause : {D : Type 0} (g : Ghosts D) (old new : D) (why : Refusal) → why ≡ refusal.DeviceFailed → IsCauseToStop (g.seen old) (g.faults old < g.faults new) why → g.faults old < g.faults new
-fault_cause g old new why is cause = ⊎_elim (λ failed. failed) (λ full. absurd (let no = full.0 in cc)) (subst (IsCauseToStop (g.seen old) (g.faults old < g.faults new)) is cause)
+fault_cause g old new why is cause = ⊎_elim (λ failed. failed) (λ more. ⊎_elim (λ full. absurd (let no = full.0 in cc)) (λ other. absurd (let no = other.0 in cc)) more) (subst (IsCauseToStop (g.seen old) (g.faults old < g.faults new)) is cause)
 
 -- ---- the kernel that is attached to its device again
 

@@ -1,9 +1,11 @@
 -- One slot rules a device.
-use Rattle.std.proofs.Common.{◌≡◌, inl, inr, ⊎_elim, ◌<◌, ℕ, List, subst, arith}
+use Rattle.std.proofs.Common.{◌≡◌, inl, inr, ⊎_elim, ◌<◌, ◌∙◌, ℕ, List, ap, subst, arith}
 use Rattle.mt_frame.specs.Laws.{OneSlot}
 use Rattle.mt_frame.specs.declared.slots.MasterSlot.{MasterSlot}
 use Rattle.mt_log.specs.Masters.{IsBefore, IsClosedAt, IsOpenAt, IsRuling, IsUnformatted, Rules}
 use Rattle.mt_log.proofs.Ruling.{not_closed, one_open, ruled}
+use Rattle.mt_base.specs.declared.format.Format.TheVariants.{Two}
+use Rattle.mt_restart.specs.OfFormat.{HasOtherFormat}
 use Rattle.mt_restart.specs.Recovered.{AreRestored}
 
 module _ (one : OneSlot) (c : List ℕ) where
@@ -24,6 +26,10 @@ module _ (one : OneSlot) (c : List ℕ) where
   one_rules s t (inr r) (inr q) = one_open one c 4096 s t r.own q.own
   one_rules s t (inl r) (inr q) = absurd (not_both 0 4096 s t r q)
   one_rules s t (inr r) (inl q) = absurd (not_both 4096 0 s t r q)
+
+-- bytes of which a restart makes pages are of format 2
+pub not_other : OneSlot → (c : List ℕ) (items : List (List ℕ)) → AreRestored c items → HasOtherFormat Two c → ⊥
+not_other one c items x other = other.2 (ap (λ (m : MasterSlot). m.format) (one_rules one c other.0 x.slot other.1 x.replayed.repeated.area.rules) ∙ x.second)
 
 -- bytes of which a restart makes pages are formatted
 pub not_unformatted : (c : List ℕ) (items : List (List ℕ)) → AreRestored c items → IsUnformatted c → ⊥

@@ -81,18 +81,18 @@ module _ (one : OneSlot) (s : Schema) (c : List ℕ) (f : IsFormattedAs s c) whe
         subst (λ (g : PageBytes). AreFirst x.items g) same k.1
 
     -- so none is lost
-    none_lost : (p : ℕ) → p < length x.items → get_or x.marks.lost.items p false ≡ false
-    none_lost p lt = not_true (get_or x.marks.lost.items p false) (λ lost. (x.marked.lost.other p lt lost).1 (sym (slots p lt)))
+    none_lost : (p : ℕ) → p < length x.items → get_or x.turn_barred.marks.lost.items p false ≡ false
+    none_lost p lt = not_true (get_or x.turn_barred.marks.lost.items p false) (λ lost. (x.turn_barred.marked.lost.other p lt lost).1 (sym (slots p lt)))
 
-    none_imaged : x.marks.images.items ≡ []
-    none_imaged = no_images (length x.items) x.marks.images.items x.marked.images.only (λ p lt. x.marked.images.some p lt ∙ none_lost p lt)
+    none_imaged : x.turn_barred.marks.images.items ≡ []
+    none_imaged = no_images (length x.items) x.turn_barred.marks.images.items x.turn_barred.marked.images.only (λ p lt. x.turn_barred.marked.images.some p lt ∙ none_lost p lt)
 
     turns_after_all : ⊥
     turns_after_all =
-        let first = first_one x.ruling x.marked.rules in
+        let first = first_one x.ruling x.turn_barred.marked.rules in
         let epoch : x.ruling.epoch ≡ 1 = ap (λ (r : MasterSlot). r.epoch) first in
         let some = s.area_size.0 in
-        x.none (record {
+        x.turn_barred.none (record {
           not_last = omega (arith, epoch);
           fits = subst (λ (X : Type 0). X) (λ i. 5 + length (body_text (sym none_imaged i)) < area_size (sym first i)) (omega (arith, some));
         })
@@ -103,4 +103,5 @@ module _ (one : OneSlot) (s : Schema) (c : List ℕ) (f : IsFormattedAs s c) whe
 -- and it is refused for any other reason
 pub never_full : OneSlot → (s : Schema) (c : List ℕ) (failed : Type 0) (why : Refusal) → IsFormattedAs s c → IsCauseToStop c failed why → why ≡ LogFull → ⊥
 never_full one s c failed why f (inl other) full = subst (λ (w : Refusal). IsCause BreaksFormat c failed w) full other
-never_full one s c failed why f (inr cannot) full = format_turns one s c f cannot.1
+never_full one s c failed why f (inr (inl cannot)) full = format_turns one s c f cannot.1
+never_full one s c failed why f (inr (inr other)) full = absurd (let no = other.0 in cc)

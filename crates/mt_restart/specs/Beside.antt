@@ -6,11 +6,11 @@ use Rattle.mt_model.specs.Tables.{count_at}
 use Rattle.mt_op.specs.Begun.{FitsPages, idle_claims}
 use Rattle.mt_pool.specs.Images.{slot}
 use Rattle.mt_pool.specs.Views.{IsPool, Shows, view, waits_for, pages, frames}
-use Rattle.mt_steps.specs.Counters.{count_in}
+use Rattle.mt_counters.specs.Counters.{count_in}
 use Rattle.mt_restart.specs.declared.beside.Beside.{Beside}
 
 -- It is made for these pages: a pool of so many frames, none of which holds a page; what operations keep if none is
--- under way; and the counters of the third page, to which no add is pending.
+-- under way; and the counters of the third page, to which no add is pending or set aside.
 pub record IsBeside (items : List (List ℕ)) (frame_count : ℕ) (b : Beside) : Type 0 where
   pub pool : IsPool b.pool
   pub shows : (c : List ℕ) → MASTER_BYTES + PAGE_BYTES * length items ≤ length c → Shows b.pool c
@@ -26,3 +26,4 @@ pub record IsBeside (items : List (List ℕ)) (frame_count : ℕ) (b : Beside) :
   pub all : length b.escrow.committed ≡ b.counters
   pub counts : (c : ℕ) → c < b.counters → count_at b.escrow.committed c ≡ count_in (bytes_of items 2) c
   pub pending : b.escrow.pending ≡ []
+  pub aside : b.escrow.aside ≡ []

@@ -2,6 +2,8 @@ pub mod Beside
 pub mod Found
 pub mod Frames
 pub mod Inspected
+pub mod Migrated
+pub mod OfFormat
 pub mod Recovered
 pub mod Reported
 pub mod Resumed

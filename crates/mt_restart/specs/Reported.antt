@@ -6,11 +6,12 @@ use Rattle.mt_replay.specs.declared.figures.Figures.{Figures}
 use Rattle.mt_restart.specs.Inspected.{IsSound}
 use Rattle.mt_restart.specs.declared.report_figures.Report.{Report}
 
--- epoch and area of the ruling slot, and the figures of the batches of that area
+-- format, epoch and area of the ruling slot, and the figures of the batches of that area
 pub record IsReport (c : List ℕ) (report : Report) : Type 0 where
   pub slot : MasterSlot
   pub figures : Figures
   pub log : IsLog c slot figures
+  pub format_is : report.format ≡ slot.format
   pub epoch : report.epoch ≡ slot.epoch
   pub area : report.area ≡ slot.area
   pub batches : report.batches ≡ figures.batches

@@ -1,5 +1,6 @@
 -- A kernel that is opened over a device.
 use Rattle.std.specs.Prelude.{◌≡◌, ◌≢◌, ◌⊎◌, ◌<◌, ℕ, List, Result, Ok, Err, get_or}
+use Rattle.mt_base.specs.declared.format.Format.TheVariants.{Two}
 use Rattle.mt_base.specs.declared.refusal.Refusal.{Refusal}
 use Rattle.mt_base.specs.declared.refusal.Refusal.TheVariants.{DeviceFailed, LogFull, NoMemory}
 use Rattle.mt_core.specs.Seen.{core_ruling}
@@ -14,7 +15,8 @@ use Rattle.mt_log.specs.Masters.{IsRuling}
 use Rattle.mt_log.specs.NextSlot.{next_slot}
 use Rattle.mt_model.specs.Model.{Base, IsBase}
 use Rattle.mt_replay.specs.Stands.{CanRestart}
-use Rattle.mt_restart.specs.Recovered.{AreRestored, IsCauseToStop, SaysUnformatted}
+use Rattle.mt_restart.specs.OfFormat.{SaysOther, SaysUnformatted}
+use Rattle.mt_restart.specs.Recovered.{AreRestored, IsCauseToStop}
 use Rattle.mt_steps.specs.Held.{Holds}
 use Rattle.mt_steps.specs.Listed.{IsSame}
 use Rattle.mt_txn.specs.Shown.{Restarts, Shows, kernel_device}
@@ -50,10 +52,11 @@ abbrev pub device_of : {D : Type 0} → {g : Ghosts D} → Result (Kernel D g) (
 device_of (Ok kernel) = (kernel_device kernel)
 device_of (Err gone) = gone.1
 
--- Why these bytes are refused, beside the cause: those that are not formatted are reported so, what a kernel left is
--- refused for want of memory, a failure or a full log alone, and as it was formatted, for no full log.
+-- Why these bytes are refused, beside the cause: those that are not formatted or of format 1 are reported so, what a
+-- kernel left is refused for want of memory, a failure or a full log alone, and as it was formatted, for no full log.
 pub record IsRefusedRightly (c : List ℕ) (why : Refusal) : Type 0 where
   pub unformatted : SaysUnformatted c why
+  pub other : SaysOther Two c why
   pub left : (relations counters : ℕ) (b : Base) → CanRestart relations counters c b
       → (why ≡ NoMemory) ⊎ ((why ≡ DeviceFailed) ⊎ (why ≡ LogFull))
   pub formatted : (s : Schema) → IsFormattedAs s c → why ≢ LogFull
@@ -64,6 +67,7 @@ pub record IsRefusedRightly (c : List ℕ) (why : Refusal) : Type 0 where
 pub record IsNotOpened {D : Type 0} (g : Ghosts D) (device : D) (gone : Refusal × D) : Type 0 where
   pub cause : IsCauseToStop (g.seen device) (g.faults device < g.faults gone.1) gone.0
   pub unformatted : SaysUnformatted (g.seen device) gone.0
+  pub other : SaysOther Two (g.seen device) gone.0
   pub left : (relations counters : ℕ) (b : Base) → CanRestart relations counters (g.seen device) b
       → (gone.0 ≡ NoMemory) ⊎ ((gone.0 ≡ DeviceFailed) ⊎ (gone.0 ≡ LogFull))
   pub formatted : (s : Schema) → IsFormattedAs s (g.seen device) → gone.0 ≢ LogFull

@@ -3,6 +3,7 @@
 // for tests.
 ghost use Rattle.std.specs.Prelude.{◌≡◌, ◌⊎◌, ◌<◌, ◌≤◌, ◌+◌, ℕ, List, length, IfErr, IfOk, OnOk, Err};
 ghost use Rattle.mt_base.specs.declared.limits.TheConstants.{MAX_PAGES};
+ghost use Rattle.mt_base.specs.declared.format.Format.{Format};
 ghost use Rattle.mt_base.specs.declared.refusal.Refusal.{Refusal};
 ghost use Rattle.mt_disk.specs.Disk.{LeavesOnly, LeavesTheSame};
 ghost use Rattle.mt_index.specs.Checks.{bytes_of};
@@ -11,7 +12,7 @@ ghost use Rattle.mt_model.specs.Model.{Base as ModelBase};
 ghost use Rattle.mt_model.specs.Views.{relations_of};
 ghost use Rattle.mt_page_rules.specs.Checks.{AreChecked};
 ghost use Rattle.mt_replay.specs.Refused.{BreaksFormat, IsCause};
-ghost use Rattle.mt_replay.specs.Stands.{CanRestart};
+ghost use Rattle.mt_replay.specs.Stands.{CanReplay};
 ghost use Rattle.mt_steps.specs.Plans.{IsGood, free_pages};
 ghost use Rattle.mt_restart.specs.Inspected.{IsInspected, IsOfPages, Lists, Surveys};
 
@@ -94,7 +95,8 @@ pub(crate) fn survey_of(alloc: Global, restored: &Restored) -> Result<Survey, Re
 /// Of bytes that a kernel left, the survey has the base that the log's committed transactions lead to. It is then
 /// refused only for want of memory or a fault of the device.
 ///
-/// Any bytes are read. If they are answered, the pages break no rule, and every base that they hold is the survey's.
+/// Any bytes are read, of either format. If they are answered, the pages break no rule, and every base that they hold
+/// is the survey's.
 ///
 /// It is refused with:
 /// - [`Refusal::NoMemory`];
@@ -105,11 +107,12 @@ pub(crate) fn survey_of(alloc: Global, restored: &Restored) -> Result<Survey, Re
 ///
 /// The content of the device is as before in any case.
 pub fn inspect<D: Device>(alloc: Global, device: &mut D) -> Result<Survey, Refusal>
-    ensures surveyed { (relations counters : ℕ) (b : ModelBase) → CanRestart relations counters (D.seen device.old) b
+    ensures surveyed { (format : Format) (relations counters : ℕ) (b : ModelBase)
+        → CanReplay format relations counters (D.seen device.old) b
         → IfOk result (Surveys relations counters b (D.seen device.old)) }
     ensures inspected { IfOk result (IsInspected (D.seen device.old)) }
-    ensures no_other_refusal { (relations counters : ℕ) (b : ModelBase)
-        → CanRestart relations counters (D.seen device.old) b
+    ensures no_other_refusal { (format : Format) (relations counters : ℕ) (b : ModelBase)
+        → CanReplay format relations counters (D.seen device.old) b
         → IfErr result (λ why. (why ≡ Refusal.NoMemory) ⊎ (why ≡ Refusal.DeviceFailed)) }
     ensures cause { IfErr result (IsCause BreaksFormat (D.seen device.old)
         (D.faults device.old < D.faults device.new)) }

@@ -10,8 +10,10 @@
 mod area_renewal;
 mod beside;
 mod first_images;
+mod format_replay;
 mod inspection;
 mod log_report;
+mod migration;
 mod opened_kernel;
 mod opened_with_base;
 mod recovery;
@@ -23,6 +25,7 @@ mod standing;
 
 pub use inspection::inspect;
 pub use log_report::{check, report};
+pub use migration::migrate;
 pub use mt_format::{Schema, format, fresh};
 pub use opened_kernel::open;
 pub use opened_with_base::open_with_base;

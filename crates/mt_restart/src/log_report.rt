@@ -1,11 +1,12 @@
 // The report on a device's log, by its bytes. If it is asked for, the same reading finds that the pages break no rule.
 ghost use Rattle.std.specs.Prelude.{◌≡◌, ◌⊎◌, ◌<◌, ℕ, List, IfOk, IfErr, Err};
+ghost use Rattle.mt_base.specs.declared.format.Format.{Format};
 ghost use Rattle.mt_base.specs.declared.refusal.Refusal.{Refusal};
 ghost use Rattle.mt_disk.specs.Disk.{LeavesOnly, LeavesTheSame};
 ghost use Rattle.mt_model.specs.Model.{Base};
 ghost use Rattle.mt_log.specs.Masters.{IsUnformatted};
 ghost use Rattle.mt_replay.specs.Refused.{BreaksFormat, BreaksLog, IsCause, IsLog};
-ghost use Rattle.mt_replay.specs.Stands.{CanRestart};
+ghost use Rattle.mt_replay.specs.Stands.{CanReplay};
 ghost use Rattle.mt_restart.specs.Reported.{IsChecked, IsReport};
 
 use crate::report_figures::Report;
@@ -20,6 +21,7 @@ fn report_of(ruling: &MasterSlot, figures: Figures) -> Report
     ensures { (c : List ℕ) → IsLog c ruling.now figures → IsReport c result }
 {
     Report {
+        format: ruling.format,
         epoch: ruling.epoch,
         area: ruling.area,
         batches: figures.batches,
@@ -28,8 +30,8 @@ fn report_of(ruling: &MasterSlot, figures: Figures) -> Report
     }
 }
 
-/// Reports epoch and area of the master slot that rules, and how many batches, records and commits the area holds. No
-/// page is looked at.
+/// Reports format, epoch and area of the master slot that rules, and how many batches, records and commits the area
+/// holds. No page is looked at.
 ///
 /// Refusals are [`Refusal::NoMemory`], and [`Refusal::DeviceFailed`] if and only if the device failed in this call.
 /// [`Refusal::NotFormatted`] is answered if it is shorter than 8192 bytes or no master slot is open.
@@ -37,8 +39,8 @@ fn report_of(ruling: &MasterSlot, figures: Figures) -> Report
 /// no sync, and its content is as before in any case.
 pub fn report<D: Device>(alloc: Global, device: &mut D) -> Result<Report, Refusal>
     ensures outcome { IfOk result (IsReport (D.seen device.old)) }
-    ensures no_other_refusal { (relations counters : ℕ) (b : Base)
-        → CanRestart relations counters (D.seen device.old) b
+    ensures no_other_refusal { (format : Format) (relations counters : ℕ) (b : Base)
+        → CanReplay format relations counters (D.seen device.old) b
         → IfErr result (λ why. (why ≡ Refusal.NoMemory) ⊎ (why ≡ Refusal.DeviceFailed)) }
     ensures cause { IfErr result (IsCause BreaksLog (D.seen device.old)
         (D.faults device.old < D.faults device.new)) }
@@ -65,8 +67,8 @@ pub fn report<D: Device>(alloc: Global, device: &mut D) -> Result<Report, Refusa
 /// content is as before in any case.
 pub fn check<D: Device>(alloc: Global, device: &mut D) -> Result<Report, Refusal>
     ensures outcome { IfOk result (IsChecked (D.seen device.old)) }
-    ensures no_other_refusal { (relations counters : ℕ) (b : Base)
-        → CanRestart relations counters (D.seen device.old) b
+    ensures no_other_refusal { (format : Format) (relations counters : ℕ) (b : Base)
+        → CanReplay format relations counters (D.seen device.old) b
         → IfErr result (λ why. (why ≡ Refusal.NoMemory) ⊎ (why ≡ Refusal.DeviceFailed)) }
     ensures cause { IfErr result (IsCause BreaksFormat (D.seen device.old)
         (D.faults device.old < D.faults device.new)) }

@@ -83,9 +83,9 @@ pub(crate) fn kernel_over<D: Device + Drop>(
     Kernel::assemble(alloc, operations, escrow, relations, counters)
 }
 
-/// Gives a kernel over a device that was used before, whatever a crash left of it, with 32 to 4096 pages in frames. No
-/// transaction is active, the book is empty, and the pages hold the base that the bytes represented. That is what the
-/// log's committed transactions lead to, in the order of their commits.
+/// Gives a kernel over a device of format 2 that was used before, whatever a crash left of it, with 32 to 4096 pages in
+/// frames. No transaction is active, the book is empty, and the pages hold the base that the bytes represented. That is
+/// what the log's committed transactions lead to, in the order of their commits.
 ///
 /// The device is synced. Then a restart's passes are made in memory. The ruling area's records are repeated,
 /// unfinished operations are put back, and losers are undone by their inverses (Mohan 1992; Weikum 1991). At last the
@@ -101,6 +101,9 @@ pub(crate) fn kernel_over<D: Device + Drop>(
 /// - [`Refusal::DeviceFailed`], if and only if the device failed in this call;
 /// - [`Refusal::NotFormatted`], if and only if the device is shorter than 8192 bytes or no master slot is open, and it
 ///   did not fail;
+/// - [`Refusal::BadFormat`], as `ruling_slot` of mt_log says;
+/// - [`Refusal::WrongFormat`], if and only if the ruling slot is of format 1, and it did not fail: its log and its pages
+///   are not looked at;
 /// - [`Refusal::BadFormat`], as `replay` of mt_replay says;
 /// - [`Refusal::LogFull`], if the ruling slot has the last epoch, or the images have no room in the next area: never
 ///   as the device was formatted.

@@ -17,7 +17,11 @@ mod formats;
 #[cfg(test)]
 mod large;
 #[cfg(test)]
+mod migrated;
+#[cfg(test)]
 mod operations;
+#[cfg(test)]
+mod readings;
 #[cfg(test)]
 mod recovered;
 #[cfg(test)]

@@ -12,10 +12,11 @@ use Rattle.mt_server.specs.Crews.{IsBlank, IsBoard, IsFull}
 use Rattle.mt_server.specs.Heard.{AreReported, all_booked}
 use Rattle.mt_server.proofs.HeardLemmas.{reported_failing}
 use Rattle.mt_server.specs.declared.board.Board.{Board}
-use Rattle.mt_server.specs.Serves.{IsLate, IsServedOn, IsUnopened}
+use Rattle.mt_restart.specs.Recovered.{IsCauseToStop}
+use Rattle.mt_server.specs.Serves.{IsServedOn}
 use Rattle.mt_locked.proofs.Keeping.{legal_book}
 use Rattle.mt_locked.specs.Began.{BeganOn}
-use Rattle.mt_shared.specs.Opens.{IsBaseOf, IsUnmarked, IsUnshared}
+use Rattle.mt_shared.specs.Opens.{IsBaseOf, IsUnshared}
 use Rattle.mt_txn.specs.declared.kernel.Kernel.{Kernel}
 
 -- ---- transcripts
@@ -57,12 +58,14 @@ served_on c first k is began = record { first = first; is = is; began = began; l
 
 -- ---- refusals
 
-unmarked_late : (why : Refusal) → IsUnmarked why → IsLate why
-unmarked_late refusal.NoMemory _ = tt
-unmarked_late refusal.DeviceFailed _ = tt
-unmarked_late why unmarked = absurd unmarked
+-- what keeps a device from being opened, in whatever call it failed
+stops : (c : List ℕ) (failed : Type 0) (why : Refusal) → IsCauseToStop c failed why → IsCauseToStop c (Unit {0}) why
+stops c failed refusal.DeviceFailed cause = inl tt
+stops c failed refusal.NoMemory cause = inl tt
+stops c failed refusal.NotFormatted (inl cause) = inl cause
+stops c failed (refusal.BadFormat at) (inl cause) = inl cause
+stops c failed why (inr full) = inr full
+stops c failed _ (inl cause) = absurd cause
 
--- what was not opened is not served
-pub unopened_by : (c : List ℕ) (why : Refusal) → IsUnshared c why → IsUnopened c why
-unopened_by c why (inl cause) = inl cause
-unopened_by c why (inr unmarked) = inr (unmarked_late why unmarked)
+pub unopened_by : (c : List ℕ) (failed : Type 0) (why : Refusal) → IsUnshared c failed why → IsUnshared c (Unit {0}) why
+unopened_by c failed why is = record { cause = stops c failed why is.cause; rightly = is.rightly }

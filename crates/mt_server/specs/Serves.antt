@@ -1,5 +1,5 @@
 -- A kernel after sessions that shared it.
-use Rattle.std.specs.Prelude.{ℕ, ◌<◌, ◌≤◌, ◌⊎◌, List}
+use Rattle.std.specs.Prelude.{ℕ, ◌<◌, ◌≤◌, List}
 use Rattle.mt_base.specs.declared.limits.TheConstants.{MAX_SESSIONS}
 use Rattle.mt_base.specs.declared.refusal.Refusal.{Refusal}
 use Rattle.mt_base.specs.declared.refusal.Refusal.TheVariants as refusal
@@ -7,9 +7,8 @@ use Rattle.mt_disk.specs.declared.device.Device.{Ghosts}
 use Rattle.mt_model.specs.History.{IsLegal}
 use Rattle.mt_model.specs.Views.{base_of}
 use Rattle.mt_model.specs.declared.tables.Base.{Base}
-use Rattle.mt_restart.specs.Recovered.{IsCauseToStop}
 use Rattle.mt_locked.specs.Began.{BeganOn}
-use Rattle.mt_shared.specs.Opens.{HasBegunWith, IsBaseOf}
+use Rattle.mt_shared.specs.Opens.{HasBegunWith, IsBaseOf, IsRestorable, IsUnshared}
 use Rattle.mt_txn.specs.declared.kernel.Kernel.{Kernel}
 use Rattle.mt_txn.specs.Words.{kernel_book}
 
@@ -27,7 +26,7 @@ IsOpenedWith g frames c = (first : Base) × IsBaseOf c first × HasBegunWith g f
 
 -- ---- refusals
 
--- how serving ends once the device is open: for want of memory, since it failed, or as a survey or a close is refused
+-- how serving ends once the device is open: for want of memory, since it failed, or as a close is refused
 abbrev pub IsLate : Refusal → Type 0
 IsLate refusal.NoMemory = Unit {0}
 IsLate refusal.DeviceFailed = Unit {0}
@@ -35,11 +34,9 @@ IsLate refusal.Stranger = Unit {0}
 IsLate refusal.Busy = Unit {0}
 IsLate why = ⊥
 
--- or what keeps a device of these bytes from being opened
-abbrev pub IsUnopened : List ℕ → Refusal → Type 0
-IsUnopened c why = IsCauseToStop c (Unit {0}) why ⊎ IsLate why
-
--- why so many scripts are not served to it: there are too many, and only then that is the cause
+-- Why so many scripts are not served to a device of these bytes: there are too many, and only then that is the cause;
+-- or it is not opened, for its cause; or serving ended late, of bytes of which a restart makes pages.
 pub data IsUnserved (c : List ℕ) (count : ℕ) : Refusal → Type 0 where
   too_many : MAX_SESSIONS < count → IsUnserved c count refusal.BadLength
-  cut_short : (why : Refusal) → count ≤ MAX_SESSIONS → IsUnopened c why → IsUnserved c count why
+  unopened : (why : Refusal) → count ≤ MAX_SESSIONS → IsUnshared c (Unit {0}) why → IsUnserved c count why
+  cut_short : (why : Refusal) → count ≤ MAX_SESSIONS → IsRestorable c → IsLate why → IsUnserved c count why

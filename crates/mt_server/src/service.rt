@@ -4,7 +4,7 @@ ghost use Rattle.mt_base.specs.declared.limits.TheConstants.{MAX_SESSIONS};
 ghost use mathlib.Core.List.{IsPrefix};
 ghost use Rattle.mt_mark.specs.Rule.{dones};
 ghost use Rattle.mt_model.specs.declared.history.Committed.{Committed};
-ghost use Rattle.mt_server.specs.Crews.{IsBlank, IsBoard};
+ghost use Rattle.mt_server.specs.Crews.{IsBoard};
 ghost use Rattle.mt_server.specs.Heard.{AreReported};
 ghost use Rattle.mt_server.specs.Serves.{IsLate, IsOpenedWith, IsServedOn, IsUnserved};
 ghost use Rattle.mt_shared.specs.Opens.{HasBegunWith};
@@ -102,13 +102,11 @@ fn serve_named<
     opened: Opened<D>,
     frames: usize,
     scripts: &[Script],
-    board: Board,
     gate: G,
 ) -> Result<Served<D>, Refusal>
     requires name { (opened.mark ≡ J.mark) × (opened.base ≡ J.base) × (opened.book ≡ J.book) }
     requires first { opened.book ≡ [] }
     requires few { length scripts.now ≤ MAX_SESSIONS }
-    requires blank { IsBlank (length scripts.now) board }
     ensures outcome { IfOk result (λ s.
         AreReported (is_failed s.kernel) (map lines_in scripts.now) s.transcripts.items (kernel_book s.kernel)) }
     ensures began { IfOk result (λ s. BeganOn opened.base s.kernel) }
@@ -123,7 +121,10 @@ fn serve_named<
             return Err(Refusal::NoMemory);
         }
     };
-    let mut board = board;
+    let Ok(mut board) = blank(alloc, scripts.len()) else {
+        give_up(shared);
+        return Err(Refusal::NoMemory);
+    };
     let done = match crew(rt, alloc, &shared, frames, scripts, passes) {
         Ok(done) => done,
         Err(_) => {
@@ -179,9 +180,6 @@ pub fn serve<D: Device + Drop + Send, G: Gate + Drop + Send + Sync, R: Threads +
     if scripts.len() > MAX_SESSIONS {
         return Err(Refusal::BadLength);
     }
-    let Ok(board) = blank(alloc, scripts.len()) else {
-        return Err(Refusal::NoMemory);
-    };
     let opened = match Opened::open(alloc, device, frames, workers.clamp(1, MAX_SESSIONS)) {
         Ok(opened) => opened,
         Err((why, device)) => {
@@ -189,5 +187,5 @@ pub fn serve<D: Device + Drop + Send, G: Gate + Drop + Send + Sync, R: Threads +
             return Err(why);
         }
     };
-    serve_named::<D, G, Brand, R>(rt, alloc, opened, frames, scripts.as_slice(), board, gate)
+    serve_named::<D, G, Brand, R>(rt, alloc, opened, frames, scripts.as_slice(), gate)
 }

@@ -1,8 +1,7 @@
 -- A device that is opened to be shared.
-use Rattle.std.specs.Prelude.{ℕ, ◌≡◌, ◌⊎◌, List, All, length, ⊤}
+use Rattle.std.specs.Prelude.{ℕ, ◌≡◌, List, All, length}
 use Rattle.atomic_table.specs.Seated.{TableId}
 use Rattle.mt_base.specs.declared.refusal.Refusal.{Refusal}
-use Rattle.mt_base.specs.declared.refusal.Refusal.TheVariants as refusal
 use Rattle.mt_disk.specs.declared.device.Device.{Ghosts}
 use Rattle.mt_locked.specs.Began.{BeganOn}
 use Rattle.mt_locked.specs.Seen.{Beside}
@@ -13,7 +12,8 @@ use Rattle.mt_model.specs.Views.{base_of}
 use Rattle.mt_model.specs.declared.history.Committed.{Committed}
 use Rattle.mt_model.specs.declared.tables.Base.{Base}
 use Rattle.mt_replay.specs.Stands.{CanRestart}
-use Rattle.mt_restart.specs.Recovered.{IsCauseToStop}
+use Rattle.mt_restart.specs.Recovered.{AreRestored, IsCauseToStop}
+use Rattle.mt_restart.specs.Resumed.{IsRefusedRightly}
 use Rattle.mt_steps.specs.Listed.{IsSame}
 use Rattle.mt_txn.specs.Seen.{KernelSeen}
 use Rattle.mt_txn.specs.Shown.{kernel_frames}
@@ -25,15 +25,15 @@ abbrev pub IsBaseOf : List ℕ → Base → Type 0
 IsBaseOf c first =
     (relations counters : ℕ) (b : model.Base) → CanRestart relations counters c b → IsSame counters (base_of first) b
 
--- 1 or 2
-abbrev pub IsUnmarked : Refusal → Type 0
-IsUnmarked refusal.NoMemory = ⊤
-IsUnmarked refusal.DeviceFailed = ⊤
-IsUnmarked _ = ⊥
+-- a restart in memory makes pages of these bytes
+abbrev pub IsRestorable : List ℕ → Type 0
+IsRestorable c = (items : List (List ℕ)) × AreRestored c items
 
--- or what keeps a device of these bytes from being opened
-abbrev pub IsUnshared : List ℕ → Refusal → Type 0
-IsUnshared c why = IsCauseToStop c ⊤ why ⊎ IsUnmarked why
+-- Why a device of these bytes is not opened, in a call in which it failed or did not: the cause is theirs, or memory
+-- was wanting. Those that are not formatted, or are of another format, are reported so.
+pub record IsUnshared (c : List ℕ) (failed : Type 0) (why : Refusal) : Type 0 where
+  pub cause : IsCauseToStop c failed why
+  pub rightly : IsRefusedRightly c why
 
 -- a kernel with so many pages in frames began on this base
 abbrev pub HasBegunWith : {D : Type 0} → Ghosts D → ℕ → Base → Type 0

@@ -3,7 +3,7 @@
 ghost use Rattle.std.specs.Prelude.{◌≡◌, ◌≢◌, ◌↔◌, None, IfOk, IfErr, OnOk, OnErr, IfSome};
 ghost use Rattle.mt_base.specs.declared.refusal.Refusal.TheVariants.{DeviceFailed, NoMemory, Stranger};
 ghost use Rattle.mt_model.specs.declared.operations.Reply.{Reply};
-ghost use Rattle.mt_locked.specs.Refusals.{IsAbortRefusal, IsBeginRefusal, IsCommitRefusal, IsStepRefusal};
+ghost use Rattle.mt_locked.specs.Refusals.{IsAbortRefusal, IsBeginRefusal, IsCommitRefusal};
 ghost use Rattle.mt_locked.specs.Seen.{Extends, fresh, with_call};
 ghost use Rattle.mt_txn.specs.Causes.{IsCallRefusal, size_cause};
 
@@ -29,9 +29,9 @@ const STEPS: u64 = 64;
 /// operations is begun and run, and its commit appended, in one hold of the lock.
 ///
 /// The lock is given back after as many calls, after 64 steps of one operation, while a call waits or a force is made,
-/// at the end of a transaction, if a call is refused, and if this is dropped. It is not kept if the observer wants to be
-/// called at a point before a transaction's end. All others wait for it meanwhile, so who keeps it makes its next call
-/// soon, or gives it back. The calls answer what those of [`Shared`] of the same names answer.
+/// at the end of a transaction, if a call is refused, and if this is dropped. It is not kept if the observer wants to
+/// be called at a point before a transaction's end. All others wait for it meanwhile, so who keeps it makes its next
+/// call soon, or gives it back. The calls answer what those of [`Shared`] of the same names answer.
 pub struct Hold<'a, D: Device, G: Gate + Drop, J: Naming> {
     shared: &'a Shared<D, G, J>,
     locked: Option<MutexGuard<'a, Locked<D, J>>>,
@@ -218,7 +218,8 @@ impl<'a, D: Device, G: Gate + Drop, J: Naming> Hold<'a, D, G, J> {
         unreachable!()
     }
 
-    // The reply of an operation that is under way.
+    // The reply of an operation that has started. It is asked again after want of memory, and so is never refused with
+    // 1.
     fn stepped<R: Wait>(
         &mut self,
         rt: &R,
@@ -226,7 +227,7 @@ impl<'a, D: Device, G: Gate + Drop, J: Naming> Hold<'a, D, G, J> {
         number: TxnNo,
         session: u32,
     ) -> Result<Reply, Refusal>
-        ensures { IfErr result IsStepRefusal }
+        ensures { IfErr result IsAbortRefusal }
     {
         let mut locked = locked;
         let mut steps: u64 = 0;

@@ -10,7 +10,7 @@ ghost use Rattle.mt_restart.specs.Frames.{IsFrameCount};
 ghost use Rattle.mt_restart.specs.Recovered.{StandsStill};
 ghost use Rattle.mt_restart.specs.Resumed.{HasTurnedOver};
 ghost use Rattle.mt_locked.specs.Began.{BeganOn};
-ghost use Rattle.mt_shared.specs.Opens.{HasBegunWith, IsBaseOf, IsMarked, IsUnshared};
+ghost use Rattle.mt_shared.specs.Opens.{HasBegunWith, IsBaseOf, IsMarked, IsRestorable, IsUnshared};
 ghost use Rattle.mt_locked.specs.Seen.{PassSeen};
 ghost use Rattle.mt_locked.specs.Whole.{IsNew};
 ghost use Rattle.mt_core.specs.Seen.{core_device};
@@ -22,6 +22,7 @@ use crate::gate::Gate;
 use crate::shared::Shared;
 use mt_base::Refusal;
 use mt_disk::Device;
+use mt_frame::slots_are_read_back;
 use mt_locked::{Locked, Naming, Pass, passes_of};
 use mt_mark::{About, End, Seat};
 use mt_model::{Base, Committed};
@@ -122,7 +123,8 @@ impl<D: Device + Drop> Opened<D> {
     /// of so many passes. The history is empty, and begins on the base that the bytes represented.
     ///
     /// Refused as [`open_with_base`], and with 1 if the mark finds no memory. A refusal is 2 if and only if the device
-    /// failed in this call. The device is handed back, and represents what it did before, unless it failed.
+    /// failed in this call. Bytes that are not formatted are refused with 3, unless it failed. The device is handed
+    /// back, and represents what it did before, unless it failed.
     pub fn open(
         alloc: Global,
         device: D,
@@ -135,6 +137,7 @@ impl<D: Device + Drop> Opened<D> {
         ensures first { IfOk result (λ opened. opened.book ≡ []) }
         ensures many { IfOk result (λ opened. opened.count ≡ count) }
         ensures frames { IfOk result (λ opened. opened.frames ≡ frames) }
+        ensures restored { IfOk result (λ _. IsRestorable (D.seen device)) }
         // The log turns over once.
         ensures once { IfOk result (λ opened. HasTurnedOver (D.seen device) opened.kernel.core) }
         // Whenever a crash comes in this call, it leaves what it might have left before, or what represents the same.
@@ -144,8 +147,8 @@ impl<D: Device + Drop> Opened<D> {
             (StandsStill D.Device relations counters b device))
             (λ gone. LeavesOnly D.moment D.left_since device gone.1
             (StandsStill D.Device relations counters b device)) }
-        ensures refused { IfErr result (λ gone. IsUnshared (D.seen device) gone.0) }
-        ensures failed { IfErr result (λ gone. gone.0 ≡ Refusal.DeviceFailed → D.faults device < D.faults gone.1) }
+        ensures refused { IfErr result (λ gone.
+            IsUnshared (D.seen device) (D.faults device < D.faults gone.1) gone.0) }
         // Whatever a crash leaves of the device then, it represents what it did before.
         ensures settled { (relations counters : ℕ) (b : ModelBase) → CanRestart relations counters (D.seen device) b
             → IfErr result (λ gone. (gone.0 ≡ Refusal.DeviceFailed → ⊥) → (c : List ℕ) → D.may_leave gone.1 c
@@ -154,6 +157,7 @@ impl<D: Device + Drop> Opened<D> {
         ensures quiet { MatchResult result (λ opened. D.faults (core_device opened.kernel.core) ≡ D.faults device)
             (λ gone. (gone.0 ≡ Refusal.DeviceFailed → ⊥) → D.faults gone.1 ≡ D.faults device) }
     {
+        slots_are_read_back();
         let (kernel, base) = match open_with_base(alloc, device, frames) {
             Ok(opened) => opened,
             Err((why, device)) => return Err((why, device)),

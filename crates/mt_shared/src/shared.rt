@@ -7,7 +7,7 @@ ghost use Rattle.mt_mark.specs.Rule.{dones};
 ghost use Rattle.mt_model.specs.declared.history.Committed.{Committed};
 ghost use Rattle.mt_model.specs.declared.operations.Reply.{Reply};
 ghost use Rattle.mt_locked.specs.Began.{BeganOn, IsIdle};
-ghost use Rattle.mt_locked.specs.Refusals.{IsAbortRefusal, IsBeginRefusal, IsCloseRefusal, IsCommitRefusal};
+ghost use Rattle.mt_locked.specs.Refusals.{IsAbortRefusal, IsBeginRefusal, IsCloseRefusal, IsCommitRefusal, IsRoomRefusal};
 ghost use Rattle.mt_restart.specs.TurnFaults.{IsTurnFault};
 ghost use Rattle.mt_shared.specs.Refusals.{IsTurnRefusal};
 ghost use Rattle.mt_locked.specs.Seen.{PassSeen, Extends, Looked, fresh, with_call};
@@ -202,7 +202,9 @@ impl<D: Device, G: Gate + Drop, J: Naming> Shared<D, G, J> {
     /// for who wants all that was appended to be durable, and the frames free, before many pages are read.
     ///
     /// Refused: 2 if the device has failed or fails in this call; 1 for want of memory.
-    pub fn tend<R: Wait>(&self, rt: &R) -> Result<Tended, Refusal> {
+    pub fn tend<R: Wait>(&self, rt: &R) -> Result<Tended, Refusal>
+        ensures why { IfErr result IsRoomRefusal }
+    {
         let mut locked = self.locked.lock(rt);
         if locked.is_committing() {
             return self.flushed(locked);
@@ -219,7 +221,9 @@ impl<D: Device, G: Gate + Drop, J: Naming> Shared<D, G, J> {
     }
 
     // Flushes a page, if one can be flushed.
-    fn flushed(&self, mut locked: MutexGuard<'_, Locked<D, J>>) -> Result<Tended, Refusal> {
+    fn flushed(&self, mut locked: MutexGuard<'_, Locked<D, J>>) -> Result<Tended, Refusal>
+        ensures { IfErr result IsRoomRefusal }
+    {
         match locked.flush_step() {
             Ok(Flushed::Page(_)) => Ok(Tended::Worked),
             Ok(_) => Ok(Tended::Idle),
@@ -386,6 +390,12 @@ impl<D: Device, G: Gate + Drop, J: Naming> Shared<D, G, J> {
         ensures why { IfErr result (λ c. IsCloseRefusal c.why) }
         ensures back { IfErr result (λ c. c.passes.items ≡ passes.items) }
     {
+        let mut shared = self;
+        if shared.locked.get_mut().has_all(passes.as_slice())
+            && passes.iter().any(|p| p.is_busy())
+        {
+            return Err(shared.still_open(Refusal::Busy, passes));
+        }
         let Shared {
             locked,
             moved,
@@ -393,7 +403,7 @@ impl<D: Device, G: Gate + Drop, J: Naming> Shared<D, G, J> {
             due,
             gate,
             wanted,
-        } = self;
+        } = shared;
         match locked.into_inner().close(passes) {
             Ok(kernel) => Ok(kernel),
             Err(

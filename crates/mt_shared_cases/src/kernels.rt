@@ -130,7 +130,7 @@ pub fn reported_behind<J: Naming>(
     }
 }
 
-// Drops what is shared.
-fn give_up<J: Naming>(shared: Memory<J>) {
+/// Drops what is shared.
+pub fn give_up<J: Naming>(shared: Memory<J>) {
     drop(shared.abandon());
 }

@@ -15,10 +15,10 @@ use Rattle.mt_model.specs.declared.counters.Count.{Count}
 use Rattle.mt_model.specs.declared.operations.Op.TheVariants.{Add, Read}
 use Rattle.mt_model.specs.declared.operations.Reply.TheVariants.{Done, OutOfBounds, Value}
 use Rattle.mt_model.specs.Model.{Base, moved, stays, added, alter_count}
-use Rattle.mt_steps.specs.Counters.{place_of, count_in, AreCounters}
+use Rattle.mt_counters.specs.Counters.{place_of, count_in, AreCounters}
 use Rattle.mt_steps.specs.Held.{Holds, AreRows}
 use Rattle.mt_steps.specs.Acts.{IsAct}
-use Rattle.mt_steps.proofs.Numbers.{count_apart}
+use Rattle.mt_counters.proofs.Numbers.{count_apart}
 use Rattle.mt_steps.proofs.Apart.{StaysFile, records_stay, file_stays, within_stays}
 use Rattle.mt_steps.proofs.Acting.{named_same, rows_same}
 
@@ -48,8 +48,9 @@ file_kept relations total pages m new rows = record {
   bytes = λ p three. other_page pages new p (two_fixed total pages rows.map) (λ z. let a : kind pages p ≡ 1 = z in let b : kind pages p ≡ 3 = three in omega (arith, a, b));
 }
 
-adds_good : (relations total : ℕ) (pages : PageBytes) (m : Map) (new : List ℕ) → AreRows relations total pages m → AreRows relations total (replaced 2 new pages) m
-adds_good relations total pages m new rows =
+-- the rows stay, and the index with them
+pub rows_stay : (relations total : ℕ) (pages : PageBytes) (m : Map) (new : List ℕ) → AreRows relations total pages m → AreRows relations total (replaced 2 new pages) m
+rows_stay relations total pages m new rows =
     let kept = file_kept relations total pages m new rows in
     record {
       file = file_stays pages (replaced 2 new pages) kept rows.file;
@@ -76,7 +77,7 @@ adds_done relations total pages m c counters d new rows there a fits here torn k
     counts = λ k lt. counted b held k (as_reported k lt) (cases k);
   };
   meaning = m;
-  good = adds_good relations total pages m new rows;
+  good = rows_stay relations total pages m new rows;
   counters = λ n old. subst (λ (page : List ℕ). AreCounters relations n page) (sym at_two) (kept relations n old);
 }
   where

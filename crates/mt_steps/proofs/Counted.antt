@@ -11,7 +11,7 @@ use Rattle.mt_index.specs.Answers.{Stays}
 use Rattle.mt_model.specs.declared.operations.Op.{Op}
 use Rattle.mt_model.specs.declared.operations.Reply.{Reply}
 use Rattle.mt_model.specs.Model.{Base, reply_of, base_after}
-use Rattle.mt_steps.specs.Counters.{count_in, AreCounters}
+use Rattle.mt_counters.specs.Counters.{count_in, AreCounters}
 use Rattle.mt_steps.specs.Held.{HoldsRows, AreRows}
 use Rattle.mt_steps.specs.Acts.{IsAct}
 

@@ -1,13 +1,13 @@
 mod Rows
 mod Apart
 mod Acting
-pub mod Numbers
 pub mod Overlaid
 mod Entering
 mod Leaving
 mod Shifting
 mod Counted
 mod Adding
+pub mod Extending
 pub mod Picking
 pub mod Repeating
 pub mod Ranged

@@ -13,7 +13,7 @@ use Rattle.mt_slots.proofs.Pages.{slot_past}
 use Rattle.mt_slots.specs.Page.{Row, count, slot}
 use Rattle.mt_space.specs.Changes.{PageBytes}
 use Rattle.mt_space.specs.Kinds.{kind}
-use Rattle.mt_steps.specs.Counters.{count_in}
+use Rattle.mt_counters.specs.Counters.{count_in}
 use Rattle.mt_steps.specs.Held.{HoldsRows, IsThere}
 use Rattle.mt_steps.specs.Listed.{AreBounds, HasListed}
 

@@ -7,7 +7,7 @@ use Rattle.mt_index.specs.Maps.{Map}
 use Rattle.mt_model.specs.declared.operations.Op.{Op}
 use Rattle.mt_model.specs.declared.operations.Reply.{Reply}
 use Rattle.mt_model.specs.Model.{Base}
-use Rattle.mt_steps.specs.Counters.{count_in, AreCounters}
+use Rattle.mt_counters.specs.Counters.{count_in, AreCounters}
 use Rattle.mt_steps.specs.Held.{Holds, AreRows}
 use Rattle.mt_steps.specs.declared.act.Act.{Act}
 use Rattle.mt_steps.specs.declared.act.Act.TheVariants as act

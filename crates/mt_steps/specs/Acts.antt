@@ -1,5 +1,5 @@
 -- What the plan of an operation answers.
-use Rattle.mt_steps.specs.Counters.{AreCounters}
+use Rattle.mt_counters.specs.Counters.{AreCounters}
 use Rattle.std.specs.Prelude.{◌≡◌, ◌⊎◌, ◌<◌, ℕ, List, Option, Some}
 use Rattle.mt_base.specs.declared.modes.Mode.{Mode}
 use Rattle.mt_base.specs.declared.numbers.RecordName.{RecordName}

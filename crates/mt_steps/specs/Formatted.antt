@@ -7,7 +7,7 @@ use Rattle.mt_space.specs.Kinds.{kind, IsMap}
 use Rattle.mt_index.specs.Pages.{IsDirectory, IsEmpty}
 use Rattle.mt_rows.proofs.Listings.{listed}
 use Rattle.mt_model.specs.Model.{Base}
-use Rattle.mt_steps.specs.Counters.{count_in, AreCounters}
+use Rattle.mt_counters.specs.Counters.{count_in, AreCounters}
 
 -- an index without entries, no page of records, and the counters on page 2
 pub record IsFormatted (relations counters total : ℕ) (pages : PageBytes) : Type 0 where

@@ -1,5 +1,5 @@
 -- What all pages together represent.
-use Rattle.mt_steps.specs.Counters.{count_in}
+use Rattle.mt_counters.specs.Counters.{count_in}
 use Rattle.mt_space.specs.Kinds.{IsMap}
 use Rattle.std.specs.Prelude.{◌≡◌, ℕ, List, Some, ◌<◌, get_or}
 use Rattle.mt_base.specs.declared.limits.TheConstants.{MAX_VALUE_BYTES}

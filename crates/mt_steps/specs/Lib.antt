@@ -1,7 +1,6 @@
 pub mod Held
 pub mod Listed
 pub mod Acts
-pub mod Counters
 pub mod Overlays
 pub mod Plans
 pub mod Asks

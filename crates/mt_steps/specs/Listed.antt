@@ -5,7 +5,7 @@ use Rattle.mt_model.specs.Model.{Base}
 use Rattle.mt_model.specs.Tables.{started}
 use Rattle.mt_slots.specs.Page.{Row}
 use Rattle.mt_space.specs.Changes.{PageBytes}
-use Rattle.mt_steps.specs.Counters.{count_in}
+use Rattle.mt_counters.specs.Counters.{count_in}
 use Rattle.mt_steps.specs.Held.{IsThere}
 
 -- the bounds and numbers of a page's first counters

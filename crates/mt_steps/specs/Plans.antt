@@ -18,7 +18,7 @@ use Rattle.mt_model.specs.declared.operations.Op.{Op}
 use Rattle.mt_model.specs.declared.operations.Op.TheVariants.{Get, Insert, Update, Delete, Read, Scan}
 use Rattle.mt_model.specs.declared.operations.Reply.{Reply}
 use Rattle.mt_model.specs.Model.{Base, IsWithin, reply_of, base_after}
-use Rattle.mt_steps.specs.Counters.{AreCounters}
+use Rattle.mt_counters.specs.Counters.{AreCounters}
 use Rattle.mt_steps.specs.Held.{Holds, AreRows}
 use Rattle.mt_steps.specs.Logged.{HasSmallReply}
 

@@ -7,8 +7,8 @@ ghost use Rattle.mt_steps.specs.Acts.{HasCounters};
 ghost use Rattle.mt_steps.specs.Planners.{PlansAdd, PlansRead};
 
 use crate::act::Act;
-use crate::counters::{add, counter, number_bytes};
 use mt_base::{CtrNo, Mode, PageNo};
+use mt_counters::{add, counter, number_bytes};
 use mt_model::Reply;
 use mt_space::pages::COUNTERS;
 use mt_space::{Changes, Pages};

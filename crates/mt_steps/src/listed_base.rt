@@ -7,13 +7,13 @@ ghost use Rattle.mt_model.specs.Views.{base_of, counters_of, relations_of};
 ghost use Rattle.mt_slots.specs.Page.{Fits, IsPage};
 ghost use Rattle.mt_space.specs.Changes.{PageBytes};
 ghost use Rattle.mt_space.specs.Kinds.{kind};
-ghost use Rattle.mt_steps.specs.Counters.{count_in, AreCounters};
+ghost use Rattle.mt_counters.specs.Counters.{count_in, AreCounters};
 ghost use Rattle.mt_steps.specs.Held.{HoldsRows};
 ghost use Rattle.mt_steps.specs.Listed.{AreBounds, HasListed};
 
-use crate::counters::{counter, sizes};
 use mt_base::ranges::u16_at;
 use mt_base::{Bytes, CtrNo, Refusal};
+use mt_counters::{counter, sizes};
 use mt_model::{Base, Op};
 use mt_slots::{RecordView, get};
 use std::alloc::{AllocError, Global};

@@ -1,10 +1,10 @@
 // The plan of a scan: the index names the records of a relation, and their pages have its rows. Nothing changes.
-ghost use Rattle.std.specs.Prelude.{◌≡◌, ℕ, None, Contains, IfSome};
+ghost use Rattle.std.specs.Prelude.{◌≡◌, ℕ, None, Contains, IfNone, IfSome, length};
 ghost use Rattle.mt_index.specs.Answers.{InMaps};
 ghost use Rattle.mt_index.specs.Names.{AreNames, AreNamesOnce};
 ghost use Rattle.mt_steps.specs.Acts.{HasGood};
 ghost use Rattle.mt_steps.specs.Planners.{PlansScan};
-ghost use Rattle.mt_steps.specs.Scanned.{IsScannedTo};
+ghost use Rattle.mt_steps.specs.Scanned.{AreReady, IsScannedTo};
 
 use crate::act::Act;
 use crate::scan_progress::ScanProgress;
@@ -85,6 +85,9 @@ fn first_missing<V: Pages>(views: &V, names: &[RecordName], ready: &mut usize) -
     requires sound { V.is_sound views.now }
     ensures missing { IfSome result (λ p. V.at_hand views.now p ≡ None) }
     ensures named { IfSome result (λ p. (s : ℕ) × Contains names.now (record { page = p; slot = s })) }
+    // Up to where it has moved the place no page is missing. If it answers none, that is the end of the names.
+    ensures ready { AreReady (V.at_hand views.now) names.now ready.old ready.new }
+    ensures none { IfNone result (ready.new ≡ length names.now) }
 {
     let mut seen = [false; MAX_PAGES as usize];
     for i in *ready..names.len() {

@@ -11,7 +11,10 @@ use Rattle.mt_frame.specs.declared.records.Record.{Record}
 use Rattle.mt_frame.specs.declared.slots.MasterSlot.{MasterSlot}
 use Rattle.mt_live.specs.Machine.{State}
 use Rattle.mt_log.specs.Batch.{joined}
-use Rattle.mt_log.specs.Holds.{HoldsBatches}
+use Rattle.mt_base.specs.declared.format.Format.{Format}
+use Rattle.mt_base.specs.declared.format.Format.TheVariants.{One, Two}
+use Rattle.mt_log.proofs.Values.{batches_of_two}
+use Rattle.mt_log.specs.Holds.{AreBatchesOf, HoldsBatches}
 use Rattle.mt_log.specs.declared.log.Forced.{Forced}
 use Rattle.mt_log.specs.declared.log.Forced.TheVariants as forced
 use Rattle.mt_log.specs.declared.log.Log.{Log}
@@ -145,6 +148,7 @@ module _ {D : Type 0} (g : Ghosts D) where
           read = record {
             rules = rules;
             held = subst (λ (X : Type 0). X) (λ i. HoldsBatches c (sym names.start i) (sym names.end i) (sym names.count i) e.batches) e.held;
+            of_its_format = subst (λ (f : Format). AreBatchesOf f e.batches) (sym names.second) (batches_of_two _ e.batches e.held.each);
             gives = subst (λ (X : Type 0). X) (λ i. GivesPages (names.place i) (sym names.count i) origin.pages (carried front) c) e.gives;
           };
           first = origin.begun;
@@ -152,7 +156,7 @@ module _ {D : Type 0} (g : Ghosts D) where
           bounds = x.bounds;
           is = refl;
         } in
-        record { stands = stands; fits = schema; recoverable = mine }
+        record { stands = stands; is_of = names.second; fits = schema; recoverable = mine; short = λ first. absurd (let both : Two ≡ One = sym names.second ∙ first in cc) }
 
     found : (k : Core D) (origin : Origin) (base : Base) (c : List ℕ) → IsRestartableOn g relations counters first origin base k → Explains origin.pages k.operations.store c → IsRelationCount relations → FindsCommits relations counters first k c
     found k origin base c x e schema =

@@ -12,7 +12,7 @@ use Rattle.mt_pool.specs.declared.flushes.Flushed.{Flushed}
 use Rattle.mt_pool.specs.declared.flushes.Flushed.TheVariants as flushed
 use Rattle.mt_txn.specs.PageLocks.{AbortsLocks, OfRunning, StepsLocks}
 use Rattle.mt_txn.specs.Shown.{kernel_log, kernel_page_locks, kernel_pool, kernel_ruling}
-use Rattle.mt_txn.specs.Words.{CommitsStay, FrameIsWanted, RunningStays, StateIsSet, StatesStay, StatesStayBut, UncommittedStay, UndoStays, kernel_abort_cause, kernel_commits, kernel_is_busy, kernel_members, kernel_running, kernel_state, kernel_step_cause, kernel_steps, kernel_undo_steps}
+use Rattle.mt_txn.specs.Words.{CommitsStay, FrameIsWanted, NumbersStay, RunningStays, StateIsSet, StatesStay, StatesStayBut, UncommittedStay, UndoStays, kernel_abort_cause, kernel_commits, kernel_is_busy, kernel_last, kernel_members, kernel_running, kernel_state, kernel_step_cause, kernel_steps, kernel_undo_steps}
 use Rattle.mt_txn.specs.Work.{IsAbortForOther, IsForOther, LowersAbort, LowersSteps}
 use Rattle.mt_txn.specs.Writes.{WritesOnePage}
 use Rattle.mt_txn.specs.declared.answers.AbortStepped.{AbortStepped}
@@ -34,12 +34,14 @@ module _ {D : Type 0} {g : Ghosts D} where
     pub locks : kernel_step_cause k t ≡ None
         → OfRunning (kernel_running k) t (λ r. StepsLocks k.core n.core r result)
 
-  -- It appends the records of one page, or its end, at most; what is durable, transactions and commits stay.
+  -- It appends the records of one page, or its end, at most, and takes no number; what is durable, transactions and
+  -- commits stay.
   pub record LeavesStep (k : Kernel D g) (result : Result Stepped Refusal) (n : Kernel D g) : Type 0 where
     pub writes : WritesOnePage (appended (kernel_log k)) (appended (kernel_log n)) result
     pub durable : durable (kernel_log n) ≡ durable (kernel_log k)
     pub states : StatesStay k n
     pub commits : CommitsStay k n
+    pub numbers : NumbersStay k n
 
   -- ---- a step of the abort of t
 
@@ -53,13 +55,17 @@ module _ {D : Type 0} {g : Ghosts D} where
         → OfRunning (kernel_running k) t (λ r. AbortsLocks k.core n.core r result)
     pub idle : kernel_is_busy k t ≡ false → kernel_page_locks n ≡ kernel_page_locks k
 
-  -- The transaction lives no more once its abort ends; the others, the commits and what is durable stay.
+  -- The transaction lives no more once its abort ends; the others, the commits and what is durable stay. It takes a
+  -- number if it begins an inverse, and else none.
   pub record LeavesAbort (k : Kernel D g) (t : ℕ) (result : Result AbortStepped Refusal) (n : Kernel D g) : Type 0 where
     pub states : IfOk result (λ stepped. stepped ≢ abort.Ended → StatesStay k n)
     pub out : result ≡ Ok abort.Ended → (kernel_state n t ≡ None) × StatesStayBut k n t
     pub err_states : OnErr result (StatesStay k n)
     pub durable : durable (kernel_log n) ≡ durable (kernel_log k)
     pub commits : CommitsStay k n
+    pub numbers : kernel_is_busy k t ≡ true → NumbersStay k n
+    pub numbered : kernel_is_busy k t ≡ false → result ≡ Ok abort.More → kernel_last n ≡ kernel_last k + 1
+    pub unnumbered : result ≢ Ok abort.More → NumbersStay k n
 
   -- ---- the beginning of the commit of t
 
@@ -80,6 +86,7 @@ module _ {D : Type 0} {g : Ghosts D} where
     pub ruling : kernel_ruling n ≡ kernel_ruling k
     pub appended : appended (kernel_log n) ≡ appended (kernel_log k)
     pub running : RunningStays k n
+    pub numbers : NumbersStay k n
     pub states : UncommittedStay k n
     pub undo : UndoStays k n
     pub err : OnErr result (StatesStay k n × CommitsStay k n)

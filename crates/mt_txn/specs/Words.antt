@@ -1,9 +1,9 @@
 -- Words for what a kernel has, why it refuses, and what stays of it, for whoever need not know where that lies.
-use Rattle.std.specs.Prelude.{ℕ, Bool, List, Option}
+use Rattle.std.specs.Prelude.{ℕ, ◌≡◌, Bool, List, Option}
 use Rattle.mt_base.specs.declared.refusal.Refusal.{Refusal}
 use Rattle.mt_core.specs.Consistent.{SameCommits, SameRunning, SameStates, SameStatesBut, SameUncommitted, SetsState}
 use Rattle.mt_core.specs.Runs.{state_in}
-use Rattle.mt_core.specs.Seen.{core_commits, core_holds, core_store}
+use Rattle.mt_core.specs.Seen.{core_commits, core_holds, core_last, core_store}
 use Rattle.mt_core.specs.Steps.{WantsFrame}
 use Rattle.mt_core.specs.Work.{LeavesUndo, steps_in, undo_steps}
 use Rattle.mt_core.specs.declared.parts.Commit.{Commit}
@@ -67,6 +67,10 @@ kernel_steps k t = steps_in k.core.running.items t
 abbrev pub kernel_undo_steps : {D : Type 0} → {g : Ghosts D} → Kernel D g → ℕ → ℕ
 kernel_undo_steps k t = undo_steps k.core t
 
+-- the number of the last operation that began
+abbrev pub kernel_last : {D : Type 0} → {g : Ghosts D} → Kernel D g → ℕ
+kernel_last k = core_last k.core
+
 -- ---- why a call is refused before locks, escrow, pages and log are asked, if it is
 
 abbrev pub kernel_begin_cause : {D : Type 0} → {g : Ghosts D} → Kernel D g → Option Refusal
@@ -123,6 +127,10 @@ RunningStays k n = SameRunning k.core n.core
 
 abbrev pub UndoStays : {D : Type 0} → {g : Ghosts D} → Kernel D g → Kernel D g → Type 0
 UndoStays k n = LeavesUndo k.core n.core
+
+-- no operation has begun, so none has taken a number
+abbrev pub NumbersStay : {D : Type 0} → {g : Ghosts D} → Kernel D g → Kernel D g → Type 0
+NumbersStay k n = kernel_last n ≡ kernel_last k
 
 -- a page is to be flushed before a frame is free
 abbrev pub FrameIsWanted : {D : Type 0} → {g : Ghosts D} → Kernel D g → Kernel D g → Type 0

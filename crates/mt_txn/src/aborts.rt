@@ -1,6 +1,6 @@
 // Aborts: an operation under way is taken back, and each effect is undone by its inverse, the last one first.
 // A call makes one step of it, by the core.
-ghost use Rattle.std.specs.Prelude.{◌≡◌, ◌≢◌, ◌⊎◌, ◌<◌, ◌≤◌, length, All, IfErr, OnOk, OnErr, None, Some, Err, true};
+ghost use Rattle.std.specs.Prelude.{◌≡◌, ◌≢◌, ◌⊎◌, ◌<◌, ◌≤◌, ◌+◌, length, All, IfErr, OnOk, OnErr, None, Some, Ok, Err, true};
 ghost use Rattle.mt_base.specs.declared.refusal.Refusal.{Refusal};
 ghost use Rattle.mt_live.specs.Machine.{State};
 ghost use Rattle.mt_model.specs.Model.{Base};
@@ -16,7 +16,7 @@ ghost use Rattle.mt_txn.specs.Shown.{FailsForGood, SameSchema, Shows, Stays, Sta
 ghost use Rattle.mt_txn.specs.Work.{IsAbortReportedAs};
 ghost use Rattle.mt_txn.specs.Shown.{CallsOnce, LeavesFound};
 ghost use Rattle.mt_txn.specs.PageLocks.{AbortsLocks};
-ghost use Rattle.mt_txn.specs.Words.{kernel_state, kernel_running, kernel_undo_steps, kernel_open_cause, kernel_abort_cause, IsKernelFault, StateIsSet, CommitsStay, RunningStays};
+ghost use Rattle.mt_txn.specs.Words.{kernel_state, kernel_running, kernel_undo_steps, kernel_open_cause, kernel_abort_cause, kernel_last, IsKernelFault, StateIsSet, CommitsStay, NumbersStay, RunningStays};
 ghost use Rattle.mt_op.specs.World.{undoes_of};
 
 use crate::answers::AbortStepped;
@@ -39,6 +39,7 @@ impl<D: Device> Kernel<D> {
         ensures state { Stays self.old self.new }
         ensures aborts { OnOk result (StateIsSet self.old self.new txn (Some Aborting)) }
         ensures running { RunningStays self.old self.new }
+        ensures numbers { NumbersStay self.old self.new }
         ensures commits { CommitsStay self.old self.new }
         ensures device { kernel_device self.new ≡ kernel_device self.old }
         ensures work { OnOk result (kernel_undo_steps self.new txn ≤ most_steps self.old.core txn) }
@@ -63,6 +64,7 @@ impl<D: Device> Kernel<D> {
         requires aborting { kernel_state self.old txn ≡ Some Aborting }
         ensures steps { StepsAbort self.old txn result self.new }
         ensures marks { self.new.failed ≡ true → result ≡ Err Refusal.DeviceFailed }
+        ensures numbers { NumbersStay self.old self.new }
         ensures locks { AtPlace (kernel_running self.old) place
             (λ r. AbortsLocks self.old.core self.new.core r result) }
     {
@@ -82,6 +84,7 @@ impl<D: Device> Kernel<D> {
             (λ r. (r.txn ≡ txn) × (undoes_of r ≢ 0)) }
         ensures steps { StepsAbort self.old txn result self.new }
         ensures marks { self.new.failed ≡ true → result ≡ Err Refusal.DeviceFailed }
+        ensures numbers { NumbersStay self.old self.new }
         ensures locks { AtPlace (kernel_running self.old) place
             (λ r. AbortsLocks self.old.core self.new.core r result) }
     {
@@ -117,6 +120,8 @@ impl<D: Device> Kernel<D> {
         requires aborting { kernel_state self.old txn ≡ Some Aborting }
         ensures steps { StepsAbort self.old txn result self.new }
         ensures marks { self.new.failed ≡ self.old.failed }
+        ensures drawn { result ≡ Ok AbortStepped.More → kernel_last self.new ≡ kernel_last self.old + 1 }
+        ensures undrawn { result ≢ Ok AbortStepped.More → NumbersStay self.old self.new }
         ensures locks { kernel_page_locks self.new ≡ kernel_page_locks self.old }
     {
         if self.core.undo_begin(self.alloc, txn)? {

@@ -7,7 +7,7 @@ ghost use Rattle.mt_live.specs.declared.transactions.TxnState.TheVariants.{Open}
 ghost use Rattle.mt_txn.specs.Causes.{IsRefusedAtOnce};
 ghost use Rattle.mt_txn.specs.Shown.{FailsForGood, SameSchema, Shows, StaysRestarting, kernel_device};
 ghost use Rattle.mt_txn.specs.Shown.{LeavesFound};
-ghost use Rattle.mt_txn.specs.Words.{kernel_begin_cause, StateIsSet, CommitsStay, RunningStays};
+ghost use Rattle.mt_txn.specs.Words.{kernel_begin_cause, StateIsSet, CommitsStay, NumbersStay, RunningStays};
 
 use crate::kernel::Kernel;
 use mt_base::limits::{MAX_BEGUN, MAX_COMMITS, MAX_LIVE};
@@ -31,6 +31,7 @@ impl<D: Device> Kernel<D> {
             → OnOk result (Shows first (begun s session) self.new) }
         ensures opened { IfOk result (λ txn. StateIsSet self.old self.new txn (Some Open)) }
         ensures running { RunningStays self.old self.new }
+        ensures numbers { NumbersStay self.old self.new }
         ensures commits { CommitsStay self.old self.new }
         ensures device { kernel_device self.new ≡ kernel_device self.old }
         ensures err { OnErr result (self.new.core ≡ self.old.core) }

@@ -1,9 +1,10 @@
 // What the pages of a kernel come to while no transaction is active: a base and some figures. No page changes.
-ghost use Rattle.std.specs.Prelude.{◌≡◌, ◌≢◌, ◌⊎◌, IfOk, IfErr, OnOk, None, Some};
+ghost use Rattle.std.specs.Prelude.{◌≡◌, ◌≢◌, ◌⊎◌, ◌≤◌, ◌+◌, IfOk, IfErr, OnOk, None, Some};
 ghost use Rattle.mt_base.specs.declared.refusal.Refusal.{Refusal};
 ghost use Rattle.mt_core.specs.Consistent.{OnlyOperations};
 ghost use Rattle.mt_live.specs.Machine.{State};
 ghost use Rattle.mt_model.specs.Model.{Base};
+ghost use Rattle.mt_pool.specs.Views.{pages};
 ghost use Rattle.mt_txn.specs.Causes.{IsRefusedAtOnce};
 ghost use Rattle.mt_txn.specs.Shown.{FailsForGood, SameSchema, Shows, Stays, StaysRestarting, TellsEachFault, kernel_device, kernel_log, kernel_pool};
 ghost use Rattle.mt_txn.specs.Surveyed.{TellsBase, TellsPages};
@@ -37,6 +38,9 @@ impl<D: Device> Kernel<D> {
         ensures log { kernel_log self.new ≡ kernel_log self.old }
         ensures pool { kernel_pool self.new ≡ kernel_pool self.old }
         ensures content { D.seen (kernel_device self.new) ≡ D.seen (kernel_device self.old) }
+        // It reads each page once at most, but for two that are read first.
+        ensures calls { D.moment (kernel_device self.new)
+            ≤ D.moment (kernel_device self.old) + pages (kernel_pool self.old) + 2 }
         ensures schema { SameSchema self.old self.new }
         ensures restarts { StaysRestarting self.old self.new }
         ensures moments { LeavesFound self.old self.new }

@@ -38,7 +38,8 @@ use Rattle.mt_restart.specs.declared.standing.Standing.{Standing}
 -- a refusal with 2 tells that the device failed
 failed_of : (c : List ℕ) (failed : Type 0) (why : Refusal) → IsCauseToStop c failed why → why ≡ refusal.DeviceFailed → failed
 failed_of c failed why (inl cause) is = subst (λ (w : Refusal). IsCause BreaksFormat c failed w) is cause
-failed_of c failed why (inr full) is = let wrong : refusal.LogFull ≡ refusal.DeviceFailed = sym full.0 ∙ is in absurd cc
+failed_of c failed why (inr (inl full)) is = let wrong : refusal.LogFull ≡ refusal.DeviceFailed = sym full.0 ∙ is in absurd cc
+failed_of c failed why (inr (inr other)) is = let wrong : refusal.WrongFormat ≡ refusal.DeviceFailed = sym other.0 ∙ is in absurd cc
 
 pub if_ok : {T E : Type 0} {P Q : T → Type 0} (r : Result T E) → ((x : T) → P x → Q x) → IfOk r P → IfOk r Q
 if_ok (Ok x) f p = f x p

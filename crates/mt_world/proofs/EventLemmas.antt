@@ -13,7 +13,7 @@ use Rattle.mt_core.specs.declared.calls.Called.TheVariants as call
 use Rattle.mt_core.specs.declared.parts.Core.{Core}
 use Rattle.mt_live.specs.Machine.{State, begun, called, ended, gone}
 use Rattle.mt_live.specs.declared.transactions.TxnState.{TxnState}
-use Rattle.mt_live.specs.declared.transactions.TxnState.TheVariants.{Open, Committing as IsCommitting, Aborting as IsAborting}
+use Rattle.mt_live.specs.declared.transactions.TxnState.TheVariants.{Open, Committing as IsCommitting, Aborting as IsAborting, Returning}
 use Rattle.mt_model.specs.Model.{Base}
 use Rattle.mt_model.specs.declared.operations.Op.{Op}
 use Rattle.mt_model.specs.declared.operations.Reply.{Reply}
@@ -72,6 +72,7 @@ open_state None is = absurd cc
 open_state (Some Open) is = refl
 open_state (Some IsCommitting) is = absurd cc
 open_state (Some IsAborting) is = absurd cc
+open_state (Some (Returning n)) is = absurd cc
 
 -- ---- events
 

@@ -9,15 +9,16 @@ use Rattle.mt_core.specs.Booked.{booked_each, or_zero, session_at, txns_of}
 use Rattle.mt_core.specs.declared.parts.Commit.{Commit}
 use Rattle.mt_live.proofs.AddLemmas.{eq_flip, eq_self}
 use Rattle.mt_live.proofs.Alone.{put_other, put_own}
-use Rattle.mt_live.proofs.Events.{each_append}
+use Rattle.mt_live.proofs.Cutting.{each_append}
 use Rattle.mt_live.proofs.Shapes.{each_map}
-use Rattle.mt_live.specs.Entries.{Entry, calls, kept}
+use Rattle.mt_live.specs.Entries.{Entry, calls, is_standing, kept}
 use Rattle.mt_live.specs.Laws.{in_turn}
 use Rattle.mt_live.specs.Machine.{State, IsKept, begun, booked, called, dropped, ended, gone, is_live, put, undone}
 use Rattle.mt_live.specs.Sound.{Each}
-use Rattle.mt_live.specs.Undoing.{cut_back, is_effect, last_effect, only, others}
+use Rattle.mt_live.specs.Undoing.{cut_back, is_counted, is_effect, last_effect, only, others}
+use Rattle.mt_live.specs.declared.transactions.Role.TheVariants.{Stands}
 use Rattle.mt_live.specs.declared.transactions.TxnState.{TxnState}
-use Rattle.mt_live.specs.declared.transactions.TxnState.TheVariants.{Open, Committing, Aborting}
+use Rattle.mt_live.specs.declared.transactions.TxnState.TheVariants.{Open, Committing, Aborting, Returning}
 use Rattle.mt_model.specs.History.{Call}
 use Rattle.mt_model.specs.Model.{Base, inverse_of, reply_of}
 use Rattle.mt_model.specs.declared.history.Committed.{Committed}
@@ -33,6 +34,7 @@ is_forward None = false
 is_forward (Some Open) = true
 is_forward (Some Committing) = true
 is_forward (Some Aborting) = false
+is_forward (Some (Returning n)) = false
 
 pub record IsReported (s : State) (t : ℕ) (outcome : Reported) : Type 0 where
   pub session : s.sessions t ≡ Some outcome.session
@@ -61,7 +63,8 @@ kept_cut u t (e ∷ es) apart = go (kept_cut u t es apart) (is_some (last_effect
         → kept (only u) (cond a (e ∷ cut_back t es) (cond b (kept (others t) es) (e ∷ es))) ≡ cond (e.txn == u) (e ∷ kept (only u) es) (kept (only u) es)
     go rest true b is = ap (λ (es' : List Entry). cond (e.txn == u) (e ∷ es') es') rest
     go rest false true is =
-        let own : e.txn ≡ t = eqb-true e.txn t (and_parts (e.txn == t) (is_some (inverse_of e.op e.reply)) is).0 in
+        let counted : is_counted t e ≡ true = (and_parts (is_counted t e) (is_some (inverse_of e.op e.reply)) is).0 in
+        let own : e.txn ≡ t = eqb-true e.txn t (and_parts (e.txn == t) (is_standing e.role) counted).0 in
         kept_apart u t es apart ∙ sym (ap (λ (c : Bool). cond c (e ∷ kept (only u) es) (kept (only u) es)) (ne_eqb e.txn u (λ its. apart (sym its ∙ own))))
     go rest false false is = refl
 
@@ -101,6 +104,7 @@ forward_before None p same forward = ap is_forward (sym (same (λ e. cc))) ∙ f
 forward_before (Some Open) p same forward = refl
 forward_before (Some Committing) p same forward = refl
 forward_before (Some Aborting) p same forward = ap is_forward (sym (same (λ e. cc))) ∙ forward
+forward_before (Some (Returning n)) p same forward = ap is_forward (sym (same (λ e. cc))) ∙ forward
 
 -- nothing is reported, and no more are open or commit than did
 pub reported_still : (s : State) (phase next : ℕ → Option TxnState) (outcome : ℕ → Reported) (names : List ℕ) → ((t : ℕ) → is_forward (next t) ≡ true → is_forward (phase t) ≡ true)
@@ -167,7 +171,7 @@ reported_called s t op phase next outcome names same are = record {
 ended_calls : (s : State) (t : ℕ) (op : Op) (u : ℕ) (c : Bool) → (u == t) ≡ c
     → calls (kept (only u) (ended s t op).standing) ≡ calls (kept (only u) s.standing) ++ cond c ((op, reply_of s.base op) ∷ []) []
 ended_calls s t op u c is =
-    let last : Entry = record { txn = t; op = op; reply = reply_of s.base op } in
+    let last : Entry = record { txn = t; op = op; reply = reply_of s.base op; role = Stands } in
     ap calls (filter-append (λ (e : Entry). only u e.txn) s.standing (last ∷ []))
     ∙ map-append (λ (e : Entry). (e.op, e.reply)) (kept (only u) s.standing) (kept (only u) (last ∷ []))
     ∙ ap (λ (cs : List Call). calls (kept (only u) s.standing) ++ cs) (here last c (eq_flip t u (t == u) c refl is))

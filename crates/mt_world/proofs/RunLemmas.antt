@@ -24,7 +24,7 @@ use Rattle.mt_live.specs.Undoing.{only}
 use Rattle.mt_live.specs.Machine.{State, IsKept, begun, booked, called, dropped, ended, gone, put, start, undone}
 use Rattle.mt_live.specs.Sound.{Each}
 use Rattle.mt_live.specs.declared.transactions.TxnState.{TxnState}
-use Rattle.mt_live.specs.declared.transactions.TxnState.TheVariants.{Open, Committing as IsCommitting, Aborting as IsAborting}
+use Rattle.mt_live.specs.declared.transactions.TxnState.TheVariants.{Open, Committing as IsCommitting, Aborting as IsAborting, Returning}
 use Rattle.mt_model.proofs.Appends.{acted_append, run-append}
 use Rattle.mt_model.specs.History.{IsActed, run}
 use Rattle.mt_model.specs.Model.{Base}
@@ -38,7 +38,7 @@ use Rattle.mt_txn.specs.declared.kernel.Kernel.{Kernel}
 use Rattle.mt_world.specs.Acts.{Act, calls_in}
 use Rattle.mt_world.proofs.EventLemmas.{open_state}
 use Rattle.mt_world.proofs.OrderLemmas.{acknowledged_more, committing_more, reported_more}
-use Rattle.mt_live.proofs.Events.{each_append}
+use Rattle.mt_live.proofs.Cutting.{each_append}
 use Rattle.mt_live.proofs.Shapes.{each_map}
 use Rattle.mt_world.proofs.ReportedLemmas.{AreDistinct, AreReported, forward_before, is_forward, named_commit, named_distinct, reported_begun, reported_booked, reported_called, reported_dropped, reported_ended, reported_gone, reported_in_turn, reported_still, reported_undone}
 use Rattle.mt_world.specs.Due.{FailsIn, IsBroken, IsDue, SamePhases, SetsPhases, StayBroken}
@@ -87,6 +87,7 @@ aborting_back false None none = absurd cc
 aborting_back false (Some Open) none = absurd cc
 aborting_back false (Some IsCommitting) none = absurd cc
 aborting_back false (Some IsAborting) none = refl
+aborting_back false (Some (Returning n)) none = absurd cc
 
 none_back : (o : Option TxnState) → is_some o ≡ false → is_forward o ≡ false
 none_back None none = refl

@@ -43,12 +43,12 @@ pub(crate) struct StoppingDevice<D: Device> {
 }
 
 impl<D: Device> StoppingDevice<D> {
-    ghost use Rattle.mt_world.specs.Stopping.{StopsAt, below, limit_of, own_failures, taken_by};
+    ghost use Rattle.mt_world.specs.Stopping.{StopsAt, below, calls_until, own_failures, taken_by};
 
     /// A device over this one that takes so many writes and syncs.
     pub(crate) fn new(device: D, limit: u64) -> StoppingDevice<D>
         ensures device { below result ≡ device }
-        ensures limit { limit_of result ≡ limit }
+        ensures limit { calls_until result ≡ limit }
         ensures taken { taken_by result ≡ 0 }
         ensures failures { own_failures result ≡ 0 }
     {
@@ -64,7 +64,7 @@ impl<D: Device> StoppingDevice<D> {
 
     /// How many writes and syncs it takes. It has taken no more, and just so many if it was asked for one more.
     pub(crate) fn limit(&self) -> u64
-        ensures limit { result ≡ limit_of self.now }
+        ensures limit { result ≡ calls_until self.now }
         ensures stops { StopsAt result self.now }
     {
         self.meter.limit

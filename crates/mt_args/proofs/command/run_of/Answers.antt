@@ -22,4 +22,5 @@ returns-in_ok-script c = (
   λ e. c.requires.2 (inner _ _ e),
   λ e. c.requires.3 (inner _ _ e),
   λ e. c.requires.4 (inner _ _ e),
+  λ e. c.requires.5 (inner _ _ e),
 )

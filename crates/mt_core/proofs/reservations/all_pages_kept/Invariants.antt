@@ -1,7 +1,8 @@
 use Rattle.std.proofs.Common.{◌≡◌, take}
 use Rattle.std.specs.List.{sum_by}
-use Rattle.mt_core.specs.Runs.{call_pages}
+use Rattle.mt_live.specs.Members.{noted_calls}
+use Rattle.mt_core.specs.Runs.{noted_pages}
 use Rattle.mt_core.proofs.reservations.all_pages_kept.Given as goal
 
-abbrev pub invariant-loop-call : goal.invariant-loop-call
-invariant-loop-call l = l.pages ≡ sum_by call_pages (take l.call-index l.calls)
+abbrev pub invariant-loop-at : goal.invariant-loop-at
+invariant-loop-at l = l.pages ≡ sum_by noted_pages (take l.at (noted_calls l.calls l.roles))

@@ -21,7 +21,7 @@ returns-in_err-batches-clause-cause g c =
     let last = g.D.Device.faults c.read_area.new.device in
     let slot = c.in_ok-ruling.ruling in
     let why = c.in_err-batches.field-0.0 in
-    let cause = subst (λ (x : List ℕ). (why ≡ NoMemory) ⊎ (((why ≡ DeviceFailed) × (first < last)) ⊎ ((at : ℕ) × (why ≡ BadFormat at) × BreaksAt x (area_start slot) (area_end slot) slot.pages at)))
+    let cause = subst (λ (x : List ℕ). (why ≡ NoMemory) ⊎ (((why ≡ DeviceFailed) × (first < last)) ⊎ ((at : ℕ) × (why ≡ BadFormat at) × BreaksAt slot.format x (area_start slot) (area_end slot) slot.pages at)))
     c.ruling_slot.ensures.seen c.in_err-batches.ensures.cause in
     rw (p.1, p.2) (cause_area BreaksLog seen (λ at breaks. breaks) (first < last) (Unit {0}) slot why c.in_ok-ruling.ensures.rules (λ lt. tt) cause)
 

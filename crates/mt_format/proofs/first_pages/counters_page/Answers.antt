@@ -1,9 +1,10 @@
 use Rattle.std.proofs.Common.{◌≡◌, ◌≢◌, ◌<◌, ◌∙◌, ⊎_elim, ℕ, length, ap, sym, subst, arith}
 use Rattle.std.proofs.lemmas.Bool.{cases_eq}
 use Rattle.mt_model.specs.Tables.{IsLimited, no_count, count_at}
-use Rattle.mt_steps.specs.Counters.{count_in}
+use Rattle.mt_base.specs.Ranges.{Torn}
+use Rattle.mt_counters.specs.Counters.{count_in, place_of}
 use Rattle.mt_format.proofs.Zeros.{zero_at}
-use Rattle.mt_format.proofs.Counters.{counter_stays}
+use Rattle.mt_counters.proofs.Numbers.{counter_stays}
 use Rattle.mt_format.specs.Schemas.{counters_in}
 use Rattle.mt_format.proofs.first_pages.counters_page.Goals as goal
 
@@ -25,10 +26,10 @@ loop-number-init c =
 pub loop-number-preserved : goal.loop-number-preserved
 loop-number-preserved c =
     let inv = c.loop-number.invariant in
-    let torn = c.put_counter.ensures.rest in
     let n = c.loop-number.number in
     let old = c.loop-number.page in
     let new = c.put_counter.new.page in
+    let torn : Torn (place_of n) 24 old new = subst (λ (k : ℕ). Torn (place_of k) 24 old new) c.new.ensures c.put_counter.ensures.rest in
     let all = c.counters-counters.result.now in
     record {
       size = torn.size ∙ inv.size;
@@ -36,7 +37,7 @@ loop-number-preserved c =
       counters = torn.below 1 (omega arith) ∙ inv.counters;
       zeros = λ i from to. torn.below i (omega arith) ∙ inv.zeros i from to;
       starts = λ k lt. ⊎_elim
-          (λ (same : k ≡ n). ap (λ (m : ℕ). count_in new m) same ∙ c.put_counter.ensures.count ∙ ap (λ (m : ℕ). count_at all m) (sym same))
+          (λ (same : k ≡ n). ap (λ (m : ℕ). count_in new m) (same ∙ sym c.new.ensures) ∙ c.put_counter.ensures.count ∙ ap (λ (m : ℕ). count_at all m) (sym same))
           (λ (other : k ≢ n). counter_stays old new n k torn other ∙ inv.starts k (omega arith))
           (cases_eq k n);
     }

@@ -1,6 +1,6 @@
 use Rattle.std.proofs.Common.{◌≡◌, ◌<◌, ◌≤◌, ℕ, length, get_or}
 use Rattle.mt_model.specs.Tables.{count_at}
-use Rattle.mt_steps.specs.Counters.{count_in}
+use Rattle.mt_counters.specs.Counters.{count_in}
 use Rattle.mt_format.specs.Schemas.{relations_in}
 use Rattle.mt_format.proofs.first_pages.counters_page.Given as goal
 

@@ -8,6 +8,7 @@ invariant-loop-reading g l = record {
   read : HasRead (g.D.Device.seen l.fn.device) l.reading;
   place : l.reading.place ≡ l.place;
   pages : l.reading.pages ≡ l.pages;
+  format : l.reading.format ≡ l.fn.format;
   reads : OnlyReads g.D.Device l.fn.device l.device;
   faults : g.D.Device.faults l.device ≡ g.D.Device.faults l.fn.device;
 }

@@ -9,4 +9,4 @@ returns-in-Counter-clause-front g c =
     rw c.in-Counter.is (simp to_z-of_z at c.write_counter.ensures.front)
 
 pub returns-in-Nothing-clause-all : goal.returns-in-Nothing-clause-all
-returns-in-Nothing-clause-all g c = rw c.in-Nothing.is c.put.ensures.all
+returns-in-Nothing-clause-all g c = rw c.in-Nothing.is c.put-in-Nothing.ensures.all

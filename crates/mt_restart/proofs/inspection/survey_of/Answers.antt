@@ -2,7 +2,7 @@ use Rattle.std.proofs.Common.{◌≡◌, ◌<◌, ℕ, List, ap, get_or, length,
 use Rattle.mt_index.specs.Checks.{bytes_of}
 use Rattle.mt_index.specs.Pages.{depth_in}
 use Rattle.mt_model.specs.Views.{base_of}
-use Rattle.mt_steps.specs.Counters.{count_in}
+use Rattle.mt_counters.specs.Counters.{count_in}
 use Rattle.mt_steps.specs.Plans.{free_pages}
 use Rattle.mt_restart.specs.Inspected.{Lists}
 use Rattle.mt_restart.proofs.Listing.{base_listed}

@@ -4,9 +4,9 @@ use Rattle.mt_restart.proofs.Surveying.{sound_of}
 use Rattle.mt_restart.proofs.log_report.check.Goals as goal
 
 pub returns-in_err-replayed-clause-no_other_refusal : goal.returns-in_err-replayed-clause-no_other_refusal
-returns-in_err-replayed-clause-no_other_refusal g c = λ relations counters b can.
+returns-in_err-replayed-clause-no_other_refusal g c = λ format relations counters b can.
     let p = err_from_is_err_and c.from_residual.result c.from_residual.ensures.1 in
-    rw (p.1, p.2) (c.in_err-replayed.ensures.no_other_refusal relations counters b can)
+    rw (p.1, p.2) (c.in_err-replayed.ensures.no_other_refusal format relations counters b can)
 
 pub returns-clause-outcome : goal.returns-clause-outcome
 returns-clause-outcome g c =

@@ -6,6 +6,7 @@ returns c = λ bytes log. record {
   slot = c.args.ruling.now;
   figures = c.args.figures;
   log = log;
+  format_is = refl;
   epoch = refl;
   area = refl;
   batches = refl;

@@ -70,6 +70,7 @@ returns-in-Err-clause-refused g c =
     record {
       cause = e.cause;
       unformatted = e.unformatted;
+      other = e.other;
       left = e.no_other_refusal;
       formatted = λ s formatted. never_full c.slots_are_read_back.ensures s (D.seen d) (D.faults d < D.faults c.recover.new.device) why formatted e.cause;
       unwritten = λ not. (e.reads not).same;

@@ -6,7 +6,7 @@ use Rattle.mt_model.specs.Views.{base_of}
 use Rattle.mt_restart.proofs.Based.{base_of_good}
 use Rattle.mt_restart.proofs.Counted.{begins_on}
 use Rattle.mt_restart.proofs.Refusals.{not_refused, refused_so}
-use Rattle.mt_restart.proofs.Ruled.{not_unformatted}
+use Rattle.mt_restart.proofs.Ruled.{not_other, not_unformatted}
 use Rattle.mt_restart.proofs.Unlost.{never_full}
 use Rattle.mt_restart.specs.Recovered.{StandsStill}
 use Rattle.mt_steps.specs.Listed.{IsSame}
@@ -93,6 +93,7 @@ returns-in-Err-clause-refused g c =
     let D = g.D.Device in let d = c.args.device in let e = c.in-Err.ensures in
     record {
       unformatted = e.unformatted;
+      other = e.other;
       left = e.no_other_refusal;
       formatted = λ s formatted. never_full c.slots_are_read_back.ensures s (D.seen d) (D.faults d < D.faults c.recover.new.device) c.in-Err.refusal formatted e.cause;
     }
@@ -102,6 +103,7 @@ returns-in-Err-survey_of-clause-refused g c =
     let memory = c.in-Err-survey_of.ensures.only_memory in
     record {
       unformatted = λ none. absurd (not_unformatted (g.D.Device.seen c.args.device) c.in-Ok.recovered.restored.pages.items c.in-Ok.ensures.restored none);
+      other = λ is. absurd (not_other c.slots_are_read_back.ensures (g.D.Device.seen c.args.device) c.in-Ok.recovered.restored.pages.items c.in-Ok.ensures.restored is);
       left = λ relations counters b can. inl memory;
       formatted = λ s formatted full. let wrong = sym memory ∙ full in absurd cc;
     }

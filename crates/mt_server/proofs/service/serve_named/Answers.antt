@@ -11,8 +11,9 @@ use Rattle.mt_server.proofs.service.serve_named.Goals as goal
 pub close-requires : goal.close-requires
 close-requires g c =
     let scripts = map lines_in c.args.scripts.now in
-    let blank = subst (λ n. IsBlank n c.args.board) (sym (length-map c.args.scripts.now lines_in)) c.requires.blank in
-    record { first = sym c.requires.name.2 ∙ c.requires.first; placed = λ book seen. subst (IsBoard scripts _ book) (omega arith) (c.in-Ok-gather.ensures book 0 seen (blank_board scripts c.args.board book blank)) }
+    let board = c.in-Ok-blank.board in
+    let blank = subst (λ n. IsBlank n board) (sym (length-map c.args.scripts.now lines_in)) c.in-Ok-blank.ensures in
+    record { first = sym c.requires.name.2 ∙ c.requires.first; placed = λ book seen. subst (IsBoard scripts _ book) (omega arith) (c.in-Ok-gather.ensures book 0 seen (blank_board scripts board book blank)) }
 
 pub returns-in-Ok-gather-clause-frames : goal.returns-in-Ok-gather-clause-frames
 returns-in-Ok-gather-clause-frames g c = IfOk-weaker c.close.result _ _ (λ s began. c.in-Ok.ensures.opened) c.close.ensures.began

@@ -11,7 +11,7 @@ use Rattle.mt_space.specs.Changes.{PageBytes, after, replaced, IsUntouched, AreS
 use Rattle.mt_model.specs.declared.operations.Op.TheVariants.{Add}
 use Rattle.mt_model.specs.declared.operations.Reply.TheVariants.{Done, OutOfBounds}
 use Rattle.mt_model.specs.Model.{moved, stays}
-use Rattle.mt_steps.specs.Counters.{place_of, count_in, AreCounters}
+use Rattle.mt_counters.specs.Counters.{place_of, count_in, AreCounters}
 use Rattle.mt_steps.specs.Acts.{IsAct}
 use Rattle.mt_steps.specs.Plans.{HasNoRecord}
 use Rattle.mt_space.proofs.Changing.{replaced_other}

@@ -15,6 +15,9 @@ use Rattle.mt_core.proofs.Undoing.{few_steps}
 use Rattle.mt_core.proofs.Restarts.{kept_num, open_works, quiet_store, same_at_work, stays_same}
 use Rattle.std.specs.Option.{option_map}
 use Rattle.mt_core.specs.declared.parts.Core.{Core}
+use Rattle.mt_core.proofs.Did.{eases_put}
+use Rattle.mt_core.specs.Runs.{state_in}
+use Rattle.std.specs.Prelude.{Some}
 use Rattle.mt_core.proofs.parts.Core.abort_begin.Goals as goal
 
 pub returns-clause-state : goal.returns-clause-state
@@ -40,4 +43,5 @@ returns-clause-restartable g c = λ origin base later safe_k safe_n r. let e = c
     let n : Core g.row.D.Denot = record k { live = c.set_state.new.self } in
     stays_same g.D.Device origin k n base later safe_k safe_n (quiet_store g.D.Device origin k n refl) (record { book = refl; commits = refl }) e.standing
     (kept_num k.live.members n.live.members c.args.txn (option_map (λ m. with_state m Aborting) (member_of k.live.members c.args.txn)) e.member (same_at_work (member_of k.live.members c.args.txn) Aborting (open_works (member_of k.live.members c.args.txn) c.requires) refl))
+    (eases_put (state_in k.live.members) (state_in n.live.members) c.args.txn (Some Aborting) (states_set k.live.members c.set_state.new.self.members c.args.txn Aborting (there_open (member_of k.live.members c.args.txn) c.requires) e.member) (λ ends mine had. tt))
     (let count = e.count in let few = r.few in omega (arith, few, count)) r

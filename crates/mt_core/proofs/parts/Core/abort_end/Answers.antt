@@ -50,10 +50,10 @@ returns-clause-gone g c = λ origin base safe. let k = c.args.self.now in let e 
     let seen = g.D.Device.seen in let may_leave = g.D.Device.may_leave in
     let enough = end_enough g.D.Device origin base k c.args.txn safe.fit c.requires.at_work in
     let idle = runs_none k.running.items c.args.txn c.requires.idle in
-    let z : Core g.row.D.Denot = record k { live = c.leave.new.self; locks = c.release.new.self; reserved = k.reserved - 128 } in
+    let z : Core g.row.D.Denot = record k { live = c.leave.new.self; locks = c.release.new.self; escrow = c.leave-2.new.self; reserved = k.reserved - 128 } in
     let closed : is_open (member_of c.leave.new.self.members c.args.txn) ≡ false = ap is_open (m.member c.args.txn) ∙ gone_closed (member_of k.live.members) c.args.txn in
-    let gone_now = gone_in g.D.Device origin base k z c.args.txn safe c.requires.at_work c.requires.idle c.requires.nothing m.standing m.member m.begun m.count c.release.ensures.released refl
-    (sym (none_pending origin.first (state_of k base) c.args.txn safe.fit.kept idle c.requires.nothing)) (omega arith) in
+    let gone_now = gone_in g.D.Device origin base k z c.args.txn safe c.requires.at_work c.requires.idle c.requires.nothing m.standing m.member m.begun m.count c.release.ensures.released c.leave-2.ensures.committed
+    (c.leave-2.ensures.pending ∙ sym (none_pending origin.first (state_of k base) c.args.txn safe.fit.kept idle c.requires.nothing)) c.leave-2.ensures.aside (omega arith) in
     let low = txn_low g.D.Device origin base k c.args.txn safe.fit c.requires.at_work in
     let log = safe.fit.log in let now = longer_used k.operations.store.log c.append.new.self.store.log (record_of.AbortEnd c.args.txn) f.log in let area = ap (λ (x : LogSeen). x.end - x.start) f.log in
     let ended_now = ended_in g.D.Device origin base z (record z { operations = c.append.new.self }) c.args.txn gone_now.consistent closed (subst (λ n. c.args.txn ≤ n) (sym m.begun) low) c.requires.idle
@@ -81,6 +81,7 @@ returns-clause-keeps g c = record {
   others = λ u apart. let k = c.args.self.now in states_put k.live.members c.leave.new.self.members c.args.txn None c.leave.ensures.member u ∙ put_other (state_in k.live.members) c.args.txn None u apart;
   running = search rules;
   commits = search rules;
+  numbers = search rules;
   locks = (c.in_ok-append.ensures.steps.notes (λ p. [])).locks;
   durable = search rules;
   device = search rules;
@@ -101,7 +102,7 @@ returns-in_err-append-clause-restartable g c = λ origin base later safe_k safe_
 
 pub returns-clause-restartable : goal.returns-clause-restartable
 returns-clause-restartable g c = λ origin base later safe_k safe_n r. let k = c.args.self.now in let f = c.in_ok-append.ensures.steps in let m = c.leave.ensures in
-    let n : Core g.row.D.Denot = record k { operations = c.append.new.self; live = c.leave.new.self; locks = c.release.new.self; reserved = k.reserved - 128 } in
+    let n : Core g.row.D.Denot = record k { operations = c.append.new.self; live = c.leave.new.self; locks = c.release.new.self; escrow = c.leave-2.new.self; reserved = k.reserved - 128 } in
     aborted g.D.Device origin k n base later c.args.txn safe_k safe_n (record { total = (f.notes origin.pages).area.total; bytes = ap (λ (x : LogSeen). x.end - x.start) f.log; lasts = lasts_same k n (ap (λ (x : LogSeen). joined x.batches) f.log) }) (f.notes origin.pages).records m.member m.count m.standing (record { book = refl; commits = refl }) c.requires.at_work c.requires.nothing r
 
 pub returns-in_err-append-clause-keeps : goal.returns-in_err-append-clause-keeps
@@ -109,6 +110,7 @@ returns-in_err-append-clause-keeps g c = record {
   others = search rules;
   running = search rules;
   commits = search rules;
+  numbers = search rules;
   locks = (c.in_err-append.ensures.steps.rests (λ p. [])).locks;
   durable = search rules;
   device = search rules;

@@ -19,18 +19,18 @@ start-requires-clause-granted g c = ∥∥₁_elim c.requires.locked (hlevel pro
   base,
   locks,
   k.escrow,
-  granted_from g.D.Device origin base locks k (record k { escrow = c.ask.new.escrow }) c.args.txn c.args.op l e.granted c.ask.ensures.committed e.admitted,
+  granted_from g.D.Device origin base locks k (record k { escrow = c.ask.new.escrow }) c.args.txn c.args.op l e.granted c.ask.ensures.committed c.ask.ensures.aside e.admitted,
 ) ∣₁)
 
 pub returns-in-Ok-start : goal.returns-in-Ok-start
 returns-in-Ok-start g c = record {
   ok = λ origin base locks l. let k = c.args.self.now in let e = c.in-Ok.ensures in
       c.in-Ok-start.ensures.ok origin base locks k.escrow
-      (granted_from g.D.Device origin base locks k (record k { escrow = c.ask.new.escrow }) c.args.txn c.args.op l e.granted c.ask.ensures.committed e.admitted);
+      (granted_from g.D.Device origin base locks k (record k { escrow = c.ask.new.escrow }) c.args.txn c.args.op l e.granted c.ask.ensures.committed c.ask.ensures.aside e.admitted);
   may = λ origin base locks l. let k = c.args.self.now in let e = c.in-Ok.ensures in (
     e.admitted,
     c.in-Ok-start.ensures.may origin base locks k.escrow
-        (granted_from g.D.Device origin base locks k (record k { escrow = c.ask.new.escrow }) c.args.txn c.args.op l e.granted c.ask.ensures.committed e.admitted),
+        (granted_from g.D.Device origin base locks k (record k { escrow = c.ask.new.escrow }) c.args.txn c.args.op l e.granted c.ask.ensures.committed c.ask.ensures.aside e.admitted),
   );
   cause = search rules;
   back = search rules;
@@ -50,7 +50,7 @@ returns-in-Err-start g c = record {
   cause = λ origin base locks l. let k = c.args.self.now in let e = c.in-Ok.ensures in
       behind g.D.Device origin k (log_kept k) c.args.txn c.args.op c.args.split c.in-Err-start.why e.admitted
       (c.in-Err-start.ensures.cause origin base locks k.escrow
-      (granted_from g.D.Device origin base locks k (record k { escrow = c.ask.new.escrow }) c.args.txn c.args.op l e.granted c.ask.ensures.committed e.admitted));
+      (granted_from g.D.Device origin base locks k (record k { escrow = c.ask.new.escrow }) c.args.txn c.args.op l e.granted c.ask.ensures.committed c.ask.ensures.aside e.admitted));
   back = search rules;
   err = search rules;
   live = search rules;

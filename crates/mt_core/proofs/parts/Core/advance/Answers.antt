@@ -61,6 +61,7 @@ returns g c = record {
       subst (λ (X : Type 0). X) (λ i. SameOp (old i) (new i)) (steps_same origin.relations origin.counters (world g.D.Device origin.pages k.operations) (world g.D.Device origin.pages c.step.new.self) r q c.step.result went.1);
   live = search rules;
   commits = search rules;
+  numbers = search rules;
   full = search rules;
   works = λ x y at now.
       let k = c.args.self.now in let r = c.index_mut.result.now in

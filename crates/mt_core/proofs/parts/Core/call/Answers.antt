@@ -24,6 +24,7 @@ use Rattle.std.specs.Option.{option_map}
 use Rattle.std.proofs.Common.{length, arith}
 use Rattle.mt_core.proofs.Restarts.{kept_num, num, quiet_store, stays_same, with_room_num}
 use Rattle.mt_core.specs.Work.{DrawsNumber}
+use Rattle.mt_core.proofs.Did.{eases_same}
 use Rattle.mt_core.proofs.parts.Core.call.Goals as goal
 
 pub lock-requires-clause-safe : goal.lock-requires-clause-safe
@@ -73,6 +74,7 @@ pub returns-in_err-room-clause-restartable : goal.returns-in_err-room-clause-res
 returns-in_err-room-clause-restartable g c = λ origin base later safe_k safe_n r. let k = c.args.self.now in let live = c.in_err-room.ensures.err in let seen = g.D.Device.seen in let may_leave = g.D.Device.may_leave in
     let n : Core g.row.D.Denot = record k { live = c.room.new.self } in
     stays_same g.D.Device origin k n base later safe_k safe_n (quiet_store g.D.Device origin k n refl) (record { book = refl; commits = refl }) (ap (λ (l : Lives). l.standing) live) (λ t. ap (λ (l : Lives). num l.members t) live)
+    (eases_same (state_in k.live.members) (state_in n.live.members) (λ t. ap (λ (l : Lives). state_in l.members t) live))
     (let few = r.few in let same = ap (λ (l : Lives). length l.members) live in omega (arith, few, same)) r
 
 pub returns-in_err-reserve-clause-restartable : goal.returns-in_err-reserve-clause-restartable
@@ -80,12 +82,14 @@ returns-in_err-reserve-clause-restartable g c = λ origin base later safe_k safe
     let n : Core g.row.D.Denot = record k { live = c.room.new.self; running = c.reserve.new.self } in
     stays_same g.D.Device origin k n base later safe_k safe_n (quiet_store g.D.Device origin k n refl) (record { book = refl; commits = refl }) e.standing
     (kept_num k.live.members n.live.members c.args.txn (option_map with_room (member_of k.live.members c.args.txn)) e.member (with_room_num (member_of k.live.members c.args.txn)))
+    (eases_same (state_in k.live.members) (state_in n.live.members) (λ u. states_kept with_room k.live.members c.room.new.self.members c.args.txn (λ m. refl) e.member u))
     (let few = r.few in let count = e.count in omega (arith, few, count)) r
 
 pub returns-clause-restartable : goal.returns-clause-restartable
 returns-clause-restartable g c = λ origin base later safe_k safe_n r. let k = c.args.self.now in let e = c.in_ok-room.ensures in let l = c.lock.ensures in let n = c.lock.new.self in let seen = g.D.Device.seen in let may_leave = g.D.Device.may_leave in
     stays_same g.D.Device origin k n base later safe_k safe_n (quiet_store g.D.Device origin k n l.store) (record { book = ap (λ v. v.items) l.book; commits = l.same_commits }) (ap (λ (x : Lives). x.standing) l.live ∙ e.standing)
     (λ t. ap (λ (x : Lives). num x.members t) l.live ∙ kept_num k.live.members c.room.new.self.members c.args.txn (option_map with_room (member_of k.live.members c.args.txn)) e.member (with_room_num (member_of k.live.members c.args.txn)) t)
+    (eases_same (state_in k.live.members) (state_in n.live.members) (λ u. ap (λ (x : Lives). state_in x.members u) l.live ∙ states_kept with_room k.live.members c.room.new.self.members c.args.txn (λ m. refl) e.member u))
     (let few = r.few in let count = e.count in let same = ap (λ (x : Lives). length x.members) l.live in omega (arith, few, count, same)) r
 
 pub returns-clause-numbers : goal.returns-clause-numbers

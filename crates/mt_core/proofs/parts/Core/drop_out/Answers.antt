@@ -54,6 +54,7 @@ returns g c = record {
       c.give_back.ensures.locks ∙ c.drop_out-op.ensures.locks ∙ ap (λ (z : OpScope). locks_without z.number k.operations.locks) here;
   live = search rules;
   commits = search rules;
+  numbers = search rules;
   drops = λ origin base cleared x is.
       let r = c.remove-scope.result in let y = cleared r c.remove-scope.ensures.value in let e = c.drop_out-op.ensures in let f = c.give_back.ensures in let k = c.args.self.now in let seen = g.D.Device.seen in
       let fore = c.requires.forward r c.remove-scope.ensures.value in
@@ -73,6 +74,6 @@ returns g c = record {
       let here : r ≡ x = c.remove-scope.ensures.value ∙ sym (get_or_default k.running.items c.args.place x r y.alone.within) ∙ sym is in
       subst (λ (z : OpScope). DropsIn g.D.Device origin base (state_of k base) n z.txn) here
       (dropped_in g.D.Device origin base k n c.args.place r y fore c.remove-scope.ensures.items ended (omega arith) (omega arith)
-      (subst (λ (X : Type 0). X) (λ i. GivesBack (c.txn-txn.ensures i) (e.op i) k.escrow.pending c.let_go.new.escrow.pending) c.let_go.ensures.given) c.let_go.ensures.committed);
+      (subst (λ (X : Type 0). X) (λ i. GivesBack (c.txn-txn.ensures i) (e.op i) k.escrow.pending c.let_go.new.escrow.pending) c.let_go.ensures.given) c.let_go.ensures.committed c.let_go.ensures.aside);
   book = search rules;
 }

@@ -14,6 +14,7 @@ loop-booked-init g c = let within = c.durable_count-count.ensures.within in let 
   room = omega arith;
   store = refl;
   running = refl;
+  numbers = refl;
   states = λ u other. refl;
   undo = λ u. omega arith;
   restarts = λ there origin base later safe_k safe_n r. r;
@@ -44,6 +45,7 @@ loop-booked-preserved g c = let k = c.args.self.now in let d : Commit = record {
       room = let room = was.room in let len = p.len in let capacity = p.capacity in omega arith;
       store = e.store ∙ was.store;
       running = e.running ∙ was.running;
+      numbers = e.numbers ∙ was.numbers;
       states = λ u other. e.states u (λ commits. other (sym (was.states u other) ∙ commits)) ∙ was.states u other;
       undo = λ u. let less = e.undo u in let before = was.undo u in omega (arith, less, before);
       restarts = λ there origin base later safe_k safe_n r.
@@ -70,6 +72,9 @@ returns-clause-store g c = c.loop-booked.invariant.store
 
 pub returns-clause-running : goal.returns-clause-running
 returns-clause-running g c = c.loop-booked.invariant.running
+
+pub returns-clause-numbers : goal.returns-clause-numbers
+returns-clause-numbers g c = c.loop-booked.invariant.numbers
 
 pub returns-clause-states : goal.returns-clause-states
 returns-clause-states g c = c.loop-booked.invariant.states

@@ -13,6 +13,7 @@ invariant-loop-booked g l = record {
   room : vec_len l.names + (length l.initial.self.commits.items - l._booked) ≤ vec_capacity l.names;
   store : l.self.operations.store ≡ l.initial.self.operations.store;
   running : l.self.running ≡ l.initial.self.running;
+  numbers : l.self.last ≡ l.initial.self.last;
   states : SameUncommitted l.initial.self l.self;
   undo : LeavesUndo l.initial.self l.self;
   restarts : l.count ≤ durable_count l.initial.self.commits.items (length (durable l.initial.self.operations.store.log)) → StaysRestartable g.D.Device l.initial.self l.self;

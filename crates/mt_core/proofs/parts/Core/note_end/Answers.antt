@@ -22,6 +22,7 @@ use Rattle.mt_core.proofs.Members.{states_kept}
 use Rattle.mt_live.specs.Members.{with_call}
 use Rattle.mt_core.specs.Restartable.{NotesEnd}
 use Rattle.mt_plock.specs.Releasing.{locks_without}
+use Rattle.mt_live.specs.declared.transactions.Role.TheVariants.{Stands}
 use Rattle.mt_core.proofs.parts.Core.note_end.Goals as goal
 
 pub end-op-requires-clause-ready : goal.end-op-requires-clause-ready
@@ -65,6 +66,7 @@ returns g c = record {
   store = search rules;
   states = λ u. states_kept (λ m. with_call m c.number-number.result (c.end-op.result, c.args.reply)) c.args.self.now.live.members c.note.new.self.members c.txn-txn.result (λ m. refl) c.note.ensures.member u;
   commits = search rules;
+  numbers = search rules;
   ends = λ origin base ready x is.
       let r = c.remove-scope.result in let y = ready r c.remove-scope.ensures.value in let e = c.end-op.ensures in let f = c.give_back.ensures in let m = c.note.ensures in let k = c.args.self.now in
       let seen = g.D.Device.seen in
@@ -75,7 +77,7 @@ returns g c = record {
       (record { right = right; held = e.held origin.pages; others = λ u ku other. e.others origin.pages origin.relations origin.counters u ku other; locks = e.locks; store = e.store })
       (f.right origin.pages origin.relations origin.counters right) f.store f.locks in
       let n : Core g.row.D.Denot = record k { operations = c.give_back.new.self; live = c.note.new.self; running = c.remove-scope.new.self; reserved = k.reserved - (c.log_bytes_for.result - c.bytes_kept.result) } in
-      let entry : Entry = record { txn = r.txn; op = r.op; reply = c.args.reply } in
+      let entry : Entry = record { txn = r.txn; op = r.op; reply = c.args.reply; role = Stands } in
       let copy_pages : undo_pages c.end-op.result ≡ undo_pages r.op = ap undo_pages e.op in
       let copy_bytes : undo_bytes c.end-op.result ≡ undo_bytes r.op = ap undo_bytes e.op in
       let less_pages = weighs_less undo_pages entry in let less_bytes = weighs_less undo_bytes entry in
@@ -86,7 +88,7 @@ returns g c = record {
       let here : r ≡ x = c.remove-scope.ensures.value ∙ sym (get_or_default k.running.items c.args.place x r y.alone.within) ∙ sym is in
       subst (λ (z : OpScope). IsIn g.D.Device origin (base_after base z.op) (ended (state_of k base) z.txn z.op) n) here
       (noted_in g.D.Device origin base k n c.args.place r c.args.reply y fore c.remove-scope.ensures.items ended_now (omega arith) (omega arith)
-      (m.standing ∙ (λ i. k.live.standing ++ record { txn = c.txn-txn.ensures i; op = c.end-op.ensures.op i; reply = c.args.reply } ∷ []))
+      (m.standing ∙ (λ i. k.live.standing ++ record { txn = c.txn-txn.ensures i; op = c.end-op.ensures.op i; reply = c.args.reply; role = Stands } ∷ []))
       (subst (λ (X : Type 0). X) (λ i. IsChanged k.live.members c.note.new.self.members (c.txn-txn.ensures i) (λ z. with_call z (c.number-number.ensures i) (c.end-op.ensures.op i, c.args.reply))) m.member) m.begun m.count);
   notes = λ x is.
       let r = c.remove-scope.result in let m = c.note.ensures in let k = c.args.self.now in
@@ -94,7 +96,7 @@ returns g c = record {
       let here : r ≡ x = c.remove-scope.ensures.value ∙ sym (get_or_default k.running.items c.args.place x r c.requires.within) ∙ sym is in
       subst (λ (z : OpScope). NotesEnd k n z c.args.reply) here (record {
         same = record { book = refl; commits = refl };
-        standing = m.standing ∙ (λ i. k.live.standing ++ record { txn = c.txn-txn.ensures i; op = c.end-op.ensures.op i; reply = c.args.reply } ∷ []);
+        standing = m.standing ∙ (λ i. k.live.standing ++ record { txn = c.txn-txn.ensures i; op = c.end-op.ensures.op i; reply = c.args.reply; role = Stands } ∷ []);
         members = subst (λ (X : Type 0). X) (λ i. IsChanged k.live.members c.note.new.self.members (c.txn-txn.ensures i) (λ z. with_call z (c.number-number.ensures i) (c.end-op.ensures.op i, c.args.reply))) m.member;
         count = m.count;
       });

@@ -42,6 +42,7 @@ returns g c = record {
   store = search rules;
   states = λ u. states_kept taken_back c.args.self.now.live.members c.undone.new.self.members c.txn-txn.result taken_state c.undone.ensures.member u;
   commits = search rules;
+  numbers = search rules;
   ends = λ origin base reply ready x is.
       let r = c.remove-scope.result in let y = ready r c.remove-scope.ensures.value in let e = c.end-inverse.ensures in let f = c.undone.ensures in let k = c.args.self.now in
       let seen = g.D.Device.seen in
@@ -52,7 +53,7 @@ returns g c = record {
       (record { right = e.right origin.pages origin.relations origin.counters y.fit.right y.alone.own; held = e.held origin.pages; others = λ u ku other. e.others origin.pages origin.relations origin.counters u ku other; locks = e.locks; store = e.store }) e.claimed
       (f.standing ∙ (λ i. cut_back (c.txn-txn.ensures i) k.live.standing))
       (subst (λ (X : Type 0). X) (λ i. IsChanged k.live.members c.undone.new.self.members (c.txn-txn.ensures i) taken_back) f.member) f.begun f.count
-      (λ o u is. subst (λ (X : Type 0). X) (λ i. GivesBack (c.txn-txn.ensures i) o k.escrow.pending c.let_inverted_go.new.escrow.pending) (c.let_inverted_go.ensures.given o u (is ∙ ap Some (sym e.op)))) c.let_inverted_go.ensures.committed);
+      (λ o u is. subst (λ (X : Type 0). X) (λ i. GivesBack (c.txn-txn.ensures i) o k.escrow.pending c.let_inverted_go.new.escrow.pending) (c.let_inverted_go.ensures.given o u (is ∙ ap Some (sym e.op)))) c.let_inverted_go.ensures.committed c.let_inverted_go.ensures.aside);
   notes = λ x is.
       let r = c.remove-scope.result in let f = c.undone.ensures in let k = c.args.self.now in
       let n : Core g.row.D.Denot = record k { operations = c.end-inverse.new.self; live = c.undone.new.self; running = c.remove-scope.new.self; escrow = c.let_inverted_go.new.escrow } in

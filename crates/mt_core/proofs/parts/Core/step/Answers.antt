@@ -89,6 +89,7 @@ returns-in-Err-clause-stepped g c = record {
       ap (λ (rs : List OpScope). steps_in rs u) c.note_end.ensures.items ∙ steps_remove_other items place q inside now u (λ is. other (is ∙ same.txn)) ∙ c.advance.ensures.others x at u other);
   states = search rules;
   commits = search rules;
+  numbers = search rules;
   locks = λ x at.
       let k = c.args.self.now in let place = c.args.place in
       let kept : c.advance.new.self.operations.locks ≡ k.operations.locks = subst (KeepsLocks x.number (IsNext k.operations.rooms k.operations.locks x) k.operations.locks c.advance.new.self.operations.locks) (c.in_ok-stepped.was ∙ ap Ok c.in-Err.ensures.ready) (c.advance.ensures.locks x at) in
@@ -129,6 +130,7 @@ returns-in-Ok-clause-stepped g c = record {
   others = search rules;
   states = search rules;
   commits = search rules;
+  numbers = search rules;
   locks = λ x at. let k = c.args.self.now in
       subst (KeepsLocks x.number (IsNext k.operations.rooms k.operations.locks x) k.operations.locks c.advance.new.self.operations.locks) (c.in_ok-stepped.was ∙ ap Ok c.in-Ok.ensures.going) (c.advance.ensures.locks x at);
   other = λ origin base safe x at.
@@ -162,6 +164,7 @@ returns-in_err-stepped-clause-stepped g c = record {
   others = search rules;
   states = search rules;
   commits = search rules;
+  numbers = search rules;
   locks = λ x at. let k = c.args.self.now in
       let p = err_from_is_err_and c.from_residual.result c.from_residual.ensures.1 in
       subst (λ (res : Result Stepping Refusal). KeepsPageLocks k c.advance.new.self x res) (sym p.1)

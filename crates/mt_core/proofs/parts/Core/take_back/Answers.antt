@@ -48,6 +48,7 @@ pub returns : goal.returns
 returns g c = record {
   live = search rules;
   commits = search rules;
+  numbers = search rules;
   locks = search rules;
   full = search rules;
   length = length-set c.args.self.now.running.items c.args.place (c.take_back.new.scope);

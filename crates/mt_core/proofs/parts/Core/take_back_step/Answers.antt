@@ -59,6 +59,7 @@ returns-in-More-clause-put g c = record {
   others = search rules;
   live = search rules;
   commits = search rules;
+  numbers = search rules;
   locks = search rules;
   durable = search rules;
   full = search rules;
@@ -81,6 +82,7 @@ returns-in-Flush-clause-put g c = record {
   others = search rules;
   live = search rules;
   commits = search rules;
+  numbers = search rules;
   locks = search rules;
   durable = search rules;
   full = search rules;
@@ -104,6 +106,7 @@ returns-in_err-take_back-clause-put g c = record {
   others = search rules;
   live = search rules;
   commits = search rules;
+  numbers = search rules;
   locks = λ x at.
       let p = err_from_is_err_and c.from_residual.result c.from_residual.ensures.1 in
       subst (GivesLocksBack c.args.self.now c.take_back.new.self x) (sym p.1) c.take_back.ensures.locks;
@@ -143,6 +146,7 @@ returns-in-Clear-clause-put g c = record {
       ap (λ (rs : List OpScope). steps_in rs u) c.drop_out.ensures.items ∙ steps_remove_other items place q inside now u (λ is. other (is ∙ same.txn)) ∙ c.take_back.ensures.others x at u other);
   live = search rules;
   commits = search rules;
+  numbers = search rules;
   locks = λ x at. ∥∥₁_elim c.requires.safe (hlevel props) (λ (origin, base, safe).
       let place = c.args.place in let items = c.take_back.new.self.running.items in
       let inside : place < length items = let same = c.take_back.ensures.length in let within = c.requires.within in omega arith in

@@ -13,7 +13,7 @@ use Rattle.mt_core.specs.Consistent.{IsWithinSchema}
 use Rattle.mt_core.specs.declared.parts.Core.{Core}
 use Rattle.mt_op.specs.declared.scope.OpScope.{OpScope}
 use Rattle.mt_core.proofs.Calling.{txn_named}
-use Rattle.mt_core.proofs.Effects.{inverse_bytes, inverse_writes, last_did}
+use Rattle.mt_core.proofs.Effects.{weighs_effect, inverse_bytes, inverse_writes, last_did}
 use Rattle.mt_core.specs.Runs.{undo_bytes, entry_bytes}
 use Rattle.mt_core.proofs.Enough.{undo_enough}
 use Rattle.mt_core.proofs.Inverse.{last_has, within_steps, inverse_within, undo_fresh}
@@ -53,7 +53,7 @@ overflow_sub-self g c = ∥∥₁_elim c.requires.safe (hlevel props) (λ (origi
     let x = last_entry (last_effect c.args.txn k.live.standing) c.in-Some.last.op.now c.in-Some.last.reply.now c.in-Some.ensures.last in
     let inverse : inverse_of x.0.op x.0.reply ≡ Some c.in-Some-2.inverse = (λ i. inverse_of (x.2 i) (x.3 i)) ∙ sym c.in_ok-inverse.ensures.inverse ∙ c.in-Some-2.is in
     let some : is_some (inverse_of x.0.op x.0.reply) ≡ true = ap is_some inverse in
-    let weighs : entry_bytes x.0 ≡ undo_bytes x.0.op = rw some refl in
+    let weighs : entry_bytes x.0 ≡ undo_bytes x.0.op = weighs_effect undo_bytes c.args.txn k.live.standing x.0 x.1 in
     undo_enough g.D.Device origin base k c.args.txn x.0 safe.fit c.requires.idle x.1 some (weighs ∙ inverse_bytes x.0.op x.0.reply c.in-Some-2.inverse inverse))
 
 pub returns-in-Ok-clause-state : goal.returns-in-Ok-clause-state
@@ -69,7 +69,7 @@ returns-in-Ok-clause-state g c = λ origin base safe.
     let fresh : IsFresh (world g.D.Device origin.pages k.operations) c.args.txn c.new.result c.get-undoes.result = subst (λ (X : Type 0). X) (λ i. IsFresh (world g.D.Device origin.pages k.operations) c.args.txn (sym c.new.ensures i) (numbered i)) due.0 in
     let back : s.undoes ≢ 0 = λ is. due.1 (numbered ∙ sym e.named.3 ∙ is) in
     let some : is_some (inverse_of x.0.op x.0.reply) ≡ true = ap is_some inverse in
-    let weighs : entry_bytes x.0 ≡ undo_bytes x.0.op = rw some refl in
+    let weighs : entry_bytes x.0 ≡ undo_bytes x.0.op = weighs_effect undo_bytes c.args.txn k.live.standing x.0 x.1 in
     let enough = undo_enough g.D.Device origin base k c.args.txn x.0 safe.fit c.requires.idle x.1 some (weighs ∙ inverse_bytes x.0.op x.0.reply c.in-Some-2.inverse inverse) in
     let n : Core g.row.D.Denot = record k { running = c.push_reserved.new.self; reserved = k.reserved - 106496 } in
     let writes : undo_bytes c.in-Some-2.inverse ≡ 106496 = inverse_writes x.0.op x.0.reply c.in-Some-2.inverse inverse in

@@ -21,7 +21,7 @@ use Rattle.mt_pool.specs.Views.{pages}
 use Rattle.mt_core.specs.Runs.{IsOwned}
 use Rattle.mt_core.proofs.Undoing.{moved_of, total_at, inverse_moved, undo_removed, cut_left, abort_at, back_with}
 use Rattle.mt_core.proofs.Laboring.{steps_at, steps_removed, some_left, both_at}
-use Rattle.std.proofs.Common.{true, ◌≢◌}
+use Rattle.std.proofs.Common.{true, ◌≢◌, Some}
 use Rattle.mt_live.specs.Lives.{member_of}
 use Rattle.mt_core.specs.Runs.{is_open}
 use Rattle.mt_core.specs.Restartable.{StepAppends}
@@ -39,6 +39,8 @@ use Rattle.std.proofs.Common.{refl}
 use Rattle.mt_core.specs.PageLocks.{step_of}
 use Rattle.mt_core.specs.declared.steps.Going.TheVariants.{Flush}
 use Rattle.mt_core.proofs.GoingOn.{in_on, lowers_on, lowers_prop, other_on, quiet_on, same_going}
+use Rattle.mt_core.specs.Runs.{state_in}
+use Rattle.mt_live.specs.declared.transactions.TxnState.TheVariants.{Aborting}
 use Rattle.mt_core.proofs.parts.Core.undo_step.Goals as goal
 
 pub note_undone-requires-clause-back : goal.note_undone-requires-clause-back
@@ -92,6 +94,7 @@ returns-in-Err-clause-stepped g c = record {
       ap (λ (rs : List OpScope). steps_in rs u) c.note_undone.ensures.items ∙ steps_remove_other items place q inside now u (λ is. other (is ∙ same.txn)) ∙ c.advance.ensures.others x at u other);
   states = search rules;
   commits = search rules;
+  numbers = search rules;
   locks = λ x at.
       let k = c.args.self.now in let place = c.args.place in
       let kept : c.advance.new.self.operations.locks ≡ k.operations.locks = subst (KeepsLocks x.number (IsNext k.operations.rooms k.operations.locks x) k.operations.locks c.advance.new.self.operations.locks) (c.in_ok-stepped.was ∙ ap Ok c.in-Err.ensures.ready) (c.advance.ensures.locks x at) in
@@ -132,6 +135,7 @@ returns-in-Ok-clause-stepped g c = record {
   others = search rules;
   states = search rules;
   commits = search rules;
+  numbers = search rules;
   locks = λ x at. let k = c.args.self.now in
       subst (KeepsLocks x.number (IsNext k.operations.rooms k.operations.locks x) k.operations.locks c.advance.new.self.operations.locks) (c.in_ok-stepped.was ∙ ap Ok c.in-Ok.ensures.going) (c.advance.ensures.locks x at);
   other = λ origin base safe x at.
@@ -210,6 +214,7 @@ returns-in_err-stepped-clause-stepped g c = record {
   others = search rules;
   states = search rules;
   commits = search rules;
+  numbers = search rules;
   locks = λ x at. let k = c.args.self.now in
       let p = err_from_is_err_and c.from_residual.result c.from_residual.ensures.1 in
       subst (λ (res : Result Stepping Refusal). KeepsPageLocks k c.advance.new.self x res) (sym p.1)
@@ -243,12 +248,12 @@ returns-in-Err-clause-restartable g c = λ origin base later safe_k safe_n r.
     let owned : IsOwned m.live.members m.live.standing q = subst (IsOwned m.live.members m.live.standing) (sym now) (ready.fit.owned place q inside) in
     let ends = subst (StepAppends origin k m q) was (c.advance.ensures.appends origin base safe_k q now) in
     let live = c.advance.ensures.live in
-    let working : is_open (member_of k.live.members q.txn) ≡ true = ap (λ l. is_open (member_of l.members q.txn)) (sym live) ∙ owned.at_work in
     let back : q.undoes ≢ 0 = λ is. c.requires.back x at (sym same.undoes ∙ is) in
+    let aborting : state_in k.live.members q.txn ≡ Some Aborting = ap (λ l. state_in l.members q.txn) (sym live) ∙ owned.aborts back in
     let takes : TakesBack k.live.members k.live.standing q = subst (λ l. TakesBack l.members l.standing q) live (owned.inverse back) in
     let noted = (c.note_undone.ensures.ends origin base c.in-Err.reply made.0 q now).leads.consistent in
     undone g.D.Device origin k n base q c.in-Err.reply safe_k noted (area_then g.D.Device origin k m n ends.area c.note_undone.ensures.store) (end_then g.D.Device origin k m n q c.in-Err.reply ends.appends c.note_undone.ensures.store)
-    (undone_then g.D.Device origin k m n q c.advance.ensures.book c.advance.ensures.commits live (c.note_undone.ensures.notes q now)) back working takes ready.replies r
+    (undone_then g.D.Device origin k m n q c.advance.ensures.book c.advance.ensures.commits live (c.note_undone.ensures.notes q now)) back aborting takes ready.replies r
 
 pub returns-in-Ok-clause-restartable : goal.returns-in-Ok-clause-restartable
 returns-in-Ok-clause-restartable g c = λ origin base later safe_k safe_n r. let k = c.args.self.now in let n = c.advance.new.self in let place = c.args.place in

@@ -48,7 +48,7 @@ returns-clause-last c =
     let first = first_from ms c.args.txn c.in_ok-place.place (ap (λ xs. position (λ (m : Member). m.number == c.args.txn) xs) (sym c.deref.ensures.value) ∙ (sym c.place_of.ensures ∙ c.in_ok-place.was)) in
     let read = read_last _ ms _ _ _ c.args.txn c.in_ok-place.place c.in_ok-place.place c.index.result.now c.index-2.result.now c.in_ok-at.at c.call.result.now c.self.invariant first c.index.ensures c.index-2.ensures
     (sym c.last_place.ensures.place ∙ c.in_ok-at.was) c.call.ensures in
-    sym (ap (option_map (λ (e : Entry). (e.op, e.reply))) read)
+    sym read
     ∙ ap (λ (l : Lives). option_map (λ (e : Entry). (e.op, e.reply)) (last_effect c.args.txn l.standing)) c.self.view_is
 
 pub returns-clause-number : goal.returns-clause-number

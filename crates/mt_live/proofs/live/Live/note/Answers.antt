@@ -1,6 +1,7 @@
 use Rattle.std.proofs.Common.{◌≡◌, ◌++◌, ◌∷◌, [], ◌∙◌, true, ap, subst, sym, set}
 use Rattle.mt_live.specs.Lives.{Lives, IsFirst, IsChanged, member_of, has_room, IsAbove}
-use Rattle.mt_live.specs.Members.{Member, with_call}
+use Rattle.mt_live.specs.declared.transactions.Role.TheVariants.{Stands}
+use Rattle.mt_live.specs.Members.{Member, noted, with_call}
 use Rattle.mt_live.proofs.Wells.{numbered_of, room_there, place_left, noted_well, noted_standing, changed, its_number}
 use Rattle.mt_live.proofs.live.Live.note.Goals as goal
 
@@ -32,7 +33,7 @@ invariant_of-self c =
     let first : IsFirst ms c.args.txn i = subst (λ xs. IsFirst xs c.args.txn i) c.deref.ensures.value c.place_in-place.ensures in
     let is = c.index_mut.ensures.value in
     let lis = c.index.ensures in
-    noted_well _ ms _ _ _ c.args.txn i m c.note.new.self l c.args.operation (c.args.op, c.args.reply) c.len-index.result _ _ _ c.self.invariant first is c.note.ensures lis c.len-index.ensures
+    noted_well _ ms _ _ _ c.args.txn i m c.note.new.self l c.args.operation (noted Stands (c.args.op, c.args.reply)) c.len-index.result _ _ _ c.self.invariant first is c.note.ensures lis c.len-index.ensures
     (room_there ms c.args.txn i m first is (subst (λ (l : Lives). has_room (member_of l.members c.args.txn) ≡ true) (sym c.self.view_is) c.requires.room))
     (subst (λ (l : Lives). IsAbove c.args.operation (member_of l.members c.args.txn)) (sym c.self.view_is) c.requires.above)
     c.push_reserved.ensures.items c.push_reserved.ensures.len c.push_reserved.ensures.capacity
@@ -46,8 +47,8 @@ returns-clause-standing c =
     let first : IsFirst ms c.args.txn i = subst (λ xs. IsFirst xs c.args.txn i) c.deref.ensures.value c.place_in-place.ensures in
     let is = c.index_mut.ensures.value in
     let lis = c.index.ensures in
-    noted_standing _ ms _ _ _ c.args.txn i m c.note.new.self l c.args.operation (c.args.op, c.args.reply) c.len-index.result _ c.self.invariant first is c.note.ensures lis c.len-index.ensures c.push_reserved.ensures.items
-    ∙ ap (λ (l : Lives). l.standing ++ record { txn = c.args.txn; op = c.args.op; reply = c.args.reply } ∷ []) c.self.view_is
+    noted_standing _ ms _ _ _ c.args.txn i m c.note.new.self l c.args.operation (noted Stands (c.args.op, c.args.reply)) c.len-index.result _ c.self.invariant first is c.note.ensures lis c.len-index.ensures c.push_reserved.ensures.items
+    ∙ ap (λ (l : Lives). l.standing ++ record { txn = c.args.txn; op = c.args.op; reply = c.args.reply; role = Stands } ∷ []) c.self.view_is
 
 pub returns-clause-member : goal.returns-clause-member
 returns-clause-member c =
@@ -70,7 +71,7 @@ returns-clause-numbered c =
     let l = c.index.result.now in
     let is = c.index_mut.ensures.value in
     let lis = c.index.ensures in
-    numbered_of _ _ _ _ _ (noted_well _ ms _ _ _ c.args.txn i m c.note.new.self l c.args.operation (c.args.op, c.args.reply) c.len-index.result _ _ _ c.self.invariant first is c.note.ensures lis c.len-index.ensures
+    numbered_of _ _ _ _ _ (noted_well _ ms _ _ _ c.args.txn i m c.note.new.self l c.args.operation (noted Stands (c.args.op, c.args.reply)) c.len-index.result _ _ _ c.self.invariant first is c.note.ensures lis c.len-index.ensures
     (room_there ms c.args.txn i m first is (subst (λ (l : Lives). has_room (member_of l.members c.args.txn) ≡ true) (sym c.self.view_is) c.requires.room))
     (subst (λ (l : Lives). IsAbove c.args.operation (member_of l.members c.args.txn)) (sym c.self.view_is) c.requires.above)
     c.push_reserved.ensures.items c.push_reserved.ensures.len c.push_reserved.ensures.capacity)

@@ -16,7 +16,7 @@ invariant_of-self-2 g c =
 pub returns-clause-kernel : goal.returns-clause-kernel
 returns-clause-kernel g c =
     let D = g.D.Device in let e = c.abort_begin.ensures in
-    asked c.self.inside.standing c.in-Stands.kernel c.abort_begin.new.self c.self.inside.end.view.list _ _ _ c.in-Stands.is c.self.view_is
+    asked c.self.inside.standing c.in-Stands.kernel c.abort_begin.new.self c.self.inside.end.view _ _ _ c.in-Stands.is c.self.view_is
     (record { answers = record { may = e.may; why = e.cause; aborts = e.aborts; err = on_err_led c.abort_begin.result (λ same. ap (λ (x : Kernel _ _). seen_of x) same) e.err }; state = e.state; device = e.device })
 
 pub returns-clause-book : goal.returns-clause-book

@@ -15,7 +15,7 @@ invariant_of-self-2 g c =
 pub returns-clause-kernel : goal.returns-clause-kernel
 returns-clause-kernel g c =
     let D = g.D.Device in let e = c.call.ensures in
-    asked c.self.inside.standing c.in-Stands.kernel c.call.new.self c.self.inside.end.view.list _ _ _ c.in-Stands.is c.self.view_is
+    asked c.self.inside.standing c.in-Stands.kernel c.call.new.self c.self.inside.end.view _ _ _ c.in-Stands.is c.self.view_is
     (record {
       answers = record { early = at_once _ _ _ _ e.early; answer = e.answer; states = e.states; commits = e.commits };
       runs = e.runs;

@@ -1,4 +1,4 @@
-use Rattle.std.proofs.Common.{◌≡◌, ℕ, ◌+◌, ◌++◌, ◌∷◌, [], List, length, slice_get, Some, ap, sym, ◌∙◌, subst, refl, arith}
+use Rattle.std.proofs.Common.{◌≡◌, ℕ, ◌+◌, ◌-◌, ◌++◌, ◌∷◌, [], List, length, slice_get, Some, ap, sym, ◌∙◌, subst, refl, arith}
 use mathlib.Core.List.{IsPrefix}
 use Rattle.mt_model.specs.declared.tables.Base.{Base}
 use Rattle.mt_mark.specs.Legal.{IsLegal}
@@ -76,7 +76,7 @@ returns-clause-entered g c =
     let book = subst (λ (x : Held). IsLegal b (book_in standing (dones x.view.list))) s.same (h.legal c.if-not-has.false) in
     let on = entered_on b list e c.check-at.result standing s.stands there i.4 in
     let front = subst (IsPrefix (dones (list ++ e ∷ []))) on.1 (front_of b (dones (list ++ e ∷ [])) standing on.0) in
-    let locked : LockedSeen _ = seen_in standing list in
+    let locked : LockedSeen _ = seen_in standing c.self.inside.end.view in
     let old : PassSeen = record { number = c.pass.inside.number; seen = c.pass.inside.seat.view.list } in
     let new : PassSeen = record { number = c.pass.inside.number; seen = c.enter.new.seat.view.list } in
     let seen = n.seen ∙ ap (λ (x : Held). x.view.list ++ e ∷ []) s.same in
@@ -84,3 +84,9 @@ returns-clause-entered g c =
     let long : length list + 1 ≡ c.args.place = (let x = s.stands in let y = c.if-at-place.false in let z = c.if-place-eq0.false in omega arith) in
     let at : Entered b locked c.args.place old e new = entered b locked c.args.place old new e held refl seen front book long in
     subst (λ (x : LockedSeen _ × PassSeen × Entry). Entered b x.0 c.args.place x.1 x.2 new) (λ j. (c.self.view_is j, c.pass.view_is j, c.into_entry-number.ensures j)) at
+
+pub returns-clause-passes : goal.returns-clause-passes
+returns-clause-passes g c =
+    let s = c.check-at.ensures in
+    let n = c.enter.ensures in
+    ap (λ (m : ℕ). m - 1) (n.end.0.0 ∙ ap (λ (x : Held). x.view.made) s.same) ∙ ap (λ (l : LockedSeen _). l.pass_count) c.self.view_is

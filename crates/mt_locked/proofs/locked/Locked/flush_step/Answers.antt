@@ -1,6 +1,6 @@
 use Rattle.std.proofs.Common.{◌∙◌, ap}
 use Rattle.mt_locked.proofs.Keeping.{stays}
-use Rattle.mt_locked.proofs.Standings.{asked, goes_on}
+use Rattle.mt_locked.proofs.Standings.{asked, goes_on, reports}
 use Rattle.mt_locked.specs.Seen.{LockedSeen}
 use Rattle.mt_locked.proofs.locked.Locked.flush_step.Goals as goal
 
@@ -14,8 +14,8 @@ invariant_of-self-2 g c =
 pub returns-clause-kernel : goal.returns-clause-kernel
 returns-clause-kernel g c =
     let D = g.D.Device in let e = c.flush_step.ensures in
-    asked c.self.inside.standing c.in-Stands.kernel c.flush_step.new.self c.self.inside.end.view.list _ _ _ c.in-Stands.is c.self.view_is
-    (record { answers = record { why = e.cause; log = e.log }; written = e.flushes.written; waits = e.flushes.held_up; nothing = e.flushes.nothing; rest = e.rest; once = e.once })
+    asked c.self.inside.standing c.in-Stands.kernel c.flush_step.new.self c.self.inside.end.view _ _ _ c.in-Stands.is c.self.view_is
+    (record { answers = record { why = e.cause; log = e.log }; written = e.flushes.written; waits = e.flushes.held_up; nothing = e.flushes.nothing; rest = e.rest; device = record { once = e.once; faults = reports _ _ c.flush_step.result e.fails e.quiet } })
 
 pub returns-clause-book : goal.returns-clause-book
 returns-clause-book g c =

@@ -1,9 +1,11 @@
-use Rattle.std.proofs.Common.{subst}
+use Rattle.std.proofs.Common.{ap, subst}
 use mathlib.Core.List.{IsPrefix}
 use Rattle.mt_mark.specs.Rule.{dones}
 use Rattle.mt_model.specs.Views.{base_of}
 use Rattle.mt_locked.specs.Seen.{LockedSeen}
-use Rattle.mt_locked.proofs.Standings.{asked, forces_on}
+use Rattle.mt_txn.specs.Seen.{seen_of}
+use Rattle.mt_txn.specs.declared.kernel.Kernel.{Kernel}
+use Rattle.mt_locked.proofs.Standings.{asked, forces_on, reports}
 use Rattle.mt_locked.proofs.locked.Locked.force_step.Goals as goal
 
 pub invariant_of-self-2 : goal.invariant_of-self-2
@@ -23,5 +25,13 @@ returns-clause-book g c =
 pub returns-clause-kernel : goal.returns-clause-kernel
 returns-clause-kernel g c =
     let D = g.D.Device in let e = c.force_step.ensures in
-    asked c.self.inside.standing c.in-Stands.kernel c.force_step.new.self c.self.inside.end.view.list _ _ _ c.in-Stands.is c.self.view_is
-    (record { answers = record { why = e.cause; forced = e.log; unappended = e.keeps.appended }; pool = e.keeps.pool; running = e.keeps.running; states = e.keeps.states; once = e.once })
+    asked c.self.inside.standing c.in-Stands.kernel c.force_step.new.self c.self.inside.end.view _ _ _ c.in-Stands.is c.self.view_is
+    (record {
+      answers = record { why = e.cause; forced = e.log; unappended = e.keeps.appended };
+      pool = e.keeps.pool;
+      running = e.keeps.running;
+      states = e.keeps.states;
+      err = e.keeps.err;
+      memory = λ is. ap (λ (x : Kernel _ _). seen_of x) (e.memory is);
+      device = record { once = e.once; faults = reports _ _ c.force_step.result e.fails e.quiet };
+    })

@@ -14,4 +14,4 @@ returns-clause-leaves g c =
 
 pub returns-clause-device : goal.returns-clause-device
 returns-clause-device g c = let D = g.D.Device in let inside = c.self.inside in
-    device_seen inside.standing inside.end.view.list c.args.self c.into_device.result c.into_device.ensures.device c.self.view_is
+    device_seen inside.standing inside.end.view c.args.self c.into_device.result c.into_device.ensures.device c.self.view_is

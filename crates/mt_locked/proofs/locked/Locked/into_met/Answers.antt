@@ -4,10 +4,11 @@ use Rattle.mt_mark.specs.declared.view.Entry.{Entry}
 use Rattle.mt_restart.specs.declared.standing.Standing.{Standing}
 use Rattle.mt_locked.proofs.Books.{dones-length}
 use Rattle.mt_locked.proofs.Counts.{all_counted}
-use Rattle.mt_locked.proofs.Idle.{idle_of}
-use Rattle.mt_locked.proofs.Standings.{stands_on}
+use Rattle.mt_locked.proofs.Idle.{idle_of, none_if}
+use Rattle.mt_locked.proofs.Standings.{kernel_is, stands_on}
 use Rattle.mt_locked.specs.Seen.{LockedSeen, PassSeen}
 use Rattle.mt_locked.specs.Standings.{book_in}
+use Rattle.mt_locked.specs.Whole.{IsInUse}
 use Rattle.mt_locked.proofs.locked.Locked.into_met.Goals as goal
 
 pub returns-in-Stands-clause-own : goal.returns-in-Stands-clause-own
@@ -33,5 +34,11 @@ returns-in-Stands-clause-began g c = let D = g.D.Device in
 
 pub returns-in-Stands-clause-idle : goal.returns-in-Stands-clause-idle
 returns-in-Stands-clause-idle g c = λ well. let D = g.D.Device in let b = g.J.Naming.base in let k = c.in-Stands.kernel in
-    let began = (stands_on b (dones c.self.inside.end.view.list) c.self.inside.standing k c.in-Stands.is c.self.invariant.4).0 in
-    idle_of b k began (c.has_ended.ensures c.if-has_ended.true well)
+    let list = c.self.inside.end.view.list in
+    let began = (stands_on b (dones list) c.self.inside.standing k c.in-Stands.is c.self.invariant.4).0 in
+    let is = kernel_is c.self.inside.standing k c.self.inside.end.view c.args.self c.in-Stands.is c.self.view_is in
+    idle_of b k began (none_if (length k.core.live.members) (λ some. c.requires.whole.ended (subst (λ o. IsInUse o) is (well, some))))
+
+pub returns-in-Stands-clause-kernel : goal.returns-in-Stands-clause-kernel
+returns-in-Stands-clause-kernel g c = let D = g.D.Device in
+    sym (kernel_is c.self.inside.standing c.in-Stands.kernel c.self.inside.end.view c.args.self c.in-Stands.is c.self.view_is)

@@ -14,9 +14,9 @@ returns-in-Stands-clause-use_on g c =
 pub returns-in-Stands-clause-kernel : goal.returns-in-Stands-clause-kernel
 returns-in-Stands-clause-kernel g c = let D = g.D.Device in
     subst (λ o. IsUseSeen o (Some c.log_use.result))
-    (kernel_is c.self.inside.standing c.in-Stands.kernel c.self.inside.end.view.list c.args.self.now c.in-Stands.is c.self.view_is) (c.log_use.ensures.used, c.log_use.ensures.size)
+    (kernel_is c.self.inside.standing c.in-Stands.kernel c.self.inside.end.view c.args.self.now c.in-Stands.is c.self.view_is) (c.log_use.ensures.used, c.log_use.ensures.size)
 
 pub returns-in-Ended-clause-kernel : goal.returns-in-Ended-clause-kernel
 returns-in-Ended-clause-kernel g c = let D = g.D.Device in
     subst (λ o. IsUseSeen o None)
-    (none_is c.self.inside.standing c.in-Ended.field-0 c.self.inside.end.view.list c.args.self.now c.in-Ended.is c.self.view_is) refl
+    (none_is c.self.inside.standing c.in-Ended.field-0 c.self.inside.end.view c.args.self.now c.in-Ended.is c.self.view_is) refl

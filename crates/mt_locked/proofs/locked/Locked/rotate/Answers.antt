@@ -62,8 +62,8 @@ returns-else-ne-clause-early g c = λ is.
     let D = g.D.Device in let i = c.self.invariant in let s = c.check-entered.ensures in
     let list = c.self.inside.end.view.list in let standing = c.self.inside.standing in let new = c.replace_with-outcome.new.dest in
     let early = c.replace_with-outcome.ensures.early is in (
-      (λ j. seen_in (early.0 j) (ap (λ (x : Held). x.view.list) s.same j)) ∙ c.self.view_is,
-      subst (λ (l : LockedSeen _). IsTooEarlyIn l) c.self.view_is (too_early c.check-entered.result standing list s.stands early.1),
+      (λ j. seen_in (early.0 j) (ap (λ (x : Held). x.view) s.same j)) ∙ c.self.view_is,
+      subst (λ (l : LockedSeen _). IsTooEarlyIn l) c.self.view_is (too_early c.check-entered.result standing c.self.inside.end.view s.stands early.1),
     )
 
 pub returns-then-ne-clause-refused : goal.returns-then-ne-clause-refused
@@ -77,10 +77,10 @@ pub returns-then-ne-clause-failed : goal.returns-then-ne-clause-failed
 returns-then-ne-clause-failed g c = λ bad.
     let s = c.check-entered.ensures in
     let failed = c.replace_with-outcome.ensures.failed (ap (λ (l : LockedSeen _). is_failed_in l.kernel) c.self.view_is ∙ bad) in
-    (failed.0, c.settle.ensures ∙ ((λ j. seen_in (failed.1 j) (ap (λ (x : Held). x.view.list) s.same j)) ∙ c.self.view_is))
+    (failed.0, c.settle.ensures ∙ ((λ j. seen_in (failed.1 j) (ap (λ (x : Held). x.view) s.same j)) ∙ c.self.view_is))
 
 pub returns-else-ne-clause-failed : goal.returns-else-ne-clause-failed
 returns-else-ne-clause-failed g c = λ bad.
     let s = c.check-entered.ensures in
     let failed = c.replace_with-outcome.ensures.failed (ap (λ (l : LockedSeen _). is_failed_in l.kernel) c.self.view_is ∙ bad) in
-    (failed.0, (λ j. seen_in (failed.1 j) (ap (λ (x : Held). x.view.list) s.same j)) ∙ c.self.view_is)
+    (failed.0, (λ j. seen_in (failed.1 j) (ap (λ (x : Held). x.view) s.same j)) ∙ c.self.view_is)

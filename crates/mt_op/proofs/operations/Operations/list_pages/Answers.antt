@@ -21,6 +21,7 @@ loop-number-init g c = record {
   counters = refl;
   read = reads_none g.D.Device g.met.D.Device.only_now c.args.self.now;
   quiet = refl;
+  calls = omega arith;
 }
 
 pub list_page-requires-clause-idle : goal.list_page-requires-clause-idle
@@ -45,6 +46,7 @@ loop-number-preserved g c =
       counters = c.list_page.ensures.counters ∙ was.counters;
       read = reads_both D o l.self c.list_page.new.self was.read c.list_page.ensures.read;
       quiet = e.quiet (λ is. cc) ∙ was.quiet;
+      calls = let before = was.calls in let one = c.list_page.ensures.once in omega (arith, before, one);
     }
 
 pub returns-clause-listed : goal.returns-clause-listed
@@ -56,3 +58,11 @@ pub returns-in_err-list_page-clause-read : goal.returns-in_err-list_page-clause-
 returns-in_err-list_page-clause-read g c =
     let D = g.D.Device in
     reads_both D c.args.self.now c.loop-number.self c.list_page.new.self c.loop-number.invariant.read c.list_page.ensures.read
+
+pub returns-clause-calls : goal.returns-clause-calls
+returns-clause-calls g c =
+    let calls = c.loop-number.invariant.calls in let all = c.count-number-end.ensures in let within = c.loop-number.auto.number-end in omega arith
+
+pub returns-in_err-list_page-clause-calls : goal.returns-in_err-list_page-clause-calls
+returns-in_err-list_page-clause-calls g c =
+    let calls = c.loop-number.invariant.calls in let one = c.list_page.ensures.once in let all = c.count-number-end.ensures in let less = c.loop-number-test.true in omega arith

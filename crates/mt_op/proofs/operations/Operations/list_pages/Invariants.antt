@@ -1,4 +1,4 @@
-use Rattle.std.proofs.Common.{◌≡◌, ℕ, length}
+use Rattle.std.proofs.Common.{◌≡◌, ◌≤◌, ◌+◌, ℕ, length}
 use Rattle.mt_model.specs.Model.{Base}
 use Rattle.mt_model.specs.Views.{base_of, counters_of, relations_of}
 use Rattle.mt_op.specs.Operations.{IsRight, world}
@@ -19,4 +19,5 @@ invariant-loop-number g l = record {
   counters : length (counters_of l.base) ≡ length (counters_of l.initial.base);
   read : OnlyReads g.D.Device l.initial.self l.self;
   quiet : g.D.Device.faults l.self.store.device ≡ g.D.Device.faults l.initial.self.store.device;
+  calls : g.D.Device.moment l.self.store.device ≤ g.D.Device.moment l.initial.self.store.device + l.number;
 }

@@ -103,3 +103,17 @@ pub returns-in_err-base-clause-read : goal.returns-in_err-base-clause-read
 returns-in_err-base-clause-read g c =
     let D = g.D.Device in
     reads_both D c.args.self.now c.held_page.new.self c.held_page-2.new.self c.held_page.ensures.read c.held_page-2.ensures.read
+
+pub returns-clause-calls : goal.returns-clause-calls
+returns-clause-calls g c =
+    let D = g.D.Device in let m = c.held_page.new.self in let n = c.held_page-2.new.self in
+    let both = reads_both D c.args.self.now m n c.held_page.ensures.read c.held_page-2.ensures.read in
+    let total : pages n.store.pool ≡ pages c.args.self.now.store.pool = ap (λ (p : Pool). pages p) both.pool in
+    let one = c.held_page.ensures.once in let two = c.held_page-2.ensures.once in let calls = c.list_pages.ensures.calls in omega (arith, total, one, two, calls)
+
+pub returns-in_err-list_pages-clause-calls : goal.returns-in_err-list_pages-clause-calls
+returns-in_err-list_pages-clause-calls g c =
+    let D = g.D.Device in let m = c.held_page.new.self in let n = c.held_page-2.new.self in
+    let both = reads_both D c.args.self.now m n c.held_page.ensures.read c.held_page-2.ensures.read in
+    let total : pages n.store.pool ≡ pages c.args.self.now.store.pool = ap (λ (p : Pool). pages p) both.pool in
+    let one = c.held_page.ensures.once in let two = c.held_page-2.ensures.once in let calls = c.list_pages.ensures.calls in omega (arith, total, one, two, calls)

@@ -3,7 +3,7 @@ use Rattle.mt_frame.specs.declared.records.Record.{Record}
 use Rattle.mt_frame.specs.declared.records.Record.TheVariants.{Commit}
 use Rattle.mt_replay.specs.Losers.{Tells}
 use Rattle.mt_replay.specs.declared.losers.Telling.{Telling}
-use Rattle.mt_replay.proofs.Losing.{tells_ended}
+use Rattle.mt_replay.proofs.Losing.{tells_ended, tells_inverse}
 use Rattle.mt_replay.proofs.losers.Telling.tell_one.Goals as goal
 
 pub returns-in_ok-note_end-in-Commit-clause-tells : goal.returns-in_ok-note_end-in-Commit-clause-tells
@@ -12,3 +12,11 @@ returns-in_ok-note_end-in-Commit-clause-tells c =
     let new : Telling = record { losers = old.losers; ended = c.note_end.new.set; undone = old.undone } in
     subst (λ (r : Record). Tells c.args.batch.now (r ∷ []) old new) (sym c.in-Commit.is)
     (tells_ended c.args.batch.now (Commit c.in-Commit.txn) c.in-Commit.txn old new (λ rs. refl) (λ t. refl) (λ t o. refl) refl refl c.in_ok-note_end-in-Commit.ensures)
+
+pub returns-in_ok-note_undone-in-OpEnd-clause-tells : goal.returns-in_ok-note_undone-in-OpEnd-clause-tells
+returns-in_ok-note_undone-in-OpEnd-clause-tells c =
+    let old : Telling = c.args.self.now in
+    let new : Telling = record { losers = old.losers; ended = old.ended; undone = c.note_undone.new.set } in
+    let it = c.in-OpEnd in
+    subst (λ (r : Record). Tells c.args.batch.now (r ∷ []) old new) (sym it.is)
+    (tells_inverse c.args.batch.now it.txn it.op it.undoes it.done old new c.if-undoes-eq0.false refl refl c.in_ok-note_undone-in-OpEnd.ensures)

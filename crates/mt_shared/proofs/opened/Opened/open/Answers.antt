@@ -4,7 +4,7 @@ use Rattle.mt_live.specs.Machine.{start}
 use Rattle.mt_model.specs.Views.{base_of}
 use Rattle.mt_model.specs.declared.tables.Base.{Base}
 use Rattle.mt_locked.proofs.Keeping.{began_so}
-use Rattle.mt_shared.proofs.Openings.{first_book, open_fault, unopened_by}
+use Rattle.mt_shared.proofs.Openings.{first_book, no_memory}
 use Rattle.mt_disk.specs.Disk.{LeavesOnly}
 use Rattle.mt_restart.specs.Recovered.{StandsStill}
 use Rattle.mt_restart.specs.Resumed.{HasTurnedOver}
@@ -28,11 +28,14 @@ returns-in-Ok-new-clause-first g c =
 pub returns-in-Ok-new-clause-frames : goal.returns-in-Ok-new-clause-frames
 returns-in-Ok-new-clause-frames g c = c.in-Ok-new.ensures.frames ∙ c.in-Ok.ensures.frames
 
-pub returns-in-Err-clause-refused : goal.returns-in-Err-clause-refused
-returns-in-Err-clause-refused g c = unopened_by _ _ c.in-Err.why c.in-Err.ensures.cause
+pub returns-in-Ok-new-clause-restored : goal.returns-in-Ok-new-clause-restored
+returns-in-Ok-new-clause-restored g c = let r = c.in-Ok.ensures.restored in (r.items, r.restored)
 
-pub returns-in-Err-clause-failed : goal.returns-in-Err-clause-failed
-returns-in-Err-clause-failed g c = open_fault _ _ c.in-Err.why c.in-Err.ensures.cause
+pub returns-in-Err-clause-refused : goal.returns-in-Err-clause-refused
+returns-in-Err-clause-refused g c = record { cause = c.in-Err.ensures.cause; rightly = c.in-Err.ensures.refused }
+
+pub returns-clause-refused : goal.returns-clause-refused
+returns-clause-refused g c = let r = c.in-Ok.ensures.restored in no_memory c.slots_are_read_back.ensures _ _ r.items r.restored
 
 pub returns-in-Err-clause-settled : goal.returns-in-Err-clause-settled
 returns-in-Err-clause-settled g c = λ relations counters b can other x leaves. ∣ c.in-Err.ensures.settled relations counters b can other x leaves ∣₁

@@ -149,6 +149,7 @@ returns-in_err-reply-clause-leaves g c = record {
   durable = search rules;
   states = search rules;
   commits = search rules;
+  numbers = search rules;
 }
 
 pub returns-in-Ended-clause-leaves : goal.returns-in-Ended-clause-leaves
@@ -157,6 +158,7 @@ returns-in-Ended-clause-leaves g c = record {
   durable = search rules;
   states = search rules;
   commits = search rules;
+  numbers = search rules;
 }
 
 pub returns-in-Going-clause-leaves : goal.returns-in-Going-clause-leaves
@@ -166,4 +168,5 @@ returns-in-Going-clause-leaves g c = record {
   durable = search rules;
   states = search rules;
   commits = search rules;
+  numbers = search rules;
 }

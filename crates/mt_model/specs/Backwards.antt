@@ -1,0 +1,28 @@
+-- Calls taken back, the last one first.
+use Rattle.std.specs.Prelude.{List, [], ◌∷◌, ◌++◌, Option}
+use Rattle.std.specs.Option.{option_map, option_to_list}
+use Rattle.mt_model.specs.declared.operations.Op.{Op}
+use Rattle.mt_model.specs.declared.operations.Op.TheVariants.{Get, Insert, Update, Delete, Add, Read, Scan}
+use Rattle.mt_model.specs.declared.operations.Reply.{Reply}
+use Rattle.mt_model.specs.declared.operations.Reply.TheVariants.{Done, Was}
+use Rattle.mt_model.specs.Model.{inverse_of}
+use Rattle.mt_model.specs.History.{Call}
+
+-- what the inverse of an operation replies, if it has one
+abbrev pub inverse_reply : Op → Reply
+inverse_reply (Insert r k v) = Was v
+inverse_reply (Update r k v) = Was v
+inverse_reply (Delete r k) = Done
+inverse_reply (Add c d) = Done
+inverse_reply (Get r k) = Done
+inverse_reply (Read c) = Done
+inverse_reply (Scan r) = Done
+
+-- the inverse of a call together with the reply that it will give, if the call did anything
+abbrev pub call_back : Call → Option Call
+call_back c = option_map (λ (i : Op). (i, inverse_reply c.0)) (inverse_of c.0 c.1)
+
+-- the inverses of calls, of the last call first
+abbrev pub calls_back : List Call → List Call
+calls_back [] = []
+calls_back (c ∷ cs) = calls_back cs ++ option_to_list (call_back c)

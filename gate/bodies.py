@@ -15,7 +15,8 @@ ITEM = re.compile(r"(?m)^( *)(?:pub(?:\(crate\))? )?(?:final )?(?:const )?(?:uns
 SAID = re.compile(r"^fn (\S+): (.*)")
 OWN = re.compile(r"not proved$|no proof: expected")
 # The goals that a check leaves open: in the file of answers of a function, or at a line of its source.
-ANSWER = re.compile(r"(?m)^\./proofs/(\S+)/\w+\.antt:\d+:\d+: error: (.*)")
+# (what a record lacks may stand in the line after its name)
+ANSWER = re.compile(r"(?m)^\./proofs/(\S+)/\w+\.antt:\d+:\d+: error: (.*(?:\n +has no .*)?)")
 LINE = re.compile(r"(?m)^note: (src/\S+\.rt):(\d+):\d+: it is not proved that")
 # An answer that names what the body took away says nothing of the contract.
 LOST = re.compile(r"has no field|is not in scope|has no `|was not admitted")

@@ -45,7 +45,7 @@ not_both o did early = let wrong : ◌≡◌ {A = Result Bool Refusal} (Ok true)
 module _ {D : Type 0} (g : Ghosts D) where
   -- what has not been turned over, and is refused or too early
   pub not_turned : (commits frames : ℕ) (s : Standing D g) (outcome : Result Bool Refusal) → IfErr outcome IsTurnFault → (outcome ≡ Ok true → ⊥) → (outcome ≡ Ok false → IsTooEarly commits s) → (kernel_in s ≡ None → IsErr outcome)
-      → IfErr outcome (λ w. IsLeftAfter w (kernel_in s)) → (is_failed_in (kernel_in s) ≡ true → outcome ≡ Err refusal.DeviceFailed) → IsRotation g commits frames s s outcome
+      → IfErr outcome (λ w. IsLeftAfter g w (kernel_in s) (kernel_in s)) → (is_failed_in (kernel_in s) ≡ true → outcome ≡ Err refusal.DeviceFailed) → IsRotation g commits frames s s outcome
   not_turned commits frames s outcome why not early gone refused failed = record { keeps = λ base history long keeps. (keeps, refl); why = why; did = λ did. absurd (not did); early = λ is. (refl, early is); gone = gone; refused = refused; failed = λ is. (failed is, refl) }
 
   -- the device that is left leaves the whole book
@@ -74,8 +74,8 @@ module _ {D : Type 0} (g : Ghosts D) where
       not_kept _ none kept = kept
 
   -- a kernel that had not failed, and was refused for a fault, is left so
-  left_after : (k n : Kernel D g) (why : Refusal) → is_failed k ≡ false → IsTurnFault why → IsLeft k why n → IsLeftAfter why (Some (seen_of n))
-  left_after k n why well fault left = ⊎_elim (λ at_once. absurd (late at_once.0)) (λ kept. by why kept.1) left.cause
+  left_after : (k n : Kernel D g) (why : Refusal) → is_failed k ≡ false → IsTurnFault why → IsLeft k why n → IsLeftAfter g why (Some (seen_of k)) (Some (seen_of n))
+  left_after k n why well fault left = ⊎_elim (λ at_once. absurd (late at_once.0)) (λ kept. by why kept.1 left.quiet) left.cause
     where
       fault_late : (count : ℕ) → (if nat_eq count 0 then None else Some refusal.Busy) ≡ Some why → ⊥
       fault_late zero is = absurd cc
@@ -87,23 +87,23 @@ module _ {D : Type 0} (g : Ghosts D) where
       late : early_cause k ≡ Some why → ⊥
       late early = fault_late (length k.core.live.members) (sym (ap (λ (b : Bool). survey_cause b k.core) well) ∙ early)
 
-      by : (w : Refusal) → IsKeptCause n w → IsLeftAfter w (Some (seen_of n))
-      by refusal.NoMemory kept = kept
-      by refusal.DeviceFailed kept = kept
-      by refusal.LogFull kept = kept.0
-      by _ kept = absurd kept
+      by : (w : Refusal) → IsKeptCause n w → ((w ≡ refusal.DeviceFailed → ⊥) → g.faults n.core.operations.store.device ≡ g.faults k.core.operations.store.device) → IsLeftAfter g w (Some (seen_of k)) (Some (seen_of n))
+      by refusal.NoMemory kept quiet = (kept, (left.keeps.parts, left.keeps.schema.0, left.keeps.schema.1, quiet (λ e. absurd cc)))
+      by refusal.DeviceFailed kept quiet = kept
+      by refusal.LogFull kept quiet = (kept.0, (left.keeps.parts, left.keeps.schema.0, left.keeps.schema.1, quiet (λ e. absurd cc)))
+      by _ kept quiet = absurd kept
 
   left_so : (k n : Kernel D g) (r : Result (Unit {0}) Refusal) (outcome : Result Bool Refusal) → is_failed k ≡ false → IfErr outcome IsTurnFault → IfErr outcome (λ why. r ≡ Err why)
-      → Rotates k (Stands n) r → IfErr outcome (λ why. IsLeftAfter why (Some (seen_of n)))
+      → Rotates k (Stands n) r → IfErr outcome (λ why. IsLeftAfter g why (Some (seen_of k)) (Some (seen_of n)))
   left_so k n r (Ok b) well fault same rotates = tt
   left_so k n r (Err why) well fault same rotates = left_after k n why well fault (subst (Rotates k (Stands n)) same rotates)
 
-  left_alone : (left : Refusal) (outcome : Result Bool Refusal) → left ≡ refusal.DeviceFailed → IfErr outcome (λ why. ◌≡◌ {A = Result (Unit {0}) Refusal} (Err left) (Err why))
-      → IfErr outcome (λ why. IsLeftAfter {D = D} why None)
-  left_alone left (Ok b) is same = tt
-  left_alone left (Err why) is same =
+  left_alone : (was : Option (KernelSeen D)) (left : Refusal) (outcome : Result Bool Refusal) → left ≡ refusal.DeviceFailed → IfErr outcome (λ why. ◌≡◌ {A = Result (Unit {0}) Refusal} (Err left) (Err why))
+      → IfErr outcome (λ why. IsLeftAfter g why was None)
+  left_alone was left (Ok b) is same = tt
+  left_alone was left (Err why) is same =
       let one : left ≡ why = cc in
-      subst (λ w. IsLeftAfter {D = D} w None) (sym is ∙ one) refl
+      subst (λ w. IsLeftAfter g w was None) (sym is ∙ one) refl
 
   -- it had not failed
   not_failed : (k : Kernel D g) (P : Type 0) → is_failed k ≡ false → is_failed_in (Some (seen_of k)) ≡ true → P
@@ -137,7 +137,10 @@ module _ {D : Type 0} (g : Ghosts D) where
               book = turned_book base k n x.over.state keeps.0;
               images = x.begun;
               many = many (did is);
-            } in ∣ turn ∣₁;
+              once = x.once;
+              well = x.well;
+              quiet = x.quiet;
+            } in ∣ (turn, refl, refl) ∣₁;
         early = early_of commits k n r outcome so fault rotates;
         gone = stands_here (seen_of n);
         refused = left_so k n r outcome well why same rotates;
@@ -152,6 +155,6 @@ module _ {D : Type 0} (g : Ghosts D) where
     did = λ is. absurd (let no = did is in cc);
     early = λ is. absurd (not_refused outcome is (fault (subst IsTurnFault (sym rotates.0) tt)));
     gone = λ left. fault (subst IsTurnFault (sym rotates.0) tt);
-    refused = left_alone refusal outcome rotates.0 same;
+    refused = left_alone (Some (seen_of k)) refusal outcome rotates.0 same;
     failed = not_failed k _ well;
   }

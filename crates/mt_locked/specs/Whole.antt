@@ -53,10 +53,11 @@ pub record AreAll (count : ℕ) (passes : List PassSeen) : Type 0 where
 abbrev pub IsOfAll : List Committed → List PassSeen → List Entry → Type 0
 IsOfAll book passes list = (count : ℕ) × IsFrom book (count + 1) list × AreAll count passes
 
--- Why it is not closed with these passes: with 15 they are not all; with 2 no kernel stands; with 16 a durable
--- transaction is not in the history, or the kernel is in use.
+-- Why it is not closed with these passes. With 15 they are not all. With 2 they are, and no kernel stands. With 16 one
+-- stands, and a durable transaction is not in the history, or the kernel is in use.
 abbrev pub IsCloseCause : {D : Type 0} → LockedSeen D → List PassSeen → Refusal → Type 0
 IsCloseCause l passes refusal.Stranger = AreAll l.pass_count passes → ⊥
-IsCloseCause l passes refusal.DeviceFailed = l.kernel ≡ None
-IsCloseCause l passes refusal.Busy = (length l.book ≢ length l.list) ⊎ IsInUse l.kernel
+IsCloseCause l passes refusal.DeviceFailed = AreAll l.pass_count passes × (l.kernel ≡ None)
+IsCloseCause l passes refusal.Busy = AreAll l.pass_count passes × IsSome l.kernel
+    × ((length l.book ≢ length l.list) ⊎ IsInUse l.kernel)
 IsCloseCause l passes _ = ⊥

@@ -11,7 +11,7 @@ ghost use Rattle.mt_locked.specs.Refusals.{IsRoomRefusal};
 ghost use Rattle.mt_restart.specs.TurnFaults.{IsTurnFault};
 ghost use Rattle.mt_locked.specs.Rooms.{GoesOnFrom, MakesRoom};
 ghost use Rattle.mt_locked.specs.Seen.{PassSeen, Entered, CannotEnter, IsAsked, IsToForce, is_failed_in, under_way_in};
-ghost use Rattle.mt_locked.specs.Turns.{HasTurned, IsHalfUsed, IsLeftAfter, IsTooEarlyIn, IsUseOn, IsUseSeen};
+ghost use Rattle.mt_locked.specs.Turns.{IsHalfUsed, IsLeftAfter, IsTooEarlyIn, IsUseOn, IsUseSeen, TurnsLogOver};
 ghost use Rattle.mt_txn.specs.Seen.{seen_of};
 ghost use Rattle.mt_txn.specs.Shown.{is_failed};
 ghost use Rattle.mt_txn.specs.Words.{kernel_book};
@@ -507,11 +507,11 @@ impl<D: Device + Drop, J: Naming> Locked<D, J> {
     /// transaction has ended.
     pub fn rotate(&mut self, alloc: Global, frames: usize) -> Result<bool, Refusal>
         ensures why { IfErr result IsTurnFault }
-        ensures did { result ≡ Ok true → HasTurned ⟦<D as Device>⟧ frames J.base }
+        ensures did { result ≡ Ok true → TurnsLogOver ⟦<D as Device>⟧ frames J.base self.old.kernel self.new.kernel }
         ensures early { result ≡ Ok false → (self.new ≡ self.old) × IsTooEarlyIn self.old }
         ensures gone { self.new.kernel ≡ None → IsErr result }
-        // After 1 and 11 the kernel goes on. After 2 none does.
-        ensures refused { IfErr result (λ why. IsLeftAfter why self.new.kernel) }
+        // After 1 and 11 the kernel goes on as it was. After 2 none does.
+        ensures refused { IfErr result (λ why. IsLeftAfter ⟦<D as Device>⟧ why self.old.kernel self.new.kernel) }
         ensures failed { is_failed_in self.old.kernel ≡ true
             → (result ≡ Err Refusal.DeviceFailed) × (self.new ≡ self.old) }
         ensures book { self.new.book ≡ self.old.book }

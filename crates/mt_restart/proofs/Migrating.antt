@@ -1,8 +1,8 @@
 -- What a migration finds, and what a crash leaves of it.
-use Rattle.std.proofs.Common.{◌≡◌, ◌∙◌, ◌⊎◌, inl, inr, ⊎_elim, ℕ, ℤ, ◌+◌, ◌-◌, ◌<◌, ◌≤◌, Bool, true, false, cond, List, [], length, get_or, map, pos, Result, Ok, Err, IfOk, refl, sym, ap, subst, arith}
+use Rattle.std.proofs.Common.{◌≡◌, ◌⊎◌, inl, inr, ⊎_elim, ℕ, ◌-◌, ◌<◌, ◌≤◌, Bool, cond, List, length, map, Result, Ok, Err, IfOk, refl, sym, subst, arith}
 use Rattle.std.proofs.lemmas.Bool.{cases_lt, le-ltb, lt-ltb}
 use Rattle.std.proofs.lemmas.Int.{ints}
-use Rattle.std.proofs.lemmas.List.{get_or_past, length-map}
+use Rattle.std.proofs.lemmas.List.{get_or_past}
 use Rattle.std.proofs.lemmas.List.Elements.{All-get_or, All-map}
 use Rattle.mt_base.specs.Limits.{IsRelationCount}
 use Rattle.mt_base.specs.declared.format.Format.TheVariants.{One}
@@ -22,7 +22,7 @@ use Rattle.mt_replay.specs.Stands.{CanRestart, ShowsBase}
 use Rattle.mt_replay.proofs.Extending.{relations_fit, shows_more}
 use Rattle.mt_counters.specs.Counters.{AreCounters}
 use Rattle.mt_counters.specs.Extended.{with_counters}
-use Rattle.mt_restart.specs.Migrated.{Additions, IsCauseNotToCarry, ShowsGrown, grown}
+use Rattle.mt_restart.specs.Migrated.{Additions, IsCauseNotToCarry, ShowsGrown}
 use Rattle.mt_restart.specs.OfFormat.{HasOtherFormat}
 use Rattle.mt_restart.specs.Recovered.{IsRecovered}
 use Rattle.mt_restart.specs.declared.recovery.Recovered.{Recovered}

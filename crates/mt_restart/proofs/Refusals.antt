@@ -13,12 +13,13 @@ pub refused_so : {T : Type 0} (r : Result T Refusal) (why other : Refusal) → r
 refused_so (Ok y) why other is not bad = absurd cc
 refused_so (Err e) why other is not bad = not cc
 
+-- a call is refused with one refusal
+pub one_refusal : {T : Type 0} (w x : Refusal) → ◌≡◌ {A = Result T Refusal} (Err w) (Err x) → w ≡ x
+one_refusal w x e = cc
+
 -- a call that is refused as another one was
 pub not_either : {T U : Type 0} (why other : Refusal) → (◌≡◌ {A = Result T Refusal} (Err why) (Err other) → ⊥) → ◌≡◌ {A = Result U Refusal} (Err why) (Err other) → ⊥
-not_either why other not e = not (ap Err (same why other e))
-  where
-    same : {V : Type 0} (w x : Refusal) → ◌≡◌ {A = Result V Refusal} (Err w) (Err x) → w ≡ x
-    same w x e = cc
+not_either why other not e = not (ap Err (one_refusal why other e))
 
 -- a call that is refused for a failure alone went well, if it was not refused so
 pub quiet_of : {T Q : Type 0} (F : Type 0) (r : Result T Refusal) → IfErr r (λ why. (why ≡ DeviceFailed) × F) → OnOk r Q → (r ≡ Err DeviceFailed → ⊥) → Q

@@ -37,6 +37,8 @@ use Rattle.mt_txn.specs.Due.{IsDueIn}
 use Rattle.mt_txn.specs.Events.{HasForced, IsForcedBy}
 use Rattle.mt_txn.specs.Restarted.{FindsCommits, FindsMeanwhile}
 use Rattle.mt_txn.specs.Causes.{IsFailure}
+use Rattle.mt_txn.specs.Effects.{KeepsAtForce}
+use Rattle.mt_txn.specs.Seen.{KernelSeen, seen_of}
 use Rattle.mt_txn.specs.Shown.{LeavesFound, Restarts, SameSchema, Shows, StaysRestarting, is_failed}
 use Rattle.mt_txn.specs.Turned.{GoesOn, HasNobody, IsForced, IsRestOf, Resumes}
 use Rattle.mt_txn.specs.Well.{IsWell, Opens, RestartsFrom, ShowsIn}
@@ -51,7 +53,7 @@ use Rattle.mt_restart.specs.Recovered.{CannotTurn, IsCauseToStop, StandsStill}
 use Rattle.mt_restart.specs.declared.standing.Standing.{Standing}
 use Rattle.mt_restart.specs.declared.standing.Standing.TheVariants.{Stands, Ended}
 use Rattle.mt_restart.proofs.EarlyCauses.{not_early}
-use Rattle.mt_restart.specs.Rotated.{GoesOver, Grows, IsForcedOut, IsKeptCause, Keeps, Rotates, early_cause}
+use Rattle.mt_restart.specs.Rotated.{GoesOver, Grows, IsForcedOut, IsKeptCause, Keeps, Rotates, SameParts, early_cause}
 
 -- ---- the log
 
@@ -114,7 +116,15 @@ force_cause m n refusal.NoMemory cause fails memory well = ap (λ (k : Kernel _ 
 force_cause m n refusal.DeviceFailed cause fails memory well = fails refl
 force_cause m n _ cause fails memory well = ⊎_elim (λ x. absurd (let no = x.1 in cc)) (λ y. absurd (let no = y.0 in cc)) (cause (λ e. absurd cc))
 
+-- what keeps the parts twice keeps them
+parts_both : {D : Type 0} (k m n : KernelSeen D) → SameParts k m → SameParts m n → SameParts k n
+parts_both k m n one two = record { pool = two.pool ∙ one.pool; ruling = two.ruling ∙ one.ruling; appended = two.appended ∙ one.appended; numbers = two.numbers ∙ one.numbers }
+
 module _ {D : Type 0} {g : Ghosts D} where
+  -- a step of a force keeps the parts
+  parts_forced : (m n : Kernel D g) (r : Result KernelForced Refusal) → KeepsAtForce m r n → SameParts (seen_of m) (seen_of n)
+  parts_forced m n r keeps = record { pool = keeps.pool; ruling = keeps.ruling; appended = keeps.appended; numbers = keeps.numbers }
+
   -- a step of a force names nobody where nobody commits
   shows_forced : (m n : Kernel D g) (r : Result KernelForced Refusal) (first : Base) (s : State) → m.core.commits.items ≡ [] → HasForced first s r n
       → IfOk r (λ f. IsForcedBy m.core.operations.store.log m.core.commits.items f n.core.operations.store.log n.core.commits.items) → Shows first s n
@@ -143,6 +153,7 @@ module _ {D : Type 0} {g : Ghosts D} where
     pub keeps_itself : (k : Kernel D g) → Keeps k k
     keeps_itself k = record {
       state = λ first s shows. shows;
+      parts = record { pool = refl; ruling = refl; appended = refl; numbers = refl };
       restarts = λ first r. r;
       schema = (refl, refl);
       found = λ first r schema. no_call g k.relations k.counters first only_now k.core k.core.operations.store.device refl r schema;
@@ -150,8 +161,9 @@ module _ {D : Type 0} {g : Ghosts D} where
 
     pub keeps_forced : (k m n : Kernel D g) (r : Result KernelForced Refusal) → HasNobody k → HasNobody m → IsWell g m.relations m.counters m.core → Keeps k m → Grows k m
         → ((first : Base) (s : State) → Shows first s m → HasForced first s r n) → IfOk r (λ f. IsForcedBy m.core.operations.store.log m.core.commits.items f n.core.operations.store.log n.core.commits.items)
-        → StaysRestarting m n → SameSchema m n → LeavesFound m n → Keeps k n
-    keeps_forced k m n r nobody still well keeps (more, grown) forced by restarts schema found = record {
+        → StaysRestarting m n → SameSchema m n → LeavesFound m n → KeepsAtForce m r n → Keeps k n
+    keeps_forced k m n r nobody still well keeps (more, grown) forced by restarts schema found at_force = record {
+      parts = parts_both (seen_of k) (seen_of m) (seen_of n) keeps.parts (parts_forced m n r at_force);
       state = λ first s shows. ∥∥₁_elim (nobody_commits m still well) ∥∥₁_prop (λ none. shows_forced m n r first s none (forced first s (keeps.state first s shows)) by);
       restarts = λ first starts. restarts first (keeps.restarts first starts);
       schema = (schema.0 ∙ keeps.schema.0, schema.1 ∙ keeps.schema.1);
@@ -192,6 +204,7 @@ module _ {D : Type 0} {g : Ghosts D} where
     -- and what keeps a forced kernel keeps that one
     pub keeps_both : (k m n : Kernel D g) → HasNobody k → IsForcedOut k m → Keeps k m → Keeps m n → Keeps k n
     keeps_both k m n nobody out one two = record {
+      parts = parts_both (seen_of k) (seen_of m) (seen_of n) one.parts two.parts;
       state = λ first s shows. two.state first s (one.state first s shows);
       restarts = λ first starts. two.restarts first (one.restarts first starts);
       schema = (two.schema.0 ∙ one.schema.0, two.schema.1 ∙ one.schema.1);
@@ -277,8 +290,18 @@ module _ {D : Type 0} {g : Ghosts D} (k : Kernel D g) (rest : DetachedKernel) (d
       pub fails_as : is_failed n ≡ is_failed k
       fails_as = λ i. (a.failed ∙ is.failed) i || has_failed ((ap (λ (c : Core D). c.operations.store.log) a.core ∙ sym (ap (λ (c : Core D). c.operations.store.log) is.core)) i)
 
+      -- what both have apart from their devices is the same
+      parts_attached : SameParts (seen_of k) (seen_of n)
+      parts_attached = record {
+        pool = ap (λ (c : Core D). c.operations.store.pool) a.core ∙ sym (ap (λ (c : Core D). c.operations.store.pool) is.core);
+        ruling = ap (λ (c : Core D). c.operations.store.ruling) a.core ∙ sym (ap (λ (c : Core D). c.operations.store.ruling) is.core);
+        appended = ap (λ (c : Core D). appended c.operations.store.log) a.core ∙ sym (ap (λ (c : Core D). appended c.operations.store.log) is.core);
+        numbers = ap (λ (c : Core D). c.last) a.core ∙ sym (ap (λ (c : Core D). c.last) is.core);
+      }
+
       pub keeps_attached : ((first : Base) → Restarts first k → FindsMeanwhile g k.relations k.counters first k.core n.core.operations.store.device) → Keeps k n
       keeps_attached found = record {
+        parts = parts_attached;
         state = λ first s shows. a.state d reads first s (subst (λ (X : Type 0). X) (λ i. ShowsIn g (sym is.relations i) (sym is.counters i) first s (is.core i)) shows);
         restarts = λ first starts. a.restarts d reads first (subst (λ (X : Type 0). X) (λ i. RestartsFrom g (sym is.relations i) (sym is.counters i) first (is.core i)) starts);
         schema = (a.relations ∙ is.relations, a.counters ∙ is.counters);

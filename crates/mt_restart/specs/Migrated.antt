@@ -1,7 +1,7 @@
 -- What a migration makes of a device.
 use Rattle.std.specs.Prelude.{◌≡◌, ◌≢◌, ◌⊎◌, ◌+◌, ◌<◌, ℕ, ℤ, List, Result, Err, IfErr, IfOk, length, map}
 use Rattle.mt_base.specs.declared.refusal.Refusal.{Refusal}
-use Rattle.mt_base.specs.declared.refusal.Refusal.TheVariants.{BadLength, DeviceFailed, LogFull, NoMemory, WrongFormat}
+use Rattle.mt_base.specs.declared.refusal.Refusal.TheVariants.{BadLength, DeviceFailed, LogFull, WrongFormat}
 use Rattle.mt_base.specs.declared.format.Format.TheVariants.{One}
 use Rattle.mt_disk.specs.Disk.{LeavesOnly}
 use Rattle.mt_disk.specs.declared.device.Device.{Ghosts}
@@ -18,6 +18,8 @@ use Rattle.mt_replay.specs.Stands.{CanReplay, CanRestart, ShowsBase}
 use Rattle.mt_counters.specs.Extended.{with_counters}
 use Rattle.mt_restart.specs.OfFormat.{HasOtherFormat, SaysOther, SaysUnformatted}
 use Rattle.mt_restart.specs.Recovered.{IsTurnBarred, IsFound, IsRecovered}
+use Rattle.mt_restart.specs.Resumed.{BeginsOnPages}
+use Rattle.mt_txn.specs.declared.kernel.Kernel.{Kernel}
 use Rattle.mt_restart.specs.declared.recovery.Findings.{Findings}
 use Rattle.mt_restart.specs.declared.recovery.Recovered.{Recovered}
 
@@ -90,6 +92,7 @@ pub record FindsGrown {D : Type 0} (g : Ghosts D) (more : Additions) (frames : �
 pub record Carries {D : Type 0} (g : Ghosts D) (more : Additions) (frames : ℕ) (d e : D)
     (r : Result Recovered Refusal) : Type 0 where
   pub recovered : IfOk r (IsRecovered g frames e)
+  pub grown_are : IfOk r (λ recovered. AreGrown more (g.seen d) recovered.restored.pages.items)
   pub shows : (relations counters : ℕ) (b : Base) → CanReplay One relations counters (g.seen d) b
       → IfOk r (λ recovered. ShowsGrown more relations counters recovered.restored.pages.items b)
   pub next : (slot : MasterSlot) → IsRuling (g.seen d) slot → IfOk r (λ recovered. recovered.ruling ≡ next_slot slot)
@@ -106,6 +109,10 @@ pub record Carries {D : Type 0} (g : Ghosts D) (more : Additions) (frames : ℕ)
   pub unformatted : IfErr r (SaysUnformatted (g.seen d))
   pub other : IfErr r (SaysOther One (g.seen d))
   pub quiet : (r ≡ Err Refusal.DeviceFailed → ⊥) → g.faults e ≡ g.faults d
+
+-- the kernel begins on the pages that a restart makes of these bytes, with the grown schema
+abbrev pub BeginsOnGrown : {D : Type 0} {g : Ghosts D} → Additions → List ℕ → Kernel D g → Type 0
+BeginsOnGrown more c k = (items : List (List ℕ)) × AreGrown more c items × BeginsOnPages items k
 
 -- Why a device is not carried over, and what is left of it. Unless it failed, its bytes are as they were, and whatever
 -- a crash leaves of it represents what they did.

@@ -6,7 +6,7 @@ use Rattle.mt_base.specs.declared.refusal.Refusal.{Refusal}
 use Rattle.mt_base.specs.declared.refusal.Refusal.TheVariants.{LogFull, NoMemory, WrongFormat}
 use Rattle.mt_frame.specs.declared.records.Record.{Record}
 use Rattle.mt_frame.specs.declared.slots.MasterSlot.{MasterSlot}
-use Rattle.mt_disk.specs.Disk.{LeavesOnly}
+use Rattle.mt_disk.specs.Disk.{LeavesOnly, Only}
 use Rattle.mt_log.specs.Masters.{IsRuling}
 use Rattle.mt_log.specs.NextSlot.{next_slot}
 use Rattle.mt_log.specs.Quiet.{OnlyReads, OnlyReadsOrSyncs}
@@ -100,6 +100,21 @@ pub record FindsAll {D : Type 0} (g : Ghosts D) (frames : ℕ) (d e : D) (r : Re
   pub no_other_refusal : (relations counters : ℕ) (b : Base) → CanRestart relations counters (g.seen d) b
       → IfErr r (λ why. (why ≡ Refusal.NoMemory) ⊎ ((why ≡ Refusal.DeviceFailed) ⊎ (why ≡ Refusal.LogFull)))
   pub reads : OnlyReads g d e
+  pub cause : IfErr r (IsCauseToStop (g.seen d) (g.faults d < g.faults e))
+  pub unformatted : IfErr r (SaysUnformatted (g.seen d))
+  pub other : IfErr r (SaysOther Two (g.seen d))
+  pub quiet : (r ≡ Err Refusal.DeviceFailed → ⊥) → g.faults e ≡ g.faults d
+
+-- And the device was synced before, so that a crash leaves just its bytes.
+pub record FindsSynced {D : Type 0} (g : Ghosts D) (frames : ℕ) (d e : D) (r : Result Findings Refusal) : Type 0 where
+  pub found : IfOk r (IsFound (g.seen e) frames)
+  pub restored : IfOk r (λ found. AreRestored (g.seen d) found.restored.pages.items)
+  pub shows : (relations counters : ℕ) (b : Base) → CanRestart relations counters (g.seen d) b
+      → IfOk r (λ found. ShowsBase relations counters found.restored.pages.items b)
+  pub no_other_refusal : (relations counters : ℕ) (b : Base) → CanRestart relations counters (g.seen d) b
+      → IfErr r (λ why. (why ≡ Refusal.NoMemory) ⊎ ((why ≡ Refusal.DeviceFailed) ⊎ (why ≡ Refusal.LogFull)))
+  pub reads : OnlyReadsOrSyncs g d e
+  pub only : r ≢ Err Refusal.DeviceFailed → Only (g.seen d) (g.may_leave e)
   pub cause : IfErr r (IsCauseToStop (g.seen d) (g.faults d < g.faults e))
   pub unformatted : IfErr r (SaysUnformatted (g.seen d))
   pub other : IfErr r (SaysOther Two (g.seen d))

@@ -34,14 +34,25 @@ pub record BeginsOn {D : Type 0} {g : Ghosts D} (b : Base) (k : Kernel D g) : Ty
   pub opened : IsOpened k.relations k.counters b k
   pub same : (m : Base) → IsSame k.counters m b → IsBase m → IsOpened k.relations k.counters m k
 
--- It begins on the pages that a restart in memory makes of these bytes: on each base that they hold, with as many
--- relations and counters as page 2 names.
-pub record BeginsOnRestored {D : Type 0} {g : Ghosts D} (c : List ℕ) (k : Kernel D g) : Type 0 where
-  pub items : List (List ℕ)
-  pub restored : AreRestored c items
+-- It begins on these pages: on each base that they hold, with as many relations and counters as page 2 names.
+pub record BeginsOnPages {D : Type 0} {g : Ghosts D} (items : List (List ℕ)) (k : Kernel D g) : Type 0 where
   pub relations : k.relations ≡ get_or (bytes_of items 2) 0 0
   pub counters : k.counters ≡ get_or (bytes_of items 2) 1 0
   pub opened : (b : Base) → Holds (bytes_of items) b → IsBase b → IsOpened k.relations k.counters b k
+
+-- and a restart in memory makes them of these bytes
+abbrev pub BeginsOnRestored : {D : Type 0} {g : Ghosts D} → List ℕ → Kernel D g → Type 0
+BeginsOnRestored c k = (items : List (List ℕ)) × AreRestored c items × BeginsOnPages items k
+
+-- The base has the rows and the counters that these pages hold.
+abbrev pub IsHeldBase : List (List ℕ) → Base → Type 0
+IsHeldBase items first = (b : Base) → Holds (bytes_of items) b → IsSame (get_or (bytes_of items 2) 1 0) first b
+
+-- And a restart in memory makes the pages of these bytes.
+pub record IsRestoredBase (c : List ℕ) (first : Base) : Type 0 where
+  pub items : List (List ℕ)
+  pub restored : AreRestored c items
+  pub held : IsHeldBase items first
 
 -- the slot that rules is the next one after the one that ruled these bytes
 abbrev pub HasTurnedOver : {D : Type 0} → List ℕ → Core D → Type 0

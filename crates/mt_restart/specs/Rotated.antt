@@ -1,14 +1,16 @@
 -- A kernel whose log is turned over.
-use Rattle.std.specs.Prelude.{◌≡◌, ◌⊎◌, ◌<◌, ◌++◌, true, false, ℕ, List, Option, None, Some, Result, Ok, Err}
+use Rattle.std.specs.Prelude.{◌≡◌, ◌⊎◌, ◌<◌, ◌++◌, true, false, List, Option, None, Some, Result, Ok, Err}
 use Rattle.mt_base.specs.declared.refusal.Refusal.{Refusal}
 use Rattle.mt_base.specs.declared.refusal.Refusal.TheVariants.{NoMemory, DeviceFailed, LogFull}
 use Rattle.mt_disk.specs.declared.device.Device.{Ghosts}
 use Rattle.mt_frame.specs.declared.records.Record.{Record}
 use Rattle.mt_log.specs.NextSlot.{next_slot}
 use Rattle.mt_log.specs.Words.{appended, durable}
+use Rattle.mt_core.specs.Seen.{core_last, core_log, core_pool, core_ruling}
 use Rattle.mt_live.specs.Machine.{State}
 use Rattle.mt_model.specs.Model.{Base}
 use Rattle.mt_op.specs.Begun.{AreImages}
+use Rattle.mt_txn.specs.Seen.{KernelSeen, seen_of}
 use Rattle.mt_txn.specs.Shown.{LeavesFound, Restarts, SameSchema, Stays, StaysRestarting, Shows, is_failed, kernel_device, kernel_log, kernel_ruling}
 use Rattle.mt_txn.specs.Turned.{HasNobody, IsForced}
 use Rattle.mt_txn.specs.declared.kernel.Kernel.{Kernel}
@@ -17,9 +19,18 @@ use Rattle.mt_restart.specs.Recovered.{CannotTurn}
 use Rattle.mt_restart.specs.declared.standing.Standing.{Standing}
 use Rattle.mt_restart.specs.declared.standing.Standing.TheVariants.{Stands, Ended}
 
--- in the state in which it was, and found so by a restart whenever a crash came
+-- The pages in frames stay, each as clean or dirty as it was. The same slot rules, no record is appended and no
+-- operation has taken a number.
+pub record SameParts {D : Type 0} (k n : KernelSeen D) : Type 0 where
+  pub pool : core_pool n.core ≡ core_pool k.core
+  pub ruling : core_ruling n.core ≡ core_ruling k.core
+  pub appended : appended (core_log n.core) ≡ appended (core_log k.core)
+  pub numbers : core_last n.core ≡ core_last k.core
+
+-- in the state in which it was, with the same parts, and found so by a restart whenever a crash came
 pub record Keeps {D : Type 0} {g : Ghosts D} (k n : Kernel D g) : Type 0 where
   pub state : Stays k n
+  pub parts : SameParts (seen_of k) (seen_of n)
   pub restarts : StaysRestarting k n
   pub schema : SameSchema k n
   pub found : LeavesFound k n

@@ -1,5 +1,5 @@
 -- What is there after a rotation.
-use Rattle.std.specs.Prelude.{◌≡◌, ℕ, List, ⊤}
+use Rattle.std.specs.Prelude.{◌≡◌, ℕ, ⊤}
 use Rattle.mt_disk.specs.declared.device.Device.{Ghosts}
 use Rattle.mt_txn.specs.Shown.{IsFoundIn, kernel_device, kernel_frames}
 use Rattle.mt_restart.specs.declared.standing.Standing.{Standing}

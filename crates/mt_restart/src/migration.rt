@@ -11,7 +11,7 @@ ghost use Rattle.mt_model.specs.Model.{Base};
 ghost use Rattle.mt_replay.specs.Stands.{CanReplay, CanRestart};
 ghost use Rattle.mt_txn.specs.Shown.{is_failed, kernel_device, kernel_frames, kernel_ruling};
 ghost use Rattle.mt_restart.specs.Frames.{IsFrameCount};
-ghost use Rattle.mt_restart.specs.Migrated.{Additions, Carries, FindsGrown, IsCarried, IsNotCarried, grown};
+ghost use Rattle.mt_restart.specs.Migrated.{Additions, BeginsOnGrown, Carries, FindsGrown, IsCarried, IsNotCarried, grown};
 ghost use Rattle.mt_restart.specs.Resumed.{IsOpened, device_of};
 
 use crate::format_replay::replay_of;
@@ -91,6 +91,9 @@ pub fn migrate<D: Device + Drop>(
     ensures opened { (r c : ℕ) (b : Base) → CanReplay One r c (D.seen device) b
         → IfOk result (IsOpened (r + relations) (c + length counters.now)
         (grown (record { relations = relations; new_counters = counters.now }) c b)) }
+    // Of any bytes it begins on what a restart makes of them, with the grown schema.
+    ensures restored { IfOk result
+        (BeginsOnGrown (record { relations = relations; new_counters = counters.now }) (D.seen device)) }
     ensures well { IfOk result (λ kernel. is_failed kernel ≡ false) }
     ensures frames { IfOk result (λ kernel. kernel_frames kernel ≡ frames) }
     // The log turns over once, to a slot of format 2.

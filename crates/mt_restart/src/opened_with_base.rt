@@ -1,6 +1,6 @@
 // A kernel over a device that was used before, as `open` gives it, with the base on which it begins. mt_shared calls
 // it: a mark is made about a base.
-ghost use Rattle.std.specs.Prelude.{◌≡◌, ◌<◌, ℕ, List, false, IfOk, IfErr, MatchResult};
+ghost use Rattle.std.specs.Prelude.{◌≡◌, ℕ, List, false, IfOk, IfErr, MatchResult};
 ghost use Rattle.mt_base.specs.declared.refusal.Refusal.{Refusal};
 ghost use Rattle.mt_disk.specs.Disk.{LeavesOnly};
 ghost use Rattle.mt_model.specs.Model.{Base as ModelBase};
@@ -9,12 +9,12 @@ ghost use Rattle.mt_replay.specs.Stands.{CanRestart};
 ghost use Rattle.mt_steps.specs.Listed.{IsSame};
 ghost use Rattle.mt_txn.specs.Shown.{is_failed, kernel_device, kernel_frames};
 ghost use Rattle.mt_restart.specs.Frames.{IsFrameCount};
-ghost use Rattle.mt_restart.specs.Recovered.{IsCauseToStop, StandsStill};
-ghost use Rattle.mt_restart.specs.Resumed.{BeginsOnRestored, HasTurnedOver, IsOpened, IsRefusedRightly};
+ghost use Rattle.mt_restart.specs.Recovered.{StandsStill};
+ghost use Rattle.mt_restart.specs.Resumed.{BeginsOnRestored, HasTurnedOver, IsNotOpened, IsOpened, IsRestoredBase};
 
 use crate::inspection::survey_of;
 use crate::opened_kernel::kernel_over;
-use crate::recovery::recover;
+use crate::recovery::{find_synced, turn_to};
 use mt_base::Refusal;
 use mt_disk::Device;
 use mt_frame::slots_are_read_back;
@@ -28,7 +28,8 @@ use std::alloc::Global;
 ///
 /// Whenever a crash comes in this call, what it leaves is what it might have left before, or represents the same
 /// base. Each refusal is one of [`open`](crate::open), with the same cause; [`Refusal::NoMemory`] also if the base
-/// finds no memory. The device is handed back, and represents what it did before, unless it failed.
+/// finds no memory. All memory is taken before the first write. The device is handed back, with the bytes that it had,
+/// unless it failed.
 pub fn open_with_base<D: Device + Drop>(
     alloc: Global,
     device: D,
@@ -39,6 +40,7 @@ pub fn open_with_base<D: Device + Drop>(
         opened.0) }
     // On any bytes it begins on the base that the passes of a restart leave in memory.
     ensures restored { IfOk result (λ opened. BeginsOnRestored (D.seen device) opened.0) }
+    ensures listed { IfOk result (λ opened. IsRestoredBase (D.seen device) (base_of opened.1)) }
     ensures well { IfOk result (λ opened. is_failed opened.0 ≡ false) }
     // It is the base that the bytes represented.
     ensures base { (relations counters : ℕ) (b : ModelBase) → CanRestart relations counters (D.seen device) b
@@ -57,23 +59,24 @@ pub fn open_with_base<D: Device + Drop>(
     ensures stands { (relations counters : ℕ) (b : ModelBase) → CanRestart relations counters (D.seen device) b
         → IfOk result (λ opened. (c : List ℕ) → D.may_leave (kernel_device opened.0) c
         → CanRestart relations counters c b) }
-    ensures settled { (relations counters : ℕ) (b : ModelBase) → CanRestart relations counters (D.seen device) b
-        → IfErr result (λ gone. (gone.0 ≡ Refusal.DeviceFailed → ⊥) → (c : List ℕ) → D.may_leave gone.1 c
-        → CanRestart relations counters c b) }
-    ensures cause { IfErr result (λ gone. IsCauseToStop (D.seen device) (D.faults device < D.faults gone.1) gone.0) }
-    ensures refused { IfErr result (λ gone. IsRefusedRightly (D.seen device) gone.0) }
+    // Why it is refused, and what is left of the device then.
+    ensures refused { IfErr result (IsNotOpened D.Device device) }
     ensures quiet { MatchResult result (λ opened. D.faults (kernel_device opened.0) ≡ D.faults device)
         (λ gone. (gone.0 ≡ Refusal.DeviceFailed → ⊥) → D.faults gone.1 ≡ D.faults device) }
 {
     slots_are_read_back();
     only_own_pages_matter();
     let mut device = device;
-    let recovered = match recover(alloc, &mut device, frames) {
-        Ok(recovered) => recovered,
+    let found = match find_synced(alloc, &mut device, frames) {
+        Ok(found) => found,
         Err(refusal) => return Err((refusal, device)),
     };
-    let base = match survey_of(alloc, &recovered.restored) {
+    let base = match survey_of(alloc, &found.restored) {
         Ok(survey) => survey.base,
+        Err(refusal) => return Err((refusal, device)),
+    };
+    let recovered = match turn_to(&mut device, found) {
+        Ok(recovered) => recovered,
         Err(refusal) => return Err((refusal, device)),
     };
     base.keeps_bounds();

@@ -4,7 +4,7 @@ ghost use Rattle.std.specs.Prelude.{ℕ, List};
 ghost use Rattle.mt_disk.specs.Disk.{Only};
 ghost use Rattle.mt_page_rules.specs.Checks.{AreChecked};
 ghost use Rattle.mt_replay.specs.Marking.{IsMarked};
-ghost use Rattle.mt_restart.specs.Recovered.{FindsAll, IsFound, Prepares, Recovers, TurnsLogTo};
+ghost use Rattle.mt_restart.specs.Recovered.{FindsAll, FindsSynced, IsFound, Prepares, Recovers, TurnsLogTo};
 
 use crate::area_renewal::{prepare_next, turn};
 use crate::beside::{Beside, beside_of};
@@ -107,6 +107,19 @@ pub(crate) fn turn_to<D: Device>(device: &mut D, found: Findings) -> Result<Reco
     })
 }
 
+// Syncs a device, finds on it what a recovery needs, and takes that in memory. Whatever a crash leaves of the device
+// then, it is its bytes.
+pub(crate) fn find_synced<D: Device>(
+    alloc: Global,
+    device: &mut D,
+    frames: usize,
+) -> Result<Findings, Refusal>
+    ensures { FindsSynced D.Device frames device.old device.new result }
+{
+    device.sync()?;
+    find(alloc, device, frames)
+}
+
 // Makes a device one again that a kernel may begin over, with so many frames, whatever a crash left of it.
 //
 // The device is synced first. If its ruling slot is of format 1, it is refused with 20, before its log is looked at.
@@ -128,7 +141,6 @@ pub(crate) fn recover<D: Device>(
 {
     slots_are_read_back();
     only_own_pages_matter();
-    device.sync()?;
-    let found = find(alloc, device, frames)?;
+    let found = find_synced(alloc, device, frames)?;
     turn_to(device, found)
 }

@@ -13,7 +13,9 @@ use Rattle.mt_server.specs.Heard.{AreReported, all_booked}
 use Rattle.mt_server.proofs.HeardLemmas.{reported_failing}
 use Rattle.mt_server.specs.declared.board.Board.{Board}
 use Rattle.mt_restart.specs.Recovered.{IsCauseToStop}
+use Rattle.mt_restart.specs.Resumed.{IsRestoredBase}
 use Rattle.mt_server.specs.Serves.{IsServedOn}
+use Rattle.mt_model.specs.Views.{base_of}
 use Rattle.mt_locked.proofs.Keeping.{legal_book}
 use Rattle.mt_locked.specs.Began.{BeganOn}
 use Rattle.mt_shared.specs.Opens.{IsBaseOf, IsUnshared}
@@ -53,8 +55,8 @@ board_reported failed scripts board book count b full may many = record {
 -- ---- the kernel
 
 -- what was opened on the base of these bytes served them
-pub served_on : {D : Type 0} {g : Ghosts D} (c : List ℕ) (first : Base) (k : Kernel D g) → IsBaseOf c first → BeganOn first k → IsServedOn c k
-served_on c first k is began = record { first = first; is = is; began = began; legal = legal_book first k began }
+pub served_on : {D : Type 0} {g : Ghosts D} (c : List ℕ) (first : Base) (k : Kernel D g) → IsBaseOf c first → IsRestoredBase c (base_of first) → BeganOn first k → IsServedOn c k
+served_on c first k is restored began = record { first = first; is = is; first_is = restored; began = began; legal = legal_book first k began }
 
 -- ---- refusals
 

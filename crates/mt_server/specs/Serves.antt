@@ -8,15 +8,18 @@ use Rattle.mt_model.specs.History.{IsLegal}
 use Rattle.mt_model.specs.Views.{base_of}
 use Rattle.mt_model.specs.declared.tables.Base.{Base}
 use Rattle.mt_locked.specs.Began.{BeganOn}
-use Rattle.mt_shared.specs.Opens.{HasBegunWith, IsBaseOf, IsRestorable, IsUnshared}
+use Rattle.mt_restart.specs.Recovered.{AreRestored}
+use Rattle.mt_restart.specs.Resumed.{IsRestoredBase}
+use Rattle.mt_shared.specs.Opens.{HasBegunWith, IsBaseOf, IsUnshared}
 use Rattle.mt_txn.specs.declared.kernel.Kernel.{Kernel}
 use Rattle.mt_txn.specs.Words.{kernel_book}
 
--- It was opened on the base of these bytes; of its book each commit replied what it replies alone, in the order of
--- the book.
+-- It was opened on the base of these bytes, which is of any bytes what the passes of a restart leave. Of its book each
+-- commit replied what it replies alone, in the order of the book.
 pub record IsServedOn {D : Type 0} {g : Ghosts D} (c : List ℕ) (k : Kernel D g) : Type 0 where
   pub first : Base
   pub is : IsBaseOf c first
+  pub first_is : IsRestoredBase c (base_of first)
   pub began : BeganOn first k
   pub legal : IsLegal (base_of first) (kernel_book k)
 
@@ -25,6 +28,10 @@ abbrev pub IsOpenedWith : {D : Type 0} → Ghosts D → ℕ → List ℕ → Typ
 IsOpenedWith g frames c = (first : Base) × IsBaseOf c first × HasBegunWith g frames first
 
 -- ---- refusals
+
+-- a restart in memory makes pages of these bytes
+abbrev pub IsRestorable : List ℕ → Type 0
+IsRestorable c = (items : List (List ℕ)) × AreRestored c items
 
 -- how serving ends once the device is open: for want of memory, since it failed, or as a close is refused
 abbrev pub IsLate : Refusal → Type 0

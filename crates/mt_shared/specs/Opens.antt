@@ -12,7 +12,7 @@ use Rattle.mt_model.specs.Views.{base_of}
 use Rattle.mt_model.specs.declared.history.Committed.{Committed}
 use Rattle.mt_model.specs.declared.tables.Base.{Base}
 use Rattle.mt_replay.specs.Stands.{CanRestart}
-use Rattle.mt_restart.specs.Recovered.{AreRestored, IsCauseToStop}
+use Rattle.mt_restart.specs.Recovered.{IsCauseToStop}
 use Rattle.mt_restart.specs.Resumed.{IsRefusedRightly}
 use Rattle.mt_steps.specs.Listed.{IsSame}
 use Rattle.mt_txn.specs.Seen.{KernelSeen}
@@ -24,10 +24,6 @@ use Rattle.mt_txn.specs.declared.kernel.Kernel.{Kernel}
 abbrev pub IsBaseOf : List ℕ → Base → Type 0
 IsBaseOf c first =
     (relations counters : ℕ) (b : model.Base) → CanRestart relations counters c b → IsSame counters (base_of first) b
-
--- a restart in memory makes pages of these bytes
-abbrev pub IsRestorable : List ℕ → Type 0
-IsRestorable c = (items : List (List ℕ)) × AreRestored c items
 
 -- Why a device of these bytes is not opened, in a call in which it failed or did not: the cause is theirs, or memory
 -- was wanting. Those that are not formatted, or are of another format, are reported so.

@@ -4,13 +4,14 @@ ghost use Rattle.mt_base.specs.declared.refusal.Refusal.{Refusal};
 ghost use Rattle.mt_mark.specs.Legal.{IsLegal};
 ghost use Rattle.mt_mark.specs.Rule.{dones};
 ghost use Rattle.mt_model.specs.Model.{Base as ModelBase};
+ghost use Rattle.mt_model.specs.Views.{base_of};
 ghost use Rattle.mt_replay.specs.Stands.{CanRestart};
 ghost use Rattle.mt_disk.specs.Disk.{LeavesOnly};
 ghost use Rattle.mt_restart.specs.Frames.{IsFrameCount};
 ghost use Rattle.mt_restart.specs.Recovered.{StandsStill};
-ghost use Rattle.mt_restart.specs.Resumed.{HasTurnedOver};
+ghost use Rattle.mt_restart.specs.Resumed.{HasTurnedOver, IsRestoredBase};
 ghost use Rattle.mt_locked.specs.Began.{BeganOn};
-ghost use Rattle.mt_shared.specs.Opens.{HasBegunWith, IsBaseOf, IsMarked, IsRestorable, IsUnshared};
+ghost use Rattle.mt_shared.specs.Opens.{HasBegunWith, IsBaseOf, IsMarked, IsUnshared};
 ghost use Rattle.mt_locked.specs.Seen.{PassSeen};
 ghost use Rattle.mt_locked.specs.Whole.{IsNew};
 ghost use Rattle.mt_core.specs.Seen.{core_device};
@@ -137,7 +138,8 @@ impl<D: Device + Drop> Opened<D> {
         ensures first { IfOk result (λ opened. opened.book ≡ []) }
         ensures many { IfOk result (λ opened. opened.count ≡ count) }
         ensures frames { IfOk result (λ opened. opened.frames ≡ frames) }
-        ensures restored { IfOk result (λ _. IsRestorable (D.seen device)) }
+        // Of any bytes it begins on the base that the passes of a restart leave in memory.
+        ensures restored { IfOk result (λ opened. IsRestoredBase (D.seen device) (base_of opened.base)) }
         // The log turns over once.
         ensures once { IfOk result (λ opened. HasTurnedOver (D.seen device) opened.kernel.core) }
         // Whenever a crash comes in this call, it leaves what it might have left before, or what represents the same.

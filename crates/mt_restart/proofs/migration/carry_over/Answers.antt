@@ -1,4 +1,4 @@
-use Rattle.std.proofs.Common.{rules, ◌≡◌, ◌∙◌, ◌<◌, ap, inl, inr, ⊎_elim, ℕ, ◌+◌, List, Err, length, refl, sym, subst}
+use Rattle.std.proofs.Common.{rules, ◌≡◌, ◌∙◌, ◌<◌, ap, inl, inr, ℕ, ◌+◌, List, length, refl, sym, subst}
 use Rattle.std.proofs.lemmas.Result.{IfErr-weaker, IfOk-weaker, err_from_is_err_and}
 use Rattle.mt_base.specs.declared.format.Format.TheVariants.{One}
 use Rattle.mt_base.specs.declared.refusal.Refusal.{Refusal}
@@ -7,7 +7,7 @@ use Rattle.mt_log.specs.Masters.{IsRuling}
 use Rattle.mt_log.specs.NextSlot.{next_slot}
 use Rattle.mt_model.specs.Model.{Base}
 use Rattle.mt_replay.specs.Stands.{CanReplay, ShowsBase}
-use Rattle.mt_restart.specs.Migrated.{Additions, IsCarried, IsCauseNotToCarry, ShowsGrown, grown}
+use Rattle.mt_restart.specs.Migrated.{Additions, AreGrown, IsCarried, IsCauseNotToCarry, ShowsGrown, grown}
 use Rattle.mt_restart.specs.OfFormat.{SaysOther, SaysUnformatted}
 use Rattle.mt_restart.specs.Recovered.{IsFound}
 use Rattle.mt_restart.proofs.Again.{read_stands, read_synced, when_turned}
@@ -33,13 +33,15 @@ returns-in_err-found g c =
     let more : Additions = record { relations = c.args.relations; new_counters = c.args.counters.now } in
     record {
       recovered = search rules;
+      grown_are = search rules;
       shows = search rules;
       next = search rules;
       moments = λ relations counters b found. leaves_more D.moment D.left_since o n (D.may_leave o) (IsCarried D more relations counters b o)
           (read_synced D g.met.D.Device.only_now o s n c.sync.ensures.seen c.sync.ensures.time c.sync.ensures.crash c.find_grown.ensures.reads).moments (λ x left. inl left);
       stands = search rules;
       reads = rw (p.1, p.2) (λ not. read_synced D g.met.D.Device.only_now o s n c.sync.ensures.seen c.sync.ensures.time c.sync.ensures.crash c.find_grown.ensures.reads);
-      settled = λ relations counters b found. rw (p.1, p.2) (λ not. read_stands D g.met.D.Device.only_now g.met.D.Device.counts_now o s n c.sync.ensures.seen c.find_grown.ensures.reads One relations counters b found c.in_ok-sync.ensures.durable);
+      settled = λ relations counters b found. rw (p.1, p.2) (λ not. let reads = read_synced D g.met.D.Device.only_now o s n c.sync.ensures.seen c.sync.ensures.time c.sync.ensures.crash c.find_grown.ensures.reads in
+          read_stands D g.met.D.Device.counts_now o n reads.same reads.moments One relations counters b found (λ x left. c.in_ok-sync.ensures.durable x ((c.find_grown.ensures.reads.crash x).0 left)));
       -- the same cause, of a device that failed in no call before
       cause = rw (p.1, p.2) (subst (λ (k : ℕ). IsCauseNotToCarry more (D.seen o) (k < D.faults n) c.in_err-found.field-0.0) (c.in_ok-sync.ensures.cause.quiet refl)
           (subst (λ (x : List ℕ). IsCauseNotToCarry more x (D.faults s < D.faults n) c.in_err-found.field-0.0) c.sync.ensures.seen c.in_err-found.ensures.cause));
@@ -66,11 +68,13 @@ returns g c =
     c.in_ok-found.ensures.shows relations counters b (subst (λ (x : List ℕ). CanReplay One relations counters x b) (sym c.sync.ensures.seen) found) in
     record {
       recovered = t.recovered c.args.frames over;
+      grown_are = IfOk-weaker r _ _ (λ x same. subst (AreGrown more (D.seen o)) (sym same) (subst (λ (y : List ℕ). AreGrown more y f.restored.pages.items) c.sync.ensures.seen c.in_ok-found.ensures.grown_are)) t.restored;
       shows = λ relations counters b found. IfOk-weaker r _ _ (λ x same. subst (λ (items : List (List ℕ)). ShowsGrown more relations counters items b) (sym same) (shows relations counters b found)) t.restored;
       next = λ slot rules. IfOk-weaker r _ _ (λ x next. next ∙ ap next_slot (one_rules c.slots_are_read_back.ensures (D.seen s) f.ruling slot is.marked.rules (subst (λ (x : List ℕ). IsRuling x slot) (sym c.sync.ensures.seen) rules))) t.ruling;
       moments = λ relations counters b found. let grown_is = shows relations counters b found in
-          when_turned D g.met.D.Device.only_now g.met.D.Device.counts_now o s n c.sync.ensures.seen c.find_grown.ensures.reads One relations counters b found
-          c.slots_are_read_back.ensures c.only_own_pages_matter.ensures c.args.frames f is (relations + more.relations) (counters + length more.new_counters) (grown more counters b) grown_is.fits grown_is.bounds grown_is.shows e t.moments c.sync.ensures.time c.sync.ensures.crash;
+          let reads = read_synced D g.met.D.Device.only_now o s n c.sync.ensures.seen c.sync.ensures.time c.sync.ensures.crash c.find_grown.ensures.reads in
+          when_turned D g.met.D.Device.counts_now o n reads.same reads.moments One relations counters b found
+          c.slots_are_read_back.ensures c.only_own_pages_matter.ensures c.args.frames f over (relations + more.relations) (counters + length more.new_counters) (grown more counters b) grown_is.fits grown_is.bounds grown_is.shows e t.moments;
       stands = λ relations counters b found. let grown_is = shows relations counters b found in
           let n2 = relations + more.relations in let k2 = counters + length more.new_counters in let b2 = grown more counters b in
           ok_both r (λ x recovered same. recovered_restarts D c.only_own_pages_matter.ensures c.args.frames e x recovered n2 k2 b2 grown_is.fits grown_is.bounds (subst (λ (items : List (List ℕ)). ShowsBase n2 k2 items b2) (sym same) grown_is.shows))

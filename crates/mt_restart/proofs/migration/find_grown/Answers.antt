@@ -1,10 +1,10 @@
-use Rattle.std.proofs.Common.{rules, ◌≡◌, ◌∙◌, ◌<◌, ◌≤◌, inl, inr, ⊎_elim, ℕ, List, Err, length, refl, sym, subst, arith}
+use Rattle.std.proofs.Common.{rules, ◌≡◌, ◌∙◌, ◌<◌, ◌≤◌, ⊎_elim, ℕ, List, length, sym, subst, arith}
 use Rattle.std.proofs.lemmas.Result.{IfErr-weaker, IfOk-weaker, err_from_is_err_and}
 use Rattle.mt_base.specs.declared.refusal.Refusal.{Refusal}
 use Rattle.mt_log.proofs.ReadOn.{reads_then}
 use Rattle.mt_log.proofs.Ruling.{ruled}
 use Rattle.mt_log.proofs.Turns.{ruling_fits}
-use Rattle.mt_model.specs.Model.{Base, IsBase}
+use Rattle.mt_model.specs.Model.{IsBase}
 use Rattle.mt_replay.specs.Extension.{ExtendsSchema}
 use Rattle.mt_replay.specs.Marking.{IsMarked}
 use Rattle.mt_restart.specs.Migrated.{Additions, IsCauseNotToCarry, ShowsGrown}

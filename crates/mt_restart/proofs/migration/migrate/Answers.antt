@@ -1,7 +1,8 @@
-use Rattle.std.proofs.Common.{◌≡◌, ◌∙◌, ◌+◌, ap, length, refl, sym, subst}
+use Rattle.std.proofs.Common.{◌∙◌, ap, sym, subst}
 use Rattle.mt_base.specs.declared.refusal.Refusal.{Refusal}
 use Rattle.mt_disk.specs.Disk.{LeavesOnly}
 use Rattle.mt_restart.specs.Migrated.{Additions, IsCarried}
+use Rattle.mt_restart.proofs.Counted.{begins_on_pages}
 use Rattle.mt_restart.proofs.Opened.{opened_as}
 use Rattle.mt_restart.proofs.Refusals.{not_refused, refused_so}
 use Rattle.mt_restart.proofs.migration.migrate.Goals as goal
@@ -50,3 +51,8 @@ returns-in-Err-clause-refused g c =
       unwritten = λ not. (e.reads not).same;
       settled = λ relations counters b can not. e.settled relations counters b can not;
     }
+
+pub returns-in-Ok-clause-restored : goal.returns-in-Ok-clause-restored
+returns-in-Ok-clause-restored g c =
+    let r = c.in-Ok.recovered in let x = c.in-Ok.ensures in
+    (r.restored.pages.items, x.grown_are, begins_on_pages c.kernel_over.result r.restored.pages.items c.args.frames r.beside x.recovered.checked x.recovered.beside c.kernel_over.ensures.opened)

@@ -1,11 +1,11 @@
-use Rattle.std.proofs.Common.{◌<◌, ◌∙◌, ap, length, refl, sym, subst}
+use Rattle.std.proofs.Common.{◌<◌, ◌∙◌, ap, length, sym, subst}
 use Rattle.mt_base.specs.declared.refusal.Refusal.{Refusal}
 use Rattle.mt_disk.specs.Disk.{LeavesOnly}
 use Rattle.mt_index.specs.Checks.{bytes_of}
 use Rattle.mt_restart.proofs.Based.{base_of_good}
 use Rattle.mt_restart.proofs.Refusals.{not_refused, refused_so}
 use Rattle.mt_restart.proofs.Opened.{base_in_bounds, opened_as}
-use Rattle.mt_restart.proofs.Counted.{begins_on}
+use Rattle.mt_restart.proofs.Counted.{begins_on, begins_on_pages}
 use Rattle.mt_restart.proofs.Unlost.{never_full}
 use Rattle.mt_restart.specs.Recovered.{StandsStill}
 use Rattle.mt_restart.proofs.opened_kernel.open.Goals as goal
@@ -21,17 +21,8 @@ returns-in-Ok-clause-opened g c = λ relations counters b can.
 
 pub returns-in-Ok-clause-restored : goal.returns-in-Ok-clause-restored
 returns-in-Ok-clause-restored g c =
-    let items = c.in-Ok.recovered.restored.pages.items in let x = c.in-Ok.ensures in
-    let checked = x.recovered.checked in
-    let based = base_of_good checked.relations checked.counters (length items) (bytes_of items) checked.good in
-    let begins = c.kernel_over.ensures.opened based.0 based.1 based.2 in
-    record {
-      items = items;
-      restored = x.restored;
-      relations = begins.relations_are ∙ x.recovered.beside.relations;
-      counters = begins.counters_are ∙ x.recovered.beside.counters;
-      opened = λ b holds bounds. let o = c.kernel_over.ensures.opened b holds bounds in record { relations_are = refl; counters_are = refl; shows = o.shows; restarts = o.restarts };
-    }
+    let r = c.in-Ok.recovered in let x = c.in-Ok.ensures in
+    (r.restored.pages.items, x.restored, begins_on_pages c.kernel_over.result r.restored.pages.items c.args.frames r.beside x.recovered.checked x.recovered.beside c.kernel_over.ensures.opened)
 
 pub returns-in-Ok-clause-counted : goal.returns-in-Ok-clause-counted
 returns-in-Ok-clause-counted g c =

@@ -1,8 +1,8 @@
-use Rattle.std.proofs.Common.{rules, ◌≡◌, ◌<◌, inl, inr, ⊎_elim, ℕ, List, Err, refl, sym, subst}
+use Rattle.std.proofs.Common.{rules, ◌<◌, inl, inr, ⊎_elim, ℕ, List, sym, subst}
 use Rattle.std.proofs.lemmas.Result.{IfErr-weaker, IfOk-weaker, err_from_is_err_and}
 use Rattle.mt_replay.specs.Refused.{IsReplayed}
 use Rattle.mt_replay.specs.Stands.{ShowsBase}
-use Rattle.mt_restart.specs.Recovered.{AreRestored, IsCauseToStop}
+use Rattle.mt_restart.specs.Recovered.{IsCauseToStop}
 use Rattle.mt_log.proofs.Ruling.{ruled}
 use Rattle.mt_restart.proofs.recovery.find.Goals as goal
 

@@ -1,4 +1,4 @@
-use Rattle.std.proofs.Common.{rules, ◌<◌, ℕ, List, refl, sym, subst}
+use Rattle.std.proofs.Common.{rules, ℕ, List, refl, subst}
 use Rattle.std.proofs.lemmas.Result.{err_from_is_err_and}
 use Rattle.mt_disk.specs.Disk.{LeavesOnly}
 use Rattle.mt_restart.proofs.Refusals.{not_ok, not_well}

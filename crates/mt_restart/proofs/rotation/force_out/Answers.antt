@@ -26,7 +26,7 @@ loop-step-init g c =
 pub returns-in_err-force_step-clause-keeps : goal.returns-in_err-force_step-clause-keeps
 returns-in_err-force_step-clause-keeps g c =
     let D = g.D.Device in let i = c.loop-step.invariant in let e = c.force_step.ensures in
-    keeps_forced g.met.D.Device.only_now c.args.kernel.now c.loop-step.kernel c.force_step.new.self c.force_step.result c.requires.nobody i.nobody c.loop-step.kernel.well i.keeps i.grows e.forced e.log e.restarts e.schema e.moments
+    keeps_forced g.met.D.Device.only_now c.args.kernel.now c.loop-step.kernel c.force_step.new.self c.force_step.result c.requires.nobody i.nobody c.loop-step.kernel.well i.keeps i.grows e.forced e.log e.restarts e.schema e.moments e.keeps
 
 pub returns-in_err-force_step-clause-cause : goal.returns-in_err-force_step-clause-cause
 returns-in_err-force_step-clause-cause g c =
@@ -36,7 +36,7 @@ returns-in_err-force_step-clause-cause g c =
 pub returns-in-Idle-clause-keeps : goal.returns-in-Idle-clause-keeps
 returns-in-Idle-clause-keeps g c =
     let D = g.D.Device in let i = c.loop-step.invariant in let e = c.force_step.ensures in
-    keeps_forced g.met.D.Device.only_now c.args.kernel.now c.loop-step.kernel c.force_step.new.self c.force_step.result c.requires.nobody i.nobody c.loop-step.kernel.well i.keeps i.grows e.forced e.log e.restarts e.schema e.moments
+    keeps_forced g.met.D.Device.only_now c.args.kernel.now c.loop-step.kernel c.force_step.new.self c.force_step.result c.requires.nobody i.nobody c.loop-step.kernel.well i.keeps i.grows e.forced e.log e.restarts e.schema e.moments e.keeps
 
 pub returns-in-Idle-clause-forced : goal.returns-in-Idle-clause-forced
 returns-in-Idle-clause-forced g c =
@@ -53,7 +53,7 @@ pub loop-step-preserved : goal.loop-step-preserved
 loop-step-preserved g c =
     let D = g.D.Device in let i = c.loop-step.invariant in let e = c.force_step.ensures in let m = c.loop-step.kernel in let n = c.force_step.new.self in
     record {
-      keeps = keeps_forced g.met.D.Device.only_now c.args.kernel.now m n c.force_step.result c.requires.nobody i.nobody m.well i.keeps i.grows e.forced e.log e.restarts e.schema e.moments;
+      keeps = keeps_forced g.met.D.Device.only_now c.args.kernel.now m n c.force_step.result c.requires.nobody i.nobody m.well i.keeps i.grows e.forced e.log e.restarts e.schema e.moments e.keeps;
       well = c.in_ok-force_step.ensures.well (refl {a = true});
       nobody = nobody_still m.core n.core i.nobody e.keeps.states;
       grows = grows_forced c.args.kernel.now m n c.in_ok-force_step.field-0 i.grows c.in_ok-force_step.ensures.log;

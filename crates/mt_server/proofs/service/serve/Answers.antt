@@ -14,7 +14,7 @@ returns-in-Err-clause-refused g c = unopened c.in-Err.why (omega arith) (unopene
 pub returns-clause-refused : goal.returns-clause-refused
 returns-clause-refused g c =
     let few : length c.args.scripts.items ≤ 64 = omega arith in
-    IfErr-weaker c.serve_named.result _ _ (λ why late. cut_short why few c.in-Ok.ensures.restored late) c.serve_named.ensures.late
+    IfErr-weaker c.serve_named.result _ _ (λ why late. cut_short why few (c.in-Ok.ensures.restored.items, c.in-Ok.ensures.restored.restored) late) c.serve_named.ensures.late
 
 pub returns-clause-frames : goal.returns-clause-frames
 returns-clause-frames g c =
@@ -24,7 +24,7 @@ returns-clause-frames g c =
 pub returns-clause-began : goal.returns-clause-began
 returns-clause-began g c =
     let D = g.D.Device in
-    IfOk-weaker c.serve_named.result _ _ (λ s began. served_on (D.seen c.args.device) c.in-Ok.opened.base s.kernel c.in-Ok.ensures.base began) c.serve_named.ensures.began
+    IfOk-weaker c.serve_named.result _ _ (λ s began. served_on (D.seen c.args.device) c.in-Ok.opened.base s.kernel c.in-Ok.ensures.base c.in-Ok.ensures.restored began) c.serve_named.ensures.began
 
 pub returns-clause-few : goal.returns-clause-few
 returns-clause-few g c =

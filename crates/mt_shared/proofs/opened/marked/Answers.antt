@@ -1,4 +1,4 @@
-use Rattle.std.proofs.Common.{arith, ap, ◌∙◌}
+use Rattle.std.proofs.Common.{rules, arith, ap, ◌∙◌}
 use Rattle.mt_mark.specs.Rule.{labelled}
 use Rattle.mt_shared.proofs.Oks.{three_ok}
 use Rattle.mt_shared.proofs.opened.marked.Goals as goal
@@ -14,3 +14,6 @@ returns c = three_ok _ _ _ _ c.new.result c.new.ensures.end c.new.ensures.count 
       many = (let n = count in let o = r.1.ok in omega arith);
       seats_are = λ k d h. let s = seats k d (let n = count in let o = r.1.ok in omega arith) in record { mark = s.mark; base = s.base; list = s.list; above = (let n = s.number in omega arith) };
     })
+
+pub new-requires-clause-from : goal.new-requires-clause-from
+new-requires-clause-from c = search rules

@@ -3,8 +3,8 @@ use Rattle.mt_mark.specs.Held.{Held}
 use Rattle.mt_mark.specs.Rule.{IsConfirmed, dones}
 use Rattle.std.specs.Prelude.{IfErr}
 use Rattle.mt_locked.specs.Seen.{LockedSeen, is_failed_in}
-use Rattle.mt_locked.specs.Standings.{KeepsHistory, book_in, seen_in}
-use Rattle.mt_locked.specs.Turns.{IsLeftAfter, IsTooEarlyIn}
+use Rattle.mt_locked.specs.Standings.{KeepsHistory, book_in, kernel_in, seen_in}
+use Rattle.mt_locked.specs.Turns.{IsLeftAfter, IsTooEarlyIn, TurnsLogOver}
 use Rattle.mt_locked.proofs.Books.{dones-length}
 use Rattle.mt_locked.proofs.Uses.{too_early}
 use Rattle.mt_locked.proofs.locked.Locked.rotate.Goals as goal
@@ -29,7 +29,10 @@ pub returns-then-ne-clause-why : goal.returns-then-ne-clause-why
 returns-then-ne-clause-why g c = c.replace_with-outcome.ensures.why
 
 pub returns-then-ne-clause-did : goal.returns-then-ne-clause-did
-returns-then-ne-clause-did g c = λ did. c.replace_with-outcome.ensures.did did g.J.Naming.base (dones c.self.inside.end.view.list) c.self.invariant.4
+returns-then-ne-clause-did g c = λ did.
+    subst (λ (l : LockedSeen _). TurnsLogOver g.D.Device c.args.frames g.J.Naming.base c.args.self.now.kernel l.kernel) (sym c.settle.ensures)
+    (subst (λ (l : LockedSeen _). TurnsLogOver g.D.Device c.args.frames g.J.Naming.base l.kernel (kernel_in c.replace_with-outcome.new.dest)) c.self.view_is
+    (c.replace_with-outcome.ensures.did did g.J.Naming.base (dones c.self.inside.end.view.list) c.self.invariant.4))
 
 pub returns-then-ne-clause-gone : goal.returns-then-ne-clause-gone
 returns-then-ne-clause-gone g c = λ left. c.replace_with-outcome.ensures.gone (sym (ap (λ (l : LockedSeen _). l.kernel) c.settle.ensures) ∙ left)
@@ -45,7 +48,9 @@ pub returns-else-ne-clause-why : goal.returns-else-ne-clause-why
 returns-else-ne-clause-why g c = c.replace_with-outcome.ensures.why
 
 pub returns-else-ne-clause-did : goal.returns-else-ne-clause-did
-returns-else-ne-clause-did g c = λ did. c.replace_with-outcome.ensures.did did g.J.Naming.base (dones c.self.inside.end.view.list) c.self.invariant.4
+returns-else-ne-clause-did g c = λ did.
+    subst (λ (l : LockedSeen _). TurnsLogOver g.D.Device c.args.frames g.J.Naming.base l.kernel (kernel_in c.replace_with-outcome.new.dest)) c.self.view_is
+    (c.replace_with-outcome.ensures.did did g.J.Naming.base (dones c.self.inside.end.view.list) c.self.invariant.4)
 
 pub returns-else-ne-clause-gone : goal.returns-else-ne-clause-gone
 returns-else-ne-clause-gone g c = c.replace_with-outcome.ensures.gone
@@ -68,10 +73,12 @@ returns-else-ne-clause-early g c = λ is.
 
 pub returns-then-ne-clause-refused : goal.returns-then-ne-clause-refused
 returns-then-ne-clause-refused g c =
-    subst (λ (l : LockedSeen _). IfErr c.replace_with-outcome.result (λ why. IsLeftAfter why l.kernel)) (sym c.settle.ensures) c.replace_with-outcome.ensures.refused
+    subst (λ (l : LockedSeen _). IfErr c.replace_with-outcome.result (λ why. IsLeftAfter g.D.Device why c.args.self.now.kernel l.kernel)) (sym c.settle.ensures)
+    (subst (λ (l : LockedSeen _). IfErr c.replace_with-outcome.result (λ why. IsLeftAfter g.D.Device why l.kernel (kernel_in c.replace_with-outcome.new.dest))) c.self.view_is c.replace_with-outcome.ensures.refused)
 
 pub returns-else-ne-clause-refused : goal.returns-else-ne-clause-refused
-returns-else-ne-clause-refused g c = c.replace_with-outcome.ensures.refused
+returns-else-ne-clause-refused g c =
+    subst (λ (l : LockedSeen _). IfErr c.replace_with-outcome.result (λ why. IsLeftAfter g.D.Device why l.kernel (kernel_in c.replace_with-outcome.new.dest))) c.self.view_is c.replace_with-outcome.ensures.refused
 
 pub returns-then-ne-clause-failed : goal.returns-then-ne-clause-failed
 returns-then-ne-clause-failed g c = λ bad.

@@ -1,4 +1,4 @@
-use Rattle.std.proofs.Common.{◌≡◌, ◌∙◌, [], refl, ap, subst, sym}
+use Rattle.std.proofs.Common.{rules, ◌≡◌, ◌∙◌, [], refl, ap, subst, sym}
 use Rattle.std.proofs.lemmas.List.{append-nil}
 use Rattle.mt_mark.specs.Rule.{dones, labelled}
 use Rattle.mt_mark.proofs.Fronts.{dones-labelled}
@@ -41,3 +41,6 @@ returns-clause-passes g c = λ k d h. ap dones (c.in-Ok.ensures.each k d h).seen
 pub passes_of-requires-clause-list : goal.passes_of-requires-clause-list
 passes_of-requires-clause-list g c = let i = c.self.invariant in
     i.2 ∙ ap labelled (i.3 ∙ (ap (λ (x : OpenedSeen _). x.book) c.self.view_is ∙ c.requires.name.2))
+
+pub returns-in_default-clause-same : goal.returns-in_default-clause-same
+returns-in_default-clause-same g c = search rules

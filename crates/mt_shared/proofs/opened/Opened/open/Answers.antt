@@ -1,4 +1,4 @@
-use Rattle.std.proofs.Common.{◌∙◌, ap, refl, subst, sym}
+use Rattle.std.proofs.Common.{rules, ◌∙◌, ap, refl, subst, sym}
 use Rattle.mt_core.specs.Seen.{core_device}
 use Rattle.mt_live.specs.Machine.{start}
 use Rattle.mt_model.specs.Views.{base_of}
@@ -7,7 +7,7 @@ use Rattle.mt_locked.proofs.Keeping.{began_so}
 use Rattle.mt_shared.proofs.Openings.{first_book, no_memory}
 use Rattle.mt_disk.specs.Disk.{LeavesOnly}
 use Rattle.mt_restart.specs.Recovered.{StandsStill}
-use Rattle.mt_restart.specs.Resumed.{HasTurnedOver}
+use Rattle.mt_restart.specs.Resumed.{HasTurnedOver, IsRestoredBase}
 use Rattle.mt_steps.specs.Listed.{IsSame}
 use Rattle.mt_txn.specs.Seen.{KernelSeen}
 use Rattle.mt_shared.proofs.opened.Opened.open.Goals as goal
@@ -29,16 +29,18 @@ pub returns-in-Ok-new-clause-frames : goal.returns-in-Ok-new-clause-frames
 returns-in-Ok-new-clause-frames g c = c.in-Ok-new.ensures.frames ∙ c.in-Ok.ensures.frames
 
 pub returns-in-Ok-new-clause-restored : goal.returns-in-Ok-new-clause-restored
-returns-in-Ok-new-clause-restored g c = let r = c.in-Ok.ensures.restored in (r.items, r.restored)
+returns-in-Ok-new-clause-restored g c =
+    subst (λ (x : Base). IsRestoredBase (g.D.Device.seen c.args.device) (base_of x)) (sym c.in-Ok-new.ensures.ok.0) c.in-Ok.ensures.listed
 
 pub returns-in-Err-clause-refused : goal.returns-in-Err-clause-refused
-returns-in-Err-clause-refused g c = record { cause = c.in-Err.ensures.cause; rightly = c.in-Err.ensures.refused }
+returns-in-Err-clause-refused g c = let e = c.in-Err.ensures.refused in
+    record { cause = e.cause; rightly = record { unformatted = e.unformatted; other = e.other; left = e.left; formatted = e.formatted } }
 
 pub returns-clause-refused : goal.returns-clause-refused
-returns-clause-refused g c = let r = c.in-Ok.ensures.restored in no_memory c.slots_are_read_back.ensures _ _ r.items r.restored
+returns-clause-refused g c = let r = c.in-Ok.ensures.restored in no_memory c.slots_are_read_back.ensures _ _ r.0 r.1
 
 pub returns-in-Err-clause-settled : goal.returns-in-Err-clause-settled
-returns-in-Err-clause-settled g c = λ relations counters b can other x leaves. ∣ c.in-Err.ensures.settled relations counters b can other x leaves ∣₁
+returns-in-Err-clause-settled g c = λ relations counters b can other x leaves. ∣ c.in-Err.ensures.refused.settled relations counters b can other x leaves ∣₁
 
 pub returns-clause-settled : goal.returns-clause-settled
 returns-clause-settled g c = λ relations counters b can other x leaves.
@@ -62,3 +64,6 @@ pub returns-clause-moments : goal.returns-clause-moments
 returns-clause-moments g c = λ relations counters b can.
     let D = g.D.Device in
     rw (c.into_device.ensures.device, c.in-Err-new.ensures.same) (c.in-Ok.ensures.moments relations counters b can)
+
+pub returns-in-Ok-new-clause-many : goal.returns-in-Ok-new-clause-many
+returns-in-Ok-new-clause-many g c = search rules

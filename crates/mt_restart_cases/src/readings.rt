@@ -65,7 +65,7 @@ fn calls_of(alloc: Global, is_check: bool) -> Result<u64, Refusal> {
     Err(Refusal::Busy)
 }
 
-// What a survey answers after an opening, over a device that fails at its n-th call. The kernel is let go.
+// What a survey answers after an opening, over a device that fails at its n-th call. The kernel is dropped.
 fn surveyed(alloc: Global, bytes: &[u8], n: u64) -> Result<(), Refusal> {
     let device = device_of(alloc, bytes.to_vec(alloc)?)?;
     let mut kernel = match open(alloc, FaultDevice::new(device, n), 64) {

@@ -10,6 +10,7 @@ use Rattle.mt_base.specs.declared.refusal.Refusal.TheVariants as refusal
 use Rattle.mt_disk.specs.declared.device.Device.{Ghosts}
 use Rattle.mt_live.proofs.Alone.{alone_is_free}
 use Rattle.mt_live.specs.Lives.{calls_of}
+use Rattle.mt_live.specs.Members.{forward_count}
 use Rattle.mt_live.specs.Machine.{State, called}
 use Rattle.mt_model.specs.History.{Call, run}
 use Rattle.mt_model.specs.Locks.{AreAllFree, BarsSome, Held}
@@ -130,7 +131,7 @@ steps_behind t r (q ∷ rs) none own = go (q.txn == t) refl (λ rest. steps_behi
 
 module _ {D : Type 0} {g : Ghosts D} (p : Play) (k : Kernel D g) (t : ℕ) (calls : List Call) (op : Op) where
   abbrev pub many_of : Bool
-  many_of = nat_le 256 (length (calls_of k.core.live.members t)) || nat_le (2 ^ 40) k.core.last
+  many_of = nat_le 256 (forward_count (calls_of k.core.live.members t)) || nat_le (2 ^ 40) k.core.last
 
   abbrev pub fault : Option Refusal
   fault = first_of (name_cause k.relations k.counters op) (size_cause op)

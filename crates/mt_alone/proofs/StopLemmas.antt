@@ -35,6 +35,7 @@ stopped_by (Refused refusal.Stranger) why is = cc
 stopped_by (Refused refusal.Busy) why is = cc
 stopped_by (Refused refusal.TooManyOperations) why is = cc
 stopped_by (Refused (refusal.BadLine place)) why is = cc
+stopped_by (Refused refusal.BadSavepoint) why is = cc
 stopped_by (Refused refusal.WrongFormat) why is = cc
 stopped_by answer why is = absurd cc
 

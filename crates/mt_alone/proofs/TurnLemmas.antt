@@ -29,7 +29,7 @@ use Rattle.mt_core.specs.declared.parts.Commit.{Commit}
 use Rattle.mt_op.specs.declared.scope.OpScope.{OpScope}
 use Rattle.mt_txn.proofs.Living.{idle_of, no_commits}
 use Rattle.mt_txn.proofs.Showing.{kept_of, parts_stay}
-use Rattle.mt_txn.specs.Causes.{begin_cause, commit_cause, first_of, is_busy, is_open, open_cause, unless}
+use Rattle.mt_txn.specs.Causes.{begin_cause, commit_cause, first_of, is_busy, is_open, open_cause, unless, abort_begin_cause, may_abort}
 use Rattle.mt_txn.specs.Shown.{SameSchema, Shows, Stays, is_failed}
 use Rattle.mt_txn.specs.declared.kernel.Kernel.{Kernel}
 use Rattle.mt_script.specs.declared.answers.Answer.TheVariants.{Begun, Committed, Refused}
@@ -124,6 +124,9 @@ module _ {D : Type 0} {g : Ghosts D} where
   -- an open transaction is refused only where the device has failed
   pub open_is : (k : Kernel D g) (t : ℕ) → state_in k.core.live.members t ≡ Some Open → open_cause (is_failed k) k.core t ≡ (if is_failed k then Some refusal.DeviceFailed else None)
   open_is k t state = ap (λ (o : Option TxnState). if is_failed k then Some refusal.DeviceFailed else unless (is_open o) refusal.Stranger) state
+
+  abort_is : (k : Kernel D g) (t : ℕ) → state_in k.core.live.members t ≡ Some Open → abort_begin_cause (is_failed k) k.core t ≡ (if is_failed k then Some refusal.DeviceFailed else None)
+  abort_is k t state = ap (λ (o : Option TxnState). if is_failed k then Some refusal.DeviceFailed else unless (may_abort o) refusal.Stranger) state
 
   open_failed : (k n : Kernel D g) (t : ℕ) (why : Refusal) (c : Option Refusal) → (c ≡ (if is_failed k then Some refusal.DeviceFailed else None)) → ((y : Refusal) → c ≡ Some y → n ≡ k) → (why ≢ refusal.NoMemory → c ≡ Some why) → Fails n why
   open_failed k n t why c is stands cause = fails_for k n why c is stands (λ other. inl (cause other))
@@ -236,10 +239,10 @@ module _ {D : Type 0} {g : Ghosts D} where
       undo_few n first s t (stays first s shows) (nobody_commits n first s t Aborting (stays first s shows) alone.others state (λ e. cc)) idle
       (λ u other lives. nobody_there n first s (stays first s shows) u (alone.others u other) lives))
 
-  pub abort_refused : (p : Play) (k n : Kernel D g) (t : ℕ) (calls : List Call) (why : Refusal) → IsOpened p t calls k → n ≡ k → open_cause (is_failed k) k.core t ≡ Some why → IsGivenUp p n why
+  pub abort_refused : (p : Play) (k n : Kernel D g) (t : ℕ) (calls : List Call) (why : Refusal) → IsOpened p t calls k → n ≡ k → abort_begin_cause (is_failed k) k.core t ≡ Some why → IsGivenUp p n why
   abort_refused p k n t calls why o same cause = (
     subst (λ (x : Kernel D g). IsLeft p x) (sym same) (∥∥₁_map o.shown (λ (first, s, shows, (played, alone)). (first, s, shows, played))),
-    open_failed k n t why (open_cause (is_failed k) k.core t) (open_is k t o.state) (λ y is. same) (λ other. cause),
+    open_failed k n t why (abort_begin_cause (is_failed k) k.core t) (abort_is k t o.state) (λ y is. same) (λ other. cause),
   )
 
 -- without a transaction there is nothing to call, to commit or to abort

@@ -2,7 +2,7 @@
 use Rattle.std.specs.Prelude.{ℕ, List, [], ◌∷◌, ◌++◌, codes}
 use Rattle.std.specs.Fmt.{decimal}
 use Rattle.mt_base.specs.declared.refusal.Refusal.{Refusal}
-use Rattle.mt_base.specs.declared.refusal.Refusal.TheVariants.{NoMemory, DeviceFailed, NotFormatted, BadFormat, BadLength, NoSuchRelation, NoSuchCounter, BadStep, Escrow, NoRoom, LogFull, BookFull, TooManyTransactions, Die, Stranger, Busy, TooManyOperations, BadLine, WrongFormat}
+use Rattle.mt_base.specs.declared.refusal.Refusal.TheVariants.{NoMemory, DeviceFailed, NotFormatted, BadFormat, BadLength, NoSuchRelation, NoSuchCounter, BadStep, Escrow, NoRoom, LogFull, BookFull, TooManyTransactions, Die, Stranger, Busy, TooManyOperations, BadLine, BadSavepoint, WrongFormat}
 
 abbrev pub number_of : Refusal → ℕ
 number_of NoMemory = 1
@@ -23,6 +23,7 @@ number_of Stranger = 15
 number_of Busy = 16
 number_of TooManyOperations = 17
 number_of (BadLine line) = 18
+number_of BadSavepoint = 19
 number_of WrongFormat = 20
 
 abbrev pub name_of : Refusal → List ℕ
@@ -44,6 +45,7 @@ name_of Stranger = codes "Stranger"
 name_of Busy = codes "Busy"
 name_of TooManyOperations = codes "TooManyOperations"
 name_of (BadLine line) = codes "BadLine"
+name_of BadSavepoint = codes "BadSavepoint"
 name_of WrongFormat = codes "WrongFormat"
 
 -- what follows the name: the place or the line, after a space

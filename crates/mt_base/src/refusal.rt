@@ -51,12 +51,14 @@ pub enum Refusal {
     TooManyOperations,
     /// 18: this line of a script is not in its grammar; lines count from 1.
     BadLine(u64),
+    /// 19: a transaction cannot go back to after so many operations, since fewer of it stand.
+    BadSavepoint,
     /// 20: the device is of another format than the call is for.
     WrongFormat,
 }
 
 impl Refusal {
-    /// The refusal's number, 1 to 18, or 20.
+    /// The refusal's number, 1 to 20.
     pub fn number(&self) -> u8
         ensures { result ≡ number_of self.now }
     {
@@ -79,6 +81,7 @@ impl Refusal {
             Refusal::Busy => 16,
             Refusal::TooManyOperations => 17,
             Refusal::BadLine(_) => 18,
+            Refusal::BadSavepoint => 19,
             Refusal::WrongFormat => 20,
         }
     }
@@ -106,6 +109,7 @@ impl Refusal {
             Refusal::Busy => "Busy",
             Refusal::TooManyOperations => "TooManyOperations",
             Refusal::BadLine(_) => "BadLine",
+            Refusal::BadSavepoint => "BadSavepoint",
             Refusal::WrongFormat => "WrongFormat",
         }
     }

@@ -36,7 +36,7 @@ use Rattle.mt_slock.specs.Views.{held_of}
 use Rattle.mt_steps.specs.Held.{Holds}
 use Rattle.mt_steps.specs.Plans.{own_needs, undo_pages}
 use Rattle.mt_live.specs.declared.transactions.TxnState.TheVariants.{Aborting}
-use Rattle.mt_core.specs.Runs.{running_in, state_in, AreApart, AreHeldBy, IsMoving, IsRunning, IsOwned, pages_of, entry_pages, kept_bytes, taken_bytes}
+use Rattle.mt_core.specs.Runs.{running_in, state_in, AreApart, AreHeldBy, IsMoving, IsRunning, IsOwned, pages_of, entry_pages, kept_bytes, taken_bytes, goes_back, is_returning}
 use Rattle.mt_op.specs.World.{left_of}
 use Rattle.mt_core.specs.Consistent.{Origin, state_of, IsNumbered, AreReported, IsQueued, IsFit, IsConsistent, IsAlone, IsReady, IsIn, Advances}
 use Rattle.mt_core.specs.declared.parts.Core.{Core}
@@ -69,8 +69,11 @@ owned_same ms r q standing same taken o = record {
   room = λ fore. rw same.txn (o.room (sym same.undoes ∙ fore));
   inverse = λ back. let t = o.inverse (λ e. back (same.undoes ∙ e)) in record { named = (λ i. last_operation (member_of ms (same.txn i))) ∙ t.named ∙ ap Some (sym same.undoes); entry = t.entry; last = rw same.txn t.last; inverse = t.inverse ∙ ap Some (sym same.op); unsplit = same.split ∙ t.unsplit };
   newest = λ fore. subst (λ (X : Type 0). X) (λ i. IsAbove (sym same.number i) (member_of ms (sym same.txn i))) (o.newest (sym same.undoes ∙ fore));
+  few = λ fore. rw same.txn (o.few (sym same.undoes ∙ fore));
   taken = taken;
-  aborts = λ back. ap (state_in ms) same.txn ∙ o.aborts (λ is. back (same.undoes ∙ is));
+  forwards = λ fore. ap is_returning (ap (state_in ms) same.txn) ∙ o.forwards (sym same.undoes ∙ fore);
+  backwards = λ back. ap goes_back (ap (state_in ms) same.txn) ∙ o.backwards (λ is. back (same.undoes ∙ is));
+  returns = λ back first is. let was = o.returns (λ e. back (same.undoes ∙ e)) first (ap (state_in ms) (sym same.txn) ∙ is) in record { room = rw same.txn was.room; newest = subst (λ (X : Type 0). X) (λ i. IsAbove (sym same.number i) (member_of ms (sym same.txn i))) was.newest; after = rw same.txn was.after };
 }
 
 pages_same : (r q : OpScope) → IsSame r q → pages_of q ≡ pages_of r

@@ -1,5 +1,5 @@
 -- A transaction that begins, and one whose state is set.
-use Rattle.std.proofs.Common.{◌≡◌, ℕ, ◌<◌, ◌+◌, ◌^◌, ◌==◌, cond, Bool, true, false, List, length, get_or, Option, Some, None, refl, sym, ap, ◌∙◌, subst, arith}
+use Rattle.std.proofs.Common.{◌≡◌, ◌≢◌, ℕ, ◌<◌, ◌+◌, ◌^◌, ◌==◌, cond, Bool, true, false, List, length, get_or, Option, Some, None, refl, sym, ap, ◌∙◌, subst, arith}
 use Rattle.std.specs.Prelude.{All, is_some}
 use Rattle.std.specs.Option.{option_map}
 use Rattle.std.proofs.lemmas.Bool.{eq-eqb, eqb-true}
@@ -7,25 +7,26 @@ use Rattle.mt_disk.specs.declared.device.Device.{Ghosts}
 use Rattle.mt_area_rules.specs.History.{some_record, ends_txn}
 use Rattle.mt_frame.specs.declared.records.Record.{Record}
 use Rattle.mt_live.proofs.Keeping.{kept_begun}
-use Rattle.mt_live.specs.Lives.{member_of, has_room, IsChanged, IsAbove}
+use Rattle.mt_live.specs.Lives.{calls_in, member_of, has_room, IsChanged, IsAbove}
 use Rattle.mt_live.specs.Machine.{State, put, IsKept, begun}
 use Rattle.mt_live.specs.Members.{Member, with_room}
 use Rattle.mt_live.specs.Members as members
 use Rattle.mt_live.specs.Entries.{Entry}
-use Rattle.mt_live.specs.Members.{last_operation}
+use Rattle.mt_live.specs.Members.{forward_count, last_operation, last_place, noted_after}
 use Rattle.mt_live.specs.Undoing.{last_effect}
 use Rattle.std.specs.List.{sum_by}
 use Rattle.mt_log.specs.Words.{appended, used, area_size}
 use Rattle.mt_model.specs.Model.{Base}
 use Rattle.mt_slock.specs.Views.{held_of}
-use Rattle.mt_live.specs.declared.transactions.TxnState.TheVariants.{Open, Committing, Aborting}
-use Rattle.mt_core.specs.Runs.{running_in, IsOwned, is_at_work, is_open, entry_pages, entry_bytes}
+use Rattle.mt_live.specs.declared.transactions.TxnState.TheVariants.{Open, Committing, Returning, Aborting}
+use Rattle.mt_live.specs.declared.transactions.TxnState.{TxnState}
+use Rattle.mt_core.specs.Runs.{running_in, IsOwned, is_at_work, is_open, goes_back, is_returning, did_after, entry_pages, entry_bytes}
 use Rattle.mt_op.specs.World.{left_of}
 use Rattle.mt_core.specs.Consistent.{Origin, state_of, state_in, AreLeft, IsNumbered, IsReported, IsWithinSchema, IsConsistent, IsIn}
 use Rattle.mt_core.specs.declared.parts.Core.{Core}
 use Rattle.mt_op.specs.declared.scope.OpScope.{OpScope}
 use Rattle.mt_live.proofs.Alone.{put_other}
-use Rattle.mt_core.proofs.Members.{changed_keeps}
+use Rattle.mt_core.proofs.Members.{changed_keeps, owned_as, states_set}
 use Rattle.mt_core.proofs.Reported.{reported_fresh, reported_put, reported_changed}
 use Rattle.mt_core.proofs.Queued.{queued_members}
 
@@ -36,33 +37,22 @@ fresh_session f t session u = go (u == t)
     go true = refl
     go false = refl
 
--- an open transaction that is to be undone is at work as before
-pub reopened : (old new : List Member) (t : ℕ) → option_map (λ (m : Member). m.state) (member_of old t) ≡ Some Open → IsChanged old new t (λ m. members.with_state m Aborting) → (u : ℕ) → is_open (member_of new u) ≡ is_open (member_of old u)
-reopened old new t was changed u = ap is_open (changed u) ∙ go (u == t) refl
+-- one that is at work, and goes on to a state of such, is at work as before
+pub reopened : (old new : List Member) (t : ℕ) (state : TxnState) → is_open (member_of old t) ≡ true → is_at_work state ≡ true → IsChanged old new t (λ m. members.with_state m state) → (u : ℕ) → is_open (member_of new u) ≡ is_open (member_of old u)
+reopened old new t state was works changed u = ap is_open (changed u) ∙ go (u == t) refl
   where
-    opened : (o : Option Member) → option_map (λ (m : Member). m.state) o ≡ Some Open → is_open (option_map (λ (m : Member). members.with_state m Aborting) o) ≡ is_open o
+    opened : (o : Option Member) → is_open o ≡ true → is_open (option_map (λ (m : Member). members.with_state m state) o) ≡ is_open o
     opened None is = absurd cc
-    opened (Some m) is = let state : m.state ≡ Open = cc in sym (ap is_at_work state)
+    opened (Some m) is = works ∙ sym is
 
-    go : (c : Bool) → (u == t) ≡ c → is_open (cond c (option_map (λ (m : Member). members.with_state m Aborting) (member_of old t)) (member_of old u)) ≡ is_open (member_of old u)
+    go : (c : Bool) → (u == t) ≡ c → is_open (cond c (option_map (λ (m : Member). members.with_state m state) (member_of old t)) (member_of old u)) ≡ is_open (member_of old u)
     go true is = opened (member_of old t) was ∙ ap (λ (v : ℕ). is_open (member_of old v)) (sym (eqb-true u t is))
     go false is = refl
 
--- one that is open lives
-pub there_open : (o : Option Member) → option_map (λ (m : Member). m.state) o ≡ Some Open → is_some o ≡ true
+-- one that is at work lives
+pub there_open : (o : Option Member) → is_open o ≡ true → is_some o ≡ true
 there_open None is = absurd cc
 there_open (Some m) is = refl
-
--- an operation is its transaction's as before, where what is asked of that is as before
-pub owned_as : (ms new : List Member) (old standing : List Entry) (q : OpScope) → member_of new q.txn ≡ member_of ms q.txn → standing ≡ old → IsOwned ms old q → IsOwned new standing q
-owned_as ms new old standing q same stands o = record {
-  at_work = ap is_open same ∙ o.at_work;
-  room = λ fore. ap has_room same ∙ o.room fore;
-  inverse = λ back. let e = o.inverse back in record { named = ap last_operation same ∙ e.named; entry = e.entry; last = ap (last_effect q.txn) stands ∙ e.last; inverse = e.inverse; unsplit = e.unsplit };
-  newest = λ fore. subst (IsAbove q.number) (sym same) (o.newest fore);
-  taken = λ is. let t = o.taken is in (t.0, ap (option_map (λ (m : Member). m.state)) same ∙ t.1);
-  aborts = λ back. ap (option_map (λ (m : Member). m.state)) same ∙ o.aborts back;
-}
 
 roomier : (old new : List Member) (t : ℕ) → IsChanged old new t members.with_room → (u : ℕ) → has_room (member_of old u) ≡ true → has_room (member_of new u) ≡ true
 roomier old new t changed u h = ap has_room (changed u) ∙ go (u == t) refl
@@ -86,6 +76,41 @@ changed_above f old new t u number same changed above = subst (IsAbove number) (
     go : (c : Bool) → (u == t) ≡ c → IsAbove number (cond c (option_map f (member_of old t)) (member_of old u))
     go true is = mapped (member_of old t) (subst (λ (v : ℕ). IsAbove number (member_of old v)) (eqb-true u t is) above)
     go false is = above
+
+-- ---- states
+
+-- who commits does so before and after, who is undone stays so, and who goes back goes on to what it went to
+pub record StatesGoOn (old new : Option TxnState) : Type 0 where
+  pub commits : old ≡ Some Committing → new ≡ Some Committing
+  pub committed : new ≡ Some Committing → old ≡ Some Committing
+  pub aborts : old ≡ Some Aborting → new ≡ Some Aborting
+  pub backwards : goes_back old ≡ true → goes_back new ≡ true
+  pub returns : goes_back old ≡ true → (first : ℕ) → new ≡ Some (Returning first) → old ≡ Some (Returning first)
+
+pub same_goes : (old new : Option TxnState) → new ≡ old → StatesGoOn old new
+same_goes old new same = record {
+  commits = λ is. same ∙ is;
+  committed = λ is. sym same ∙ is;
+  aborts = λ is. same ∙ is;
+  backwards = λ is. ap goes_back same ∙ is;
+  returns = λ back first is. sym same ∙ is;
+}
+
+-- to this state of one that is at work
+pub record GoesOnTo (old : Option TxnState) (state : TxnState) : Type 0 where
+  pub aborts : old ≡ Some Aborting → state ≡ Aborting
+  pub backwards : goes_back old ≡ true → goes_back (Some state) ≡ true
+  pub returns : goes_back old ≡ true → (first : ℕ) → state ≡ Returning first → old ≡ Some (Returning first)
+
+pub aborting_goes : (old : Option TxnState) → GoesOnTo old Aborting
+aborting_goes old = record { aborts = λ is. refl; backwards = λ is. refl; returns = λ back first is. absurd cc }
+
+pub returning_goes : (old : Option TxnState) (first : ℕ) → old ≡ Some Open → GoesOnTo old (Returning first)
+returning_goes old first opened = record {
+  aborts = λ is. absurd (let now : Some Open ≡ Some Aborting = sym opened ∙ is in cc);
+  backwards = λ is. refl;
+  returns = λ back other is. absurd (let not : goes_back old ≡ false = ap goes_back opened in cc);
+}
 
 module _ {D : Type 0} (g : Ghosts D) (origin : Origin) (base : Base) where
   pub begun_in : (k n : Core D) (t session : ℕ) → IsConsistent g origin base k → k.live.begun < 2 ^ 40 → t ≡ k.live.begun + 1 → n.live.begun ≡ k.live.begun + 1 → member_of k.live.members t ≡ None
@@ -118,7 +143,7 @@ module _ {D : Type 0} (g : Ghosts D) (origin : Origin) (base : Base) where
             schema = fit.schema;
             right = fit.right;
             kept = subst (IsKept origin.first) state (kept_begun origin.first s session fit.kept);
-            owned = λ i d lt. owned_as k.live.members n.live.members k.live.standing n.live.standing (get_or k.running.items i d) (other i d lt) standing (fit.owned i d lt);
+            owned = λ i d lt. owned_as k.live.members n.live.members k.live.standing n.live.standing (get_or k.running.items i d) (other i d lt) (ap (last_effect (get_or k.running.items i d).txn) standing) (fit.owned i d lt);
             apart = fit.apart;
             numbered = subst (λ (m : ℕ). IsNumbered k.last m n.live.members k.operations.locks (appended k.operations.store.log)) (sym more) (record {
               locks = fit.numbered.locks;
@@ -163,11 +188,11 @@ module _ {D : Type 0} (g : Ghosts D) (origin : Origin) (base : Base) where
 
   -- one that is changed, stays at work and keeps its calls, with what it has of room or more
   pub changed_in : (k n : Core D) (t : ℕ) (f : Member → Member) → IsConsistent g origin base k → IsChanged k.live.members n.live.members t f → n.live.begun ≡ k.live.begun → n.live.standing ≡ k.live.standing → length n.live.members ≡ length k.live.members
-      → ((m : Member) → (f m).session ≡ m.session) → ((last : ℕ) (records : List Record) (m : Member) → IsReported last records t m → IsReported last records t (f m)) → ((m : Member) → last_operation (Some (f m)) ≡ last_operation (Some m)) → ((m : Member) → (f m).operations ≡ m.operations)
-      → ((u : ℕ) → is_open (member_of n.live.members u) ≡ is_open (member_of k.live.members u)) → ((u : ℕ) → has_room (member_of k.live.members u) ≡ true → has_room (member_of n.live.members u) ≡ true)
-      → ((u : ℕ) → state_in k.live.members u ≡ Some Committing → state_in n.live.members u ≡ Some Committing) → ((u : ℕ) → state_in n.live.members u ≡ Some Committing → state_in k.live.members u ≡ Some Committing) → ((u : ℕ) → state_in k.live.members u ≡ Some Aborting → state_in n.live.members u ≡ Some Aborting)
+      → ((m : Member) → (f m).session ≡ m.session) → ((m : Member) → member_of k.live.members t ≡ Some m → IsReported k.last (appended k.operations.store.log) t m → IsReported k.last (appended k.operations.store.log) t (f m)) → ((m : Member) → (f m).calls ≡ m.calls) → ((m : Member) → (f m).operations ≡ m.operations)
+      → ((u : ℕ) → is_open (member_of n.live.members u) ≡ is_open (member_of k.live.members u)) → ((u : ℕ) → has_room (member_of k.live.members u) ≡ true → has_room (member_of n.live.members u) ≡ true) → ((u : ℕ) → StatesGoOn (state_in k.live.members u) (state_in n.live.members u))
+      → ((i : ℕ) (d : OpScope) → i < length k.running.items → is_returning (state_in k.live.members (get_or k.running.items i d).txn) ≡ false → is_returning (state_in n.live.members (get_or k.running.items i d).txn) ≡ false)
       → IsIn g origin base (state_of k base) (record k { live = n.live })
-  changed_in k n t f safe changed begun_same standing count session outcome last_same same_operations open_same roomy states stated aborting =
+  changed_in k n t f safe changed begun_same standing count session outcome same_calls same_operations open_same roomy states forwards =
       let fit = safe.fit in
       let z : Core D = record k { live = n.live } in
       let state : state_of k base ≡ state_of z base = λ i. record {
@@ -192,10 +217,17 @@ module _ {D : Type 0} (g : Ghosts D) (origin : Origin) (base : Base) where
             owned = λ i d lt. let o = fit.owned i d lt in let u = (get_or k.running.items i d).txn in record {
               at_work = open_same u ∙ o.at_work;
               room = λ fore. roomy u (o.room fore);
-              inverse = λ back. let e = o.inverse back in record { named = changed_keeps last_operation f k.live.members n.live.members t last_same changed u ∙ e.named; entry = e.entry; last = ap (last_effect u) standing ∙ e.last; inverse = e.inverse; unsplit = e.unsplit };
+              inverse = λ back. let e = o.inverse back in record { named = changed_keeps last_operation f k.live.members n.live.members t (λ m. (λ j. option_map (λ at. get_or (same_operations m j) at 0) (last_place (same_calls m j)))) changed u ∙ e.named; entry = e.entry; last = ap (last_effect u) standing ∙ e.last; inverse = e.inverse; unsplit = e.unsplit };
               newest = λ fore. changed_above f k.live.members n.live.members t u (get_or k.running.items i d).number same_operations changed (o.newest fore);
-              taken = λ is. let back = o.taken is in (back.0, aborting u back.1);
-              aborts = λ back. aborting u (o.aborts back);
+              few = λ fore. subst (λ (n : ℕ). n < 256) (sym (changed_keeps (λ (o : Option Member). forward_count (calls_in o)) f k.live.members n.live.members t (λ m. ap forward_count (same_calls m)) changed u)) (o.few fore);
+              taken = λ is. let back = o.taken is in (back.0, (states u).aborts back.1);
+              forwards = λ fore. forwards i d lt (o.forwards fore);
+              backwards = λ back. (states u).backwards (o.backwards back);
+              returns = λ back first is. let was = o.returns back first ((states u).returns (o.backwards back) first is) in record {
+                room = roomy u was.room;
+                newest = changed_above f k.live.members n.live.members t u (get_or k.running.items i d).number same_operations changed was.newest;
+                after = changed_keeps (did_after first) f k.live.members n.live.members t (λ m. ap (λ cs. is_some (last_place (noted_after first cs))) (same_calls m)) changed u ∙ was.after;
+              };
             };
             apart = fit.apart;
             numbered = subst (λ (m : ℕ). IsNumbered k.last m n.live.members k.operations.locks (appended k.operations.store.log)) (sym begun_same) (record {
@@ -212,13 +244,13 @@ module _ {D : Type 0} (g : Ghosts D) (origin : Origin) (base : Base) where
             log = fit.log;
             reserves = omega arith;
             numbers = subst (λ (m : ℕ). AreLeft k.last m k.reserved) (sym begun_same) fit.numbers;
-            queued = queued_members k.live.members n.live.members (appended k.operations.store.log) k.commits.items states stated fit.queued;
+            queued = queued_members k.live.members n.live.members (appended k.operations.store.log) k.commits.items (λ u is. (states u).commits is) (λ u is. (states u).committed is) fit.queued;
             booked = fit.booked;
             escrowed = fit.escrowed;
           };
           holds = safe.holds;
           runs = safe.runs;
-          outcome = reported_changed k.last (appended k.operations.store.log) (appended k.operations.store.log) k.live.members n.live.members t f (λ m is was. outcome k.last (appended k.operations.store.log) m was) (λ u m apart was. was) changed safe.outcome;
+          outcome = reported_changed k.last (appended k.operations.store.log) (appended k.operations.store.log) k.live.members n.live.members t f (λ m is was. outcome m is was) (λ u m apart was. was) changed safe.outcome;
           claims = omega arith;
         };
         state = state;
@@ -229,8 +261,9 @@ module _ {D : Type 0} (g : Ghosts D) (origin : Origin) (base : Base) where
       → IsIn g origin base (state_of k base) (record k { live = n.live })
   roomed_in k n t safe changed begun_same standing count =
       let states : (u : ℕ) → state_in n.live.members u ≡ state_in k.live.members u = changed_keeps (option_map (λ (m : Member). m.state)) members.with_room k.live.members n.live.members t (λ m. refl) changed in
-      changed_in k n t members.with_room safe changed begun_same standing count (λ m. refl) (λ last records m outcome. record { many = outcome.many; numbers = outcome.numbers; rising = outcome.rising; due = outcome.due }) (λ m. refl) (λ m. refl)
-      (changed_keeps is_open members.with_room k.live.members n.live.members t (λ m. refl) changed) (roomier k.live.members n.live.members t changed) (λ u is. states u ∙ is) (λ u is. sym (states u) ∙ is) (λ u is. states u ∙ is)
+      changed_in k n t members.with_room safe changed begun_same standing count (λ m. refl) (λ m is outcome. record { many = outcome.many; numbers = outcome.numbers; rising = outcome.rising; due = outcome.due; firsts = outcome.firsts; few = outcome.few }) (λ m. refl) (λ m. refl)
+      (changed_keeps is_open members.with_room k.live.members n.live.members t (λ m. refl) changed) (roomier k.live.members n.live.members t changed) (λ u. same_goes (state_in k.live.members u) (state_in n.live.members u) (states u))
+      (λ i d lt is. ap is_returning (states (get_or k.running.items i d).txn) ∙ is)
 
 -- one that is at work has it
 pub roomed_open : (old new : List Member) (t : ℕ) → is_open (member_of old t) ≡ true → IsChanged old new t members.with_room → (is_open (member_of new t) ≡ true) × (has_room (member_of new t) ≡ true)
@@ -243,21 +276,42 @@ roomed_open old new t at_work changed = (changed_keeps is_open members.with_room
     go None is = absurd cc
     go (Some m) is = refl
 
--- one that is open, or has gone to abort, does not commit
-pub reopened_states : (old new : List Member) (t : ℕ) → option_map (λ (m : Member). m.state) (member_of old t) ≡ Some Open → IsChanged old new t (λ m. members.with_state m Aborting) → (u : ℕ) → (state_in old u ≡ Some Committing → state_in new u ≡ Some Committing) × (state_in new u ≡ Some Committing → state_in old u ≡ Some Committing) × (state_in old u ≡ Some Aborting → state_in new u ≡ Some Aborting)
-reopened_states old new t was changed u = go (u == t) refl
+-- one that is to be undone does not go on
+pub undone_forwards : (old new : List Member) (t u : ℕ) → is_some (member_of old t) ≡ true → IsChanged old new t (λ m. members.with_state m Aborting) → is_returning (state_in old u) ≡ false → is_returning (state_in new u) ≡ false
+undone_forwards old new t u lives changed was = ap is_returning (states_set old new t Aborting lives changed u) ∙ go (u == t) refl
   where
-    now : (o : Option Member) → option_map (λ (m : Member). m.state) o ≡ Some Open → option_map (λ (m : Member). m.state) (option_map (λ (m : Member). members.with_state m Aborting) o) ≡ Some Aborting
-    now None is = absurd cc
-    now (Some m) is = refl
+    go : (c : Bool) → (u == t) ≡ c → is_returning (cond c (Some Aborting) (state_in old u)) ≡ false
+    go true is = refl
+    go false is = was
 
-    go : (c : Bool) → (u == t) ≡ c → (state_in old u ≡ Some Committing → state_in new u ≡ Some Committing) × (state_in new u ≡ Some Committing → state_in old u ≡ Some Committing) × (state_in old u ≡ Some Aborting → state_in new u ≡ Some Aborting)
+-- others go on as they did
+pub other_forwards : (old new : List Member) (t u : ℕ) (state : TxnState) → is_some (member_of old t) ≡ true → IsChanged old new t (λ m. members.with_state m state) → u ≢ t → is_returning (state_in old u) ≡ false → is_returning (state_in new u) ≡ false
+other_forwards old new t u state lives changed apart was = ap is_returning (states_set old new t state lives changed u ∙ put_other (state_in old) t (Some state) u apart) ∙ was
+
+-- the states, if one that is at work goes on to a state of such
+pub reopened_states : (old new : List Member) (t : ℕ) (state : TxnState) → is_open (member_of old t) ≡ true → is_at_work state ≡ true → GoesOnTo (state_in old t) state → IsChanged old new t (λ m. members.with_state m state) → (u : ℕ) → StatesGoOn (state_in old u) (state_in new u)
+reopened_states old new t state was works goes changed u = go (u == t) refl
+  where
+    set : (v : ℕ) → state_in new v ≡ put (state_in old) t (Some state) v
+    set v = states_set old new t state (there_open (member_of old t) was) changed v
+
+    uncommitted : (o : Option Member) → is_open o ≡ true → option_map (λ (m : Member). m.state) o ≡ Some Committing → ⊥
+    uncommitted None is h = absurd cc
+    uncommitted (Some m) is h = let now : m.state ≡ Committing = cc in let works_not : is_at_work m.state ≡ false = ap is_at_work now in absurd cc
+
+    no_commit : state ≡ Committing → ⊥
+    no_commit is = let not : is_at_work state ≡ false = ap is_at_work is in absurd cc
+
+    go : (c : Bool) → (u == t) ≡ c → StatesGoOn (state_in old u) (state_in new u)
     go true is =
-        let before : state_in old u ≡ Some Open = ap (λ (v : ℕ). state_in old v) (eqb-true u t is) ∙ was in
-        let here : option_map (λ (m : Member). m.state) (put (member_of old) t (option_map (λ (m : Member). members.with_state m Aborting) (member_of old t)) u) ≡ option_map (λ (m : Member). m.state) (option_map (λ (m : Member). members.with_state m Aborting) (member_of old t)) = rw is refl in
-        let after : state_in new u ≡ Some Aborting = ap (option_map (λ (m : Member). m.state)) (changed u) ∙ here ∙ now (member_of old t) was in
-        ((λ h. absurd cc), (λ h. absurd cc), (λ h. after))
-    go false is =
-        let here : option_map (λ (m : Member). m.state) (put (member_of old) t (option_map (λ (m : Member). members.with_state m Aborting) (member_of old t)) u) ≡ state_in old u = rw is refl in
-        let same : state_in new u ≡ state_in old u = ap (option_map (λ (m : Member). m.state)) (changed u) ∙ here in
-        ((λ h. same ∙ h), (λ h. sym same ∙ h), (λ h. same ∙ h))
+        let own : u ≡ t = eqb-true u t is in
+        let now : state_in new u ≡ Some state = set u ∙ ap (λ (c : Bool). cond c (Some state) (state_in old u)) is in
+        let here : state_in old u ≡ state_in old t = ap (state_in old) own in
+        record {
+          commits = λ h. absurd (uncommitted (member_of old t) was (sym here ∙ h));
+          committed = λ h. absurd (no_commit (let same : Some state ≡ Some Committing = sym now ∙ h in cc));
+          aborts = λ h. now ∙ ap Some (goes.aborts (sym here ∙ h));
+          backwards = λ h. ap goes_back now ∙ goes.backwards (ap goes_back (sym here) ∙ h);
+          returns = λ back first h. here ∙ goes.returns (ap goes_back (sym here) ∙ back) first (let same : Some state ≡ Some (Returning first) = sym now ∙ h in cc);
+        }
+    go false is = same_goes (state_in old u) (state_in new u) (set u ∙ ap (λ (c : Bool). cond c (Some state) (state_in old u)) is)

@@ -77,7 +77,7 @@ numbered_last last more begun ms locks records less few k = record {
   nobody = k.nobody;
 }
 
-above_all : (n : ℕ) (o : Option Member) → ((m : Member) → o ≡ Some m → All (λ x. x < n) m.operations) → IsAbove n o
+pub above_all : (n : ℕ) (o : Option Member) → ((m : Member) → o ≡ Some m → All (λ x. x < n) m.operations) → IsAbove n o
 above_all n None each = tt
 above_all n (Some m) each = each m refl
 
@@ -144,8 +144,11 @@ module _ {D : Type 0} (g : Ghosts D) (origin : Origin) (base : Base) where
         at_work = rw h.is_txn may_run.at_work;
         room = λ fore. rw h.is_txn may_run.room;
         inverse = λ back. absurd (back h.is_undoes);
+        few = λ fore. rw h.is_txn may_run.few;
         taken = λ is. absurd (let planning = h.planning in cc);
-        aborts = λ back. absurd (back h.is_undoes);
+        forwards = λ fore. rw h.is_txn may_run.forwards;
+        backwards = λ back. absurd (back h.is_undoes);
+        returns = λ back. absurd (back h.is_undoes);
         newest = λ fore. above_all r.number (member_of k.live.members r.txn) (λ m is i d lt. let low = (safe.outcome r.txn m is).numbers i d lt in let new = h.is_number in omega (arith, low, new));
       } in
       let sums = sums_push k.running.items n.running.items r items in
@@ -221,7 +224,7 @@ module _ {D : Type 0} (g : Ghosts D) (origin : Origin) (base : Base) where
       → IsGranted g origin base was escrow (record k { operations = n.operations }) t op
   claims_granted was escrow k n t op granted right store locks same = record {
     was = claims_consistent (record k { locks = was; escrow = escrow }) n granted.was right store locks same;
-    may = record { within = granted.may.within; at_work = granted.may.at_work; room = granted.may.room; idle = granted.may.idle };
+    may = record { within = granted.may.within; at_work = granted.may.at_work; forwards = granted.may.forwards; room = granted.may.room; idle = granted.may.idle; few = granted.may.few };
     locked = granted.locked;
     free = granted.free;
     committed = granted.committed;

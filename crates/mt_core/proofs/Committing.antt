@@ -12,6 +12,7 @@ use Rattle.mt_live.specs.Lives.{member_of, IsChanged}
 use Rattle.mt_live.specs.Machine.{IsKept, put}
 use Rattle.std.proofs.lemmas.List.{length_push}
 use Rattle.mt_live.specs.Members.{Member, with_state}
+use Rattle.mt_live.specs.Undoing.{last_effect}
 use Rattle.mt_live.specs.declared.transactions.TxnState.TheVariants.{Committing}
 use Rattle.mt_log.specs.Words.{appended, used, area_size}
 use Rattle.mt_model.specs.Model.{Base}
@@ -28,8 +29,7 @@ use Rattle.mt_core.specs.Runs.{running_in, AreHeldBy, is_at_work, is_open, entry
 use Rattle.mt_core.specs.Consistent.{Origin, state_of, IsNumbered, AreReported, IsQueued, IsWithinSchema, IsEscrowed, IsConsistent, IsIn}
 use Rattle.mt_core.specs.declared.parts.Core.{Core}
 use Rattle.mt_core.proofs.Calling.{txn_low}
-use Rattle.mt_core.proofs.Members.{changed_keeps, changed_other}
-use Rattle.mt_core.proofs.Beginning.{owned_as}
+use Rattle.mt_core.proofs.Members.{changed_keeps, changed_other, owned_as}
 use Rattle.mt_core.proofs.Reported.{reported_on_more, reported_changed}
 use Rattle.mt_core.proofs.Queued.{queued_push}
 use Rattle.mt_core.specs.declared.parts.Commit.{Commit as Queued}
@@ -85,7 +85,7 @@ module _ {D : Type 0} (g : Ghosts D) (origin : Origin) (base : Base) where
       } in
       let outcome : AreReported k.last n.live.members (appended k.operations.store.log ++ Commit t ∷ []) =
       reported_changed k.last (appended k.operations.store.log) (appended k.operations.store.log ++ Commit t ∷ []) k.live.members n.live.members t (λ m. with_state m Committing)
-      (λ m is was. let more = reported_on_more k.last (appended k.operations.store.log) (Commit t ∷ []) t m (λ v. refl) was in record { many = more.many; numbers = more.numbers; rising = more.rising; due = more.due })
+      (λ m is was. let more = reported_on_more k.last (appended k.operations.store.log) (Commit t ∷ []) t m (λ v. refl) was in record { many = more.many; numbers = more.numbers; rising = more.rising; due = more.due; firsts = λ first is. absurd cc; few = more.few })
       (λ u m apart was. reported_on_more k.last (appended k.operations.store.log) (Commit t ∷ []) u m (λ v. refl) was) changed safe.outcome in
       let queued : IsQueued n.live.members (appended k.operations.store.log ++ Commit t ∷ []) (k.commits.items ++ c ∷ []) =
       queued_push k.live.members n.live.members (appended k.operations.store.log) k.commits.items c place
@@ -101,7 +101,7 @@ module _ {D : Type 0} (g : Ghosts D) (origin : Origin) (base : Base) where
             schema = fit.schema;
             right = right;
             kept = subst (IsKept origin.first) state fit.kept;
-            owned = λ i d lt. owned_as k.live.members n.live.members k.live.standing n.live.standing (get_or k.running.items i d) (other (get_or k.running.items i d).txn (idle i d lt)) standing (fit.owned i d lt);
+            owned = λ i d lt. owned_as k.live.members n.live.members k.live.standing n.live.standing (get_or k.running.items i d) (other (get_or k.running.items i d).txn (idle i d lt)) (ap (last_effect (get_or k.running.items i d).txn) standing) (fit.owned i d lt);
             apart = fit.apart;
             numbered = subst (λ (X : Type 0). X) (λ i. IsNumbered k.last (sym begun_same i) n.live.members (sym notes.locks i) (sym notes.records i)) numbered;
             locked = subst (AreHeldBy k.running.items) (sym notes.locks) fit.locked;

@@ -14,9 +14,9 @@ use Rattle.mt_live.proofs.Keeping.{kept_ended, kept_undone}
 use Rattle.mt_live.proofs.Lasts.{last_within}
 use Rattle.mt_live.specs.Adds.{GivesBack}
 use Rattle.mt_live.specs.Entries.{Entry}
-use Rattle.mt_live.specs.Lives.{member_of, has_room, IsChanged, IsAbove}
+use Rattle.mt_live.specs.Lives.{calls_in, member_of, has_room, IsChanged, IsAbove}
 use Rattle.mt_live.specs.Machine.{State, put, IsKept, ended, undone}
-use Rattle.mt_live.specs.Members.{Member, noted, with_call, taken_back, cut_to, last_place, last_operation, has_inverse}
+use Rattle.mt_live.specs.Members.{Member, forward_count, noted, with_call, taken_back, cut_to, last_place, last_operation, has_inverse}
 use Rattle.mt_live.specs.Undoing.{cut_back}
 use Rattle.mt_log.specs.Words.{appended, used, area_size}
 use Rattle.mt_model.specs.declared.operations.Op.{Op}
@@ -51,10 +51,12 @@ use Rattle.mt_core.proofs.Underway.{apart_flip, running_at, running_remove, runn
 use Rattle.mt_core.proofs.Holders.{held_without}
 use Rattle.mt_core.proofs.Numbers.{numbered_without}
 use Rattle.mt_core.proofs.Effects.{weighs_effect, last_push, last_cut, weighs_push, weighs_cut, weighs_less, inverse_pages, inverse_bytes, all_cut}
-use Rattle.mt_core.proofs.Members.{changed_keeps, changed_other}
+use Rattle.mt_core.proofs.Members.{changed_keeps, changed_other, owned_as}
 use Rattle.mt_core.proofs.Reported.{due_more, some_back, end_undoes_fore, end_undoes_other, end_undoes_txn, end_finishes, reported_on_more, reported_call, reported_cut, reported_changed}
 use Rattle.mt_core.proofs.Queued.{queued_members}
+use Rattle.mt_core.proofs.Members.{backwards_aborting}
 use Rattle.mt_live.specs.declared.transactions.Role.TheVariants.{Stands}
+use Rattle.mt_live.specs.declared.transactions.TxnState.TheVariants.{Returning, Aborting}
 
 -- what `end` says of an operation that ends
 pub record HasEnded {D : Type 0} (g : Ghosts D) (opening : PageBytes) (relations counters : ℕ) (o n : Operations D) (s : OpScope) : Type 0 where
@@ -133,15 +135,7 @@ module _ {D : Type 0} (g : Ghosts D) (origin : Origin) (base : Base) where
   noted_owned : (ms new : List Member) (standing : List Entry) (r q : OpScope) (c : Call) (e : Entry) → e.txn ≡ r.txn → AreApart r q → IsChanged ms new r.txn (λ m. with_call m r.number c)
       → IsOwned ms standing q → IsOwned new (standing ++ e ∷ []) q
   noted_owned ms new standing r q c e own apart changed o =
-      let same : member_of new q.txn ≡ member_of ms q.txn = changed_other (λ m. with_call m r.number c) ms new r.txn changed q.txn apart.txn in
-      record {
-        at_work = ap is_open same ∙ o.at_work;
-        room = λ fore. ap has_room same ∙ o.room fore;
-        inverse = λ back. let t = o.inverse back in record { named = ap last_operation same ∙ t.named; entry = t.entry; last = last_push q.txn standing e (λ is. apart.txn (is ∙ own)) ∙ t.last; inverse = t.inverse; unsplit = t.unsplit };
-        newest = λ fore. subst (IsAbove q.number) (sym same) (o.newest fore);
-        taken = λ is. let t = o.taken is in (t.0, ap (option_map (λ (m : Member). m.state)) same ∙ t.1);
-        aborts = λ back. ap (option_map (λ (m : Member). m.state)) same ∙ o.aborts back;
-      }
+      owned_as ms new standing (standing ++ e ∷ []) q (changed_other (λ m. with_call m r.number c) ms new r.txn changed q.txn apart.txn) (last_push q.txn standing e (λ is. apart.txn (is ∙ own))) o
 
   pub noted_in : (k n : Core D) (place : ℕ) (r : OpScope) (reply : Reply) → IsReady g origin base k place r reply → r.undoes ≡ 0 → n.running.items ≡ remove k.running.items place
       → HasEnded g origin.pages origin.relations origin.counters k.operations n.operations r
@@ -228,7 +222,7 @@ module _ {D : Type 0} (g : Ghosts D) (origin : Origin) (base : Base) where
           } in
           subst (AreReported k.last n.live.members) records
           (reported_changed k.last t.was (t.was ++ end_of r reply) k.live.members n.live.members r.txn (λ m. with_call m r.number (r.op, reply))
-          (λ m is was. reported_call k.last (t.was ++ end_of r reply) r.txn r.number m (noted Stands (r.op, reply)) (reported_on_more k.last t.was (end_of r reply) r.txn m (none r.txn) was) (subst (IsAbove r.number) is (owned.newest fore)) y.alone.own.op.0 y.alone.known due)
+          (λ m is was. reported_call k.last (t.was ++ end_of r reply) r.txn r.number m (noted Stands (r.op, reply)) (reported_on_more k.last t.was (end_of r reply) r.txn m (none r.txn) was) (subst (IsAbove r.number) is (owned.newest fore)) y.alone.own.op.0 y.alone.known (subst (λ (o : Option Member). forward_count (calls_in o) < 256) is (owned.few fore)) due)
           (λ u m apart was. reported_on_more k.last t.was (end_of r reply) u m (none u) was) changed t.outcome)
 
   -- ---- an inverse
@@ -239,33 +233,25 @@ module _ {D : Type 0} (g : Ghosts D) (origin : Origin) (base : Base) where
 
   undone_owned : (ms new : List Member) (standing : List Entry) (r q : OpScope) → AreApart r q → IsChanged ms new r.txn taken_back → IsOwned ms standing q → IsOwned new (cut_back r.txn standing) q
   undone_owned ms new standing r q apart changed o =
-      let same : member_of new q.txn ≡ member_of ms q.txn = changed_other taken_back ms new r.txn changed q.txn apart.txn in
-      record {
-        at_work = ap is_open same ∙ o.at_work;
-        room = λ fore. ap has_room same ∙ o.room fore;
-        inverse = λ back. let t = o.inverse back in record { named = ap last_operation same ∙ t.named; entry = t.entry; last = last_cut q.txn r.txn standing apart.txn ∙ t.last; inverse = t.inverse; unsplit = t.unsplit };
-        newest = λ fore. subst (IsAbove q.number) (sym same) (o.newest fore);
-        taken = λ is. let t = o.taken is in (t.0, ap (option_map (λ (m : Member). m.state)) same ∙ t.1);
-        aborts = λ back. ap (option_map (λ (m : Member). m.state)) same ∙ o.aborts back;
-      }
+      owned_as ms new standing (cut_back r.txn standing) q (changed_other taken_back ms new r.txn changed q.txn apart.txn) (last_cut q.txn r.txn standing apart.txn) o
 
   -- the calls that are left were recorded before the inverse's end, and it takes none of them back
-  undone_reported : (last : ℕ) (was more : List Record) (t undoes : ℕ) (m : Member) → last_operation (Some m) ≡ Some undoes → ((n : ℕ) → undoes ≢ n → some_record (undoes_op t n) more ≡ false) → IsReported last was t m → IsReported last (was ++ more) t (taken_back m)
-  undone_reported last was more t undoes m named none outcome = go (last_place m.calls) refl named
+  undone_reported : (last : ℕ) (was more : List Record) (t undoes : ℕ) (m : Member) → m.state ≡ Aborting → last_operation (Some m) ≡ Some undoes → ((n : ℕ) → undoes ≢ n → some_record (undoes_op t n) more ≡ false) → IsReported last was t m → IsReported last (was ++ more) t (taken_back m)
+  undone_reported last was more t undoes m aborting named none outcome = go (last_place m.calls) refl named
     where
       go : (o : Option ℕ) → last_place m.calls ≡ o → option_map (λ i. get_or m.operations i 0) o ≡ Some undoes → IsReported last (was ++ more) t (cut_to m o)
       go None at k = absurd cc
       go (Some n) at k =
           let this : get_or m.operations n 0 ≡ undoes = cc in
           let within : n < length m.calls = subst (λ o. IfSome o (λ i. i < length m.calls)) at (last_within m.calls) in
-          reported_cut last was (was ++ more) t n m outcome within (λ i below due. due_more t (get_or m.operations i 0) was more (none (get_or m.operations i 0) (λ is. absurd (omega (arith, is, this, below)))) due)
+          reported_cut last was (was ++ more) t n m aborting outcome within (λ i below due. due_more t (get_or m.operations i 0) was more (none (get_or m.operations i 0) (λ is. absurd (omega (arith, is, this, below)))) due)
 
-  pub undone_in : (k n : Core D) (place : ℕ) (r : OpScope) (reply : Reply) → IsReady g origin base k place r reply → r.undoes ≢ 0 → n.running.items ≡ remove k.running.items place
+  pub undone_in : (k n : Core D) (place : ℕ) (r : OpScope) (reply : Reply) → IsReady g origin base k place r reply → r.undoes ≢ 0 → ((first : ℕ) → state_in k.live.members r.txn ≢ Some (Returning first)) → n.running.items ≡ remove k.running.items place
       → HasEnded g origin.pages origin.relations origin.counters k.operations n.operations r → claimed n.operations ≡ claimed k.operations
       → n.live.standing ≡ cut_back r.txn k.live.standing → IsChanged k.live.members n.live.members r.txn taken_back → n.live.begun ≡ k.live.begun → length n.live.members ≡ length k.live.members
       → ((o : Op) (u : Reply) → inverse_of o u ≡ Some r.op → GivesBack r.txn o k.escrow.pending n.escrow.pending) → n.escrow.committed ≡ k.escrow.committed → n.escrow.aside ≡ k.escrow.aside
       → UndoesIn g origin base (state_of k base) (record k { operations = n.operations; running = n.running; live = n.live; escrow = n.escrow }) r.txn r.op
-  undone_in k n place r reply y back items h claims_now standing changed begun count given committed aside =
+  undone_in k n place r reply y back stays items h claims_now standing changed begun count given committed aside =
       let fit = y.fit in let alone = y.alone in
       let z : Core D = record k { operations = n.operations; running = n.running; live = n.live; escrow = n.escrow } in
       let s : State = state_of k base in
@@ -335,20 +321,22 @@ module _ {D : Type 0} (g : Ghosts D) (origin : Origin) (base : Base) where
             };
             holds = subst (λ (p : PageBytes). Holds p (base_after base r.op)) (sym h.held) y.holds;
             runs = l.runs;
-            outcome = reported_of t.named;
+            outcome = reported_of owned;
             claims = omega arith;
           };
           state = state;
         };
       }
     where
-      reported_of : last_operation (member_of k.live.members r.txn) ≡ Some r.undoes → AreReported k.last n.live.members (appended n.operations.store.log)
-      reported_of named =
+      reported_of : IsOwned k.live.members k.live.standing r → AreReported k.last n.live.members (appended n.operations.store.log)
+      reported_of owned =
+          let named = (owned.inverse back).named in
+          let aborting : state_in k.live.members r.txn ≡ Some Aborting = backwards_aborting (state_in k.live.members r.txn) (owned.backwards back) stays in
           let t = y.outcome in
           let records : t.was ++ end_of r reply ≡ appended n.operations.store.log = sym t.ended ∙ (λ i. appended (sym h.store i).log) in
           subst (AreReported k.last n.live.members) records
           (reported_changed k.last t.was (t.was ++ end_of r reply) k.live.members n.live.members r.txn taken_back
-          (λ m is was. undone_reported k.last t.was (end_of r reply) r.txn r.undoes m (ap last_operation (sym is) ∙ named) (λ v apart. end_undoes_other r.txn v r.txn r.number r.undoes (logged_of r.op reply) apart) was)
+          (λ m is was. undone_reported k.last t.was (end_of r reply) r.txn r.undoes m (let same : Some m.state ≡ Some Aborting = sym (ap (option_map (λ (x : Member). x.state)) is) ∙ aborting in cc) (ap last_operation (sym is) ∙ named) (λ v apart. end_undoes_other r.txn v r.txn r.number r.undoes (logged_of r.op reply) apart) was)
           (λ u m apart was. reported_on_more k.last t.was (end_of r reply) u m (λ v. end_undoes_txn u v r.txn r.number r.undoes (logged_of r.op reply) (λ is. apart (sym is))) was) changed t.outcome)
 
 -- one whose calls are cut is in its state

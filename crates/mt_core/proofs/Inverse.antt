@@ -1,24 +1,25 @@
 -- The next inverse of an abort: it is within the schema, and due.
-use Rattle.std.proofs.Common.{◌≡◌, ◌≢◌, inl, inr, ℕ, ℤ, suc, ◌<◌, ◌≤◌, ◌==◌, Bool, true, false, List, [], ◌∷◌, length, get_or, Option, Some, None, IfSome, neg_ℤ, refl, ◌∙◌, subst, arith}
+use Rattle.std.proofs.Common.{◌≡◌, ◌≢◌, inl, inr, ℕ, ℤ, zero, suc, ◌<◌, ◌≤◌, ◌==◌, Bool, true, false, List, [], ◌∷◌, length, get_or, Option, Some, None, IfSome, neg_ℤ, cond, Contains, ◌++◌, append-nil, refl, sym, ◌∙◌, subst, arith}
 use Rattle.std.specs.Prelude.{All}
 use Rattle.std.specs.Option.{option_map}
 use Rattle.std.proofs.lemmas.Int.{ints}
 use Rattle.std.proofs.lemmas.Bool.{ne_eqb}
 use Rattle.std.proofs.lemmas.List.{get_or_default}
-use Rattle.std.proofs.lemmas.List.Elements.{All-head, All-tail}
+use Rattle.std.proofs.lemmas.List.Elements.{All-head, All-tail, Contains-push}
 use Rattle.mt_disk.specs.declared.device.Device.{Ghosts}
 use Rattle.mt_base.specs.Limits.{IsStep}
 use Rattle.mt_frame.specs.declared.records.Record.{Record}
 use Rattle.mt_inverse.specs.Steps.{IsWithinSteps}
 use Rattle.mt_live.proofs.Lasts.{last_within}
-use Rattle.mt_live.specs.Adds.{GivesBack}
+use Rattle.mt_escrow.specs.Seen.{Escrowed, JoinsAside, add_of}
+use Rattle.mt_live.specs.Adds.{GivesBack, add_before}
 use Rattle.mt_live.specs.Entries.{Entry}
 use Rattle.mt_live.specs.Lives.{member_of}
 use Rattle.mt_live.specs.Members.{Noted, Member, has_inverse, later, last_place, last_operation}
 use Rattle.mt_live.specs.Undoing.{is_effect, last_of, last_effect}
 use Rattle.mt_log.specs.Words.{appended}
 use Rattle.mt_model.specs.Model.{Base, inverse_of, IsWithin}
-use Rattle.mt_model.specs.Pending.{TakesOut}
+use Rattle.mt_model.specs.Pending.{TakesOut, pending_of}
 use Rattle.mt_model.specs.declared.pending_add.Pending.{Pending}
 use Rattle.mt_model.specs.declared.operations.Op.{Op}
 use Rattle.mt_model.specs.declared.operations.Op.TheVariants.{Get, Insert, Update, Delete, Add, Read, Scan}
@@ -127,6 +128,44 @@ Returns t (Update r k v) old new = new ≡ old
 Returns t (Delete r k) old new = new ≡ old
 Returns t (Read c) old new = new ≡ old
 Returns t (Scan r) old new = new ≡ old
+
+-- If it is an add, the opposite one is set aside if it was pending.
+abbrev pub PutsAside : ℕ → Op → Escrowed → Escrowed → Type 0
+PutsAside t (Add c d) old new = JoinsAside (add_of t c (neg_ℤ d)) old new
+PutsAside t (Get r k) old new = new.aside ≡ old.aside
+PutsAside t (Insert r k v) old new = new.aside ≡ old.aside
+PutsAside t (Update r k v) old new = new.aside ≡ old.aside
+PutsAside t (Delete r k) old new = new.aside ≡ old.aside
+PutsAside t (Read c) old new = new.aside ≡ old.aside
+PutsAside t (Scan r) old new = new.aside ≡ old.aside
+
+own_there : (t : ℕ) (ps qs : List Pending) (p : Pending) → pending_of t ps ≡ qs ++ p ∷ [] → Contains ps p
+own_there t ps qs p is = among ps (subst (λ xs. Contains xs p) (sym is) (Contains-push qs p))
+  where
+    among : (xs : List Pending) → Contains (pending_of t xs) p → Contains xs p
+    among [] h = h
+    among (x ∷ xs) h = go (x.txn == t) h (λ k. among xs k)
+      where
+        later : Contains xs p → Contains (x ∷ xs) p
+        later k = let lt = k.1 in (suc k.0, omega (arith, lt), k.2)
+
+        go : (b : Bool) → Contains (cond b (x ∷ pending_of t xs) (pending_of t xs)) p → (Contains (pending_of t xs) p → Contains xs p) → Contains (x ∷ xs) p
+        go false k rec = later (rec k)
+        go true (zero, lt, is_x) rec = (zero, omega arith, is_x)
+        go true (suc i, lt, is_x) rec = later (rec (i, omega (arith, lt), is_x))
+
+some_aside : (t : ℕ) (old new : Escrowed) (ps : List Pending) (op : Op) (reply : Reply) → pending_of t old.pending ≡ ps ++ add_before t op [] → IfSome (inverse_of op reply) (λ i. PutsAside t i old new → new.aside ≡ old.aside ++ add_before t op [])
+some_aside t old new ps (Insert r k v) Done pends = λ same. same ∙ sym (append-nil old.aside)
+some_aside t old new ps (Update r k v) (Was before) pends = λ same. same ∙ sym (append-nil old.aside)
+some_aside t old new ps (Delete r k) (Was before) pends = λ same. same ∙ sym (append-nil old.aside)
+some_aside t old new ps (Add c d) Done pends =
+    let same : neg_ℤ (neg_ℤ d) ≡ d = omega (arith, ints) in
+    λ joins. (subst (λ (step : ℤ). JoinsAside (add_of t c step) old new) same joins).last (own_there t old.pending ps (add_of t c d) pends)
+some_aside t old new ps _ _ pends = tt
+
+-- So what it takes back is.
+pub inverse_aside : (t : ℕ) (old new : Escrowed) (i op : Op) (reply : Reply) (ps : List Pending) → PutsAside t i old new → inverse_of op reply ≡ Some i → pending_of t old.pending ≡ ps ++ add_before t op [] → new.aside ≡ old.aside ++ add_before t op []
+inverse_aside t old new i op reply ps puts is pends = subst (λ (o : Option Op). IfSome o (λ j. PutsAside t j old new → new.aside ≡ old.aside ++ add_before t op [])) is (some_aside t old new ps op reply pends) puts
 
 some_returned : (t : ℕ) (old new : List Pending) (op : Op) (reply : Reply) → IfSome (inverse_of op reply) (λ i. Returns t i old new → GivesBack t op old new)
 some_returned t old new (Insert r k v) Done = λ returned. returned

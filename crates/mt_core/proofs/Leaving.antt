@@ -7,9 +7,9 @@ use Rattle.std.proofs.lemmas.Bool.{eq-eqb}
 use Rattle.mt_disk.specs.declared.device.Device.{Ghosts}
 use Rattle.mt_live.proofs.Keeping.{kept_booked, kept_gone, committed_count}
 use Rattle.mt_live.specs.Entries.{Entry, calls, kept}
-use Rattle.mt_live.specs.Lives.{member_of, has_room, IsAbove}
+use Rattle.mt_live.specs.Lives.{member_of}
 use Rattle.mt_live.specs.Machine.{State, committed_base, put, IsKept, gone, booked}
-use Rattle.mt_live.specs.Members.{Member, last_operation}
+use Rattle.mt_live.specs.Members.{Member}
 use Rattle.mt_live.specs.declared.transactions.TxnState.TheVariants.{Committing}
 use Rattle.mt_op.proofs.Driving.{world_same}
 use Rattle.mt_op.specs.Operations.{world, IsRight, claimed}
@@ -35,6 +35,7 @@ use Rattle.mt_op.specs.World.{left_of}
 use Rattle.mt_steps.specs.Plans.{undo_pages}
 use Rattle.mt_core.specs.Consistent.{Origin, state_of, state_in, IsNumbered, AreReported, IsQueued, IsWithinSchema, IsFit, IsConsistent, IsIn}
 use Rattle.mt_core.specs.declared.parts.Core.{Core}
+use Rattle.mt_core.proofs.Members.{owned_as}
 use Rattle.mt_op.specs.declared.scope.OpScope.{OpScope}
 use Rattle.mt_core.proofs.Underway.{runs_none}
 use Rattle.mt_core.proofs.Effects.{last_kept, weighs_apart, weighs_others}
@@ -70,15 +71,7 @@ put_session f t u = go (u == t)
 
 left_owned : (ms new : List Member) (standing : List Entry) (t : ℕ) (q : OpScope) → ((u : ℕ) → member_of new u ≡ put (member_of ms) t None u) → q.txn ≢ t → IsOwned ms standing q → IsOwned new (kept (others t) standing) q
 left_owned ms new standing t q gone apart o =
-    let same : member_of new q.txn ≡ member_of ms q.txn = gone q.txn ∙ put_other (member_of ms) t None q.txn apart in
-    record {
-      at_work = ap is_open same ∙ o.at_work;
-      room = λ fore. ap has_room same ∙ o.room fore;
-      inverse = λ back. let e = o.inverse back in record { named = ap last_operation same ∙ e.named; entry = e.entry; last = last_kept q.txn t standing apart ∙ e.last; inverse = e.inverse; unsplit = e.unsplit };
-      newest = λ fore. subst (IsAbove q.number) (sym same) (o.newest fore);
-      taken = λ is. let t = o.taken is in (t.0, ap (option_map (λ (m : Member). m.state)) same ∙ t.1);
-      aborts = λ back. ap (option_map (λ (m : Member). m.state)) same ∙ o.aborts back;
-    }
+    owned_as ms new standing (kept (others t) standing) q (gone q.txn ∙ put_other (member_of ms) t None q.txn apart) (last_kept q.txn t standing apart) o
 
 left_numbered : (last begun : ℕ) (ms new : List Member) (t : ℕ) (locks : List PageLock) (records : List Record) → ((u : ℕ) → member_of new u ≡ put (member_of ms) t None u) → IsNumbered last begun ms locks records → IsNumbered last begun new locks records
 left_numbered last begun ms new t locks records gone k = record {

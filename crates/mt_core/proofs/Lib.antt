@@ -47,4 +47,6 @@ pub mod Marking
 pub mod Restarts
 pub mod Turning
 pub mod Detached
+pub mod Returning
+pub mod Settled
 mod GoingOn

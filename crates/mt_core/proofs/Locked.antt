@@ -41,7 +41,7 @@ module _ {D : Type 0} (g : Ghosts D) (origin : Origin) (base : Base) where
       → IsGranted g origin base was k.escrow (record k { escrow = n.escrow }) t op
   granted_from was k n t op l more committed aside asked = record {
     was = l.was;
-    may = record { within = l.may.within; at_work = l.may.at_work; room = l.may.room; idle = l.may.idle };
+    may = record { within = l.may.within; at_work = l.may.at_work; forwards = l.may.forwards; room = l.may.room; idle = l.may.idle; few = l.may.few };
     locked = l.locked;
     free = l.free;
     committed = committed;
@@ -92,7 +92,7 @@ module _ {D : Type 0} (g : Ghosts D) (origin : Origin) (base : Base) where
 
   pub locked_from : (k n : Core D) (t : ℕ) (op : Op) → IsConsistent g origin base k → MayRun origin k t op → AreAllFree (held_of k.locks) t (locks_of op) → held_of n.locks ≡ with_locks (held_of k.locks) t (locks_of op)
       → IsLocked g origin base k.locks (record k { locks = n.locks }) t op
-  locked_from k n t op safe may free locked = record { was = safe; may = record { within = may.within; at_work = may.at_work; room = may.room; idle = may.idle }; locked = locked; free = free }
+  locked_from k n t op safe may free locked = record { was = safe; may = record { within = may.within; at_work = may.at_work; forwards = may.forwards; room = may.room; idle = may.idle; few = may.few }; locked = locked; free = free }
 
   -- as before, in whatever room the operations have
   restored : (k n : Core D) → IsConsistent g origin base k → IsRestored g k n → IsConsistent g origin base n

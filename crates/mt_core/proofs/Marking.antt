@@ -122,7 +122,7 @@ effects_back_other u t es b own apart = effects_other u (mark_last t es) b (λ i
 
 -- ---- numbers
 
-none_marked : (cs : List Noted) (ns : List ℕ) → last_place cs ≡ None → numbers_did cs ns ≡ []
+pub none_marked : (cs : List Noted) (ns : List ℕ) → last_place cs ≡ None → numbers_did cs ns ≡ []
 none_marked [] ns is = refl
 none_marked (c ∷ cs) [] is = refl
 none_marked (c ∷ cs) (n ∷ ns) is = go (last_place cs) refl (has_inverse c) refl is (λ k. none_marked cs ns k)

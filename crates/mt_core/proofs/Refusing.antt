@@ -60,6 +60,7 @@ module _ {D : Type 0} (g : Ghosts D) (origin : Origin) (k : Core D) (kept t : â„
   behind refusal.Busy a u = absurd u
   behind refusal.TooManyOperations a u = absurd u
   behind (refusal.BadLine x) a u = absurd u
+  behind refusal.BadSavepoint a u = absurd u
   behind refusal.WrongFormat a u = absurd u
 
   -- nobody was in the way
@@ -82,6 +83,7 @@ module _ {D : Type 0} (g : Ghosts D) (origin : Origin) (k : Core D) (kept t : â„
   refused_call refusal.Busy f b = (f, b)
   refused_call refusal.TooManyOperations f b = (f, b)
   refused_call (refusal.BadLine x) f b = (f, b)
+  refused_call refusal.BadSavepoint f b = (f, b)
   refused_call refusal.WrongFormat f b = (f, b)
 
   -- somebody was
@@ -104,4 +106,5 @@ module _ {D : Type 0} (g : Ghosts D) (origin : Origin) (k : Core D) (kept t : â„
   barred_call refusal.Busy b = absurd b
   barred_call refusal.TooManyOperations b = absurd b
   barred_call (refusal.BadLine x) b = absurd b
+  barred_call refusal.BadSavepoint b = absurd b
   barred_call refusal.WrongFormat b = absurd b

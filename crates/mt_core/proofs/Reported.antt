@@ -1,8 +1,8 @@
 -- What the records tell of each transaction's calls, once either has changed.
-use Rattle.std.proofs.Common.{◌≡◌, ◌≢◌, ⊎_elim, ℕ, ◌<◌, ◌≤◌, ◌==◌, ◌&&◌, ◌||◌, cond, not, Bool, true, false, List, [], ◌∷◌, ◌++◌, length, get_or, Option, Some, None, is_some, refl, sym, ap, ◌∙◌, subst, arith}
+use Rattle.std.proofs.Common.{◌≡◌, ◌≢◌, ⊎_elim, ℕ, zero, suc, ◌<◌, ◌≤◌, ◌==◌, ◌&&◌, ◌||◌, cond, not, Bool, true, false, List, [], ◌∷◌, ◌++◌, length, get_or, take, Option, Some, None, is_some, refl, sym, ap, ◌∙◌, subst, arith}
 use Rattle.std.specs.Prelude.{All}
 use Rattle.std.specs.Option.{option_map}
-use Rattle.std.proofs.lemmas.Bool.{eq-eqb, eqb-true, ne_eqb, and_left, and_right, or_from, cases_lt}
+use Rattle.std.proofs.lemmas.Bool.{eq-eqb, eqb-true, ne_eqb, and_left, and_right, and_parts, or_from, cases_lt}
 use Rattle.std.proofs.lemmas.List.{get_or_push, get_or_append_left, get_or-take, length_push, length-take-le}
 use Rattle.std.proofs.lemmas.List.Elements.{All-push, All-take}
 use Rattle.std.proofs.lemmas.List.Quantifiers.{all_pairs_push}
@@ -12,7 +12,13 @@ use Rattle.mt_frame.specs.declared.records.LoggedOp.{LoggedOp}
 use Rattle.mt_frame.specs.declared.records.Record.TheVariants.{OpEnd}
 use Rattle.mt_live.specs.Lives.{member_of, IsChanged}
 use Rattle.mt_live.specs.Machine.{put}
-use Rattle.mt_live.specs.Members.{Noted, Member, fresh, with_noted, cut_at, has_inverse}
+use Rattle.mt_live.specs.Entries.{is_standing, is_forward}
+use Rattle.mt_live.proofs.Ends.{length-set_role}
+use Rattle.mt_live.specs.Members.{Noted, Member, fresh, with_noted, with_role_at, with_state, cut_at, has_inverse, later, last_place, count_noted, standing_count, forward_count, set_role, settle_calls, settled_at}
+use Rattle.mt_live.specs.Roles.{settled_role, left_after}
+use Rattle.mt_live.specs.declared.transactions.Role.{Role}
+use Rattle.mt_live.specs.declared.transactions.Role.TheVariants.{Stands, TakenBack, Back}
+use Rattle.mt_live.specs.declared.transactions.TxnState.TheVariants.{Open, Returning, Aborting}
 use Rattle.mt_model.specs.Model.{inverse_of}
 use Rattle.mt_model.specs.declared.operations.Op.{Op}
 use Rattle.mt_model.specs.declared.operations.Op.TheVariants.{Get, Insert, Update, Delete, Add, Read, Scan}
@@ -106,6 +112,37 @@ end_finishes txn number undoes op reply fore effect = go (logged_of op reply) (l
 
 -- ---- one transaction
 
+-- a call more does not lessen how many have a role
+counted_push : (p : Role → Bool) (cs : List Noted) (c : Noted) → count_noted p cs ≤ count_noted p (cs ++ c ∷ [])
+counted_push p [] c = omega arith
+counted_push p (x ∷ cs) c = go (p x.role) (counted_push p cs c)
+  where
+    go : (b : Bool) → count_noted p cs ≤ count_noted p (cs ++ c ∷ []) → cond b (suc (count_noted p cs)) (count_noted p cs) ≤ cond b (suc (count_noted p (cs ++ c ∷ []))) (count_noted p (cs ++ c ∷ []))
+    go true less = omega (arith, less)
+    go false less = less
+
+-- nor does it matter where it is
+counted_more : (p : Role → Bool) (cs : List Noted) (c : Noted) → count_noted p (cs ++ c ∷ []) ≡ count_noted p (c ∷ cs)
+counted_more p [] c = refl
+counted_more p (x ∷ cs) c = ap (λ n. cond (p x.role) (suc n) n) (counted_more p cs c) ∙ go (p x.role) (p c.role)
+  where
+    go : (a b : Bool) → cond a (suc (cond b (suc (count_noted p cs)) (count_noted p cs))) (cond b (suc (count_noted p cs)) (count_noted p cs))
+        ≡ cond b (suc (cond a (suc (count_noted p cs)) (count_noted p cs))) (cond a (suc (count_noted p cs)) (count_noted p cs))
+    go true true = refl
+    go true false = refl
+    go false true = refl
+    go false false = refl
+
+-- some of the calls are no more than all
+counted_take : (p : Role → Bool) (n : ℕ) (cs : List Noted) → count_noted p (take n cs) ≤ count_noted p cs
+counted_take p zero cs = omega arith
+counted_take p (suc n) [] = omega arith
+counted_take p (suc n) (c ∷ cs) = go (p c.role) (counted_take p n cs)
+  where
+    go : (b : Bool) → count_noted p (take n cs) ≤ count_noted p cs → cond b (suc (count_noted p (take n cs))) (count_noted p (take n cs)) ≤ cond b (suc (count_noted p cs)) (count_noted p cs)
+    go true less = omega (arith, less)
+    go false less = less
+
 -- records more that take back no operation of it
 pub reported_on_more : (last : ℕ) (records rs : List Record) (t : ℕ) (m : Member) → ((n : ℕ) → some_record (undoes_op t n) rs ≡ false) → IsReported last records t m → IsReported last (records ++ rs) t m
 reported_on_more last records rs t m none k = record {
@@ -113,14 +150,16 @@ reported_on_more last records rs t m none k = record {
   numbers = k.numbers;
   rising = k.rising;
   due = λ i c lt there has. due_more t (get_or m.operations i 0) records rs (none (get_or m.operations i 0)) (k.due i c lt there has);
+  firsts = k.firsts;
+  few = k.few;
 }
 
 pub reported_fresh : (last : ℕ) (records : List Record) (t u session : ℕ) → IsReported last records t (fresh u session)
-reported_fresh last records t u session = record { many = refl; numbers = λ i d lt. absurd (omega (arith, lt)); rising = λ i j d less lt. absurd (omega (arith, lt)); due = λ i c lt. absurd (omega (arith, lt)) }
+reported_fresh last records t u session = record { many = refl; numbers = λ i d lt. absurd (omega (arith, lt)); rising = λ i j d less lt. absurd (omega (arith, lt)); due = λ i c lt. absurd (omega (arith, lt)); firsts = λ first is. absurd cc; few = omega arith }
 
 -- a call more, of a number above the others
-pub reported_call : (last : ℕ) (records : List Record) (t n : ℕ) (m : Member) (c : Noted) → IsReported last records t m → All (λ x. x < n) m.operations → 1 ≤ n → n ≤ last → (has_inverse c ≡ true → IsDue records t n) → IsReported last records t (with_noted m n c)
-reported_call last records t n m c k below some low due =
+pub reported_call : (last : ℕ) (records : List Record) (t n : ℕ) (m : Member) (c : Noted) → IsReported last records t m → All (λ x. x < n) m.operations → 1 ≤ n → n ≤ last → forward_count (c ∷ m.calls) ≤ 256 → (has_inverse c ≡ true → IsDue records t n) → IsReported last records t (with_noted m n c)
+reported_call last records t n m c k below some low room due =
     let calls = length_push m.calls c in let numbers = length_push m.operations n in let many = k.many in
     record {
       many = omega arith;
@@ -137,12 +176,14 @@ reported_call last records t n m c k below some low due =
           let own : d ≡ c = there ∙ get_or_push m.calls c d i at in
           subst (λ x. IsDue records t x) (sym (get_or_push m.operations n 0 i here)) (due (ap has_inverse (sym own) ∙ has)))
           (cases_lt i (length m.calls));
+      firsts = λ first is. let few = k.firsts first is in let more = counted_push is_standing m.calls c in omega (arith, few, more);
+      few = let more = counted_more is_forward m.calls c in omega (arith, more, room);
     }
 
 -- the first calls alone, over records behind these that tell of them
-pub reported_cut : (last : ℕ) (was records : List Record) (t n : ℕ) (m : Member) → IsReported last was t m → n < length m.calls → ((i : ℕ) → get_or m.operations i 0 < get_or m.operations n 0 → IsDue was t (get_or m.operations i 0) → IsDue records t (get_or m.operations i 0))
+pub reported_cut : (last : ℕ) (was records : List Record) (t n : ℕ) (m : Member) → m.state ≡ Aborting → IsReported last was t m → n < length m.calls → ((i : ℕ) → get_or m.operations i 0 < get_or m.operations n 0 → IsDue was t (get_or m.operations i 0) → IsDue records t (get_or m.operations i 0))
     → IsReported last records t (cut_at m n)
-reported_cut last was records t n m k within later =
+reported_cut last was records t n m aborting k within later =
     let calls = length-take-le n m.calls (omega (arith, within)) in
     let many = k.many in
     let numbers = length-take-le n m.operations (omega (arith, within)) in
@@ -158,6 +199,115 @@ reported_cut last was records t n m k within later =
           let was_there : d ≡ get_or m.calls i d = there ∙ get_or-take n m.calls i d short in
           let below : get_or m.operations i 0 < get_or m.operations n 0 = k.rising i n 0 short (omega arith) in
           subst (λ x. IsDue records t x) (sym (get_or-take n m.operations i 0 short)) (later i below (k.due i d (omega arith) was_there has));
+      firsts = λ first is. let not : Aborting ≡ Returning first = sym aborting ∙ is in absurd cc;
+      few = let less = counted_take is_forward n m.calls in let all = k.few in omega (arith, less, all);
+    }
+
+-- ---- one that goes back
+
+-- what still did something once a call is marked as taken back is another call
+marked_at : (cs : List Noted) (p i : ℕ) (c : Noted) → i < length (set_role cs p TakenBack) → c ≡ get_or (set_role cs p TakenBack) i c → has_inverse c ≡ true → (i ≢ p) × (i < length cs) × (c ≡ get_or cs i c)
+marked_at [] p i c lt there has = absurd (omega (arith, lt))
+marked_at (x ∷ cs) zero zero c lt there has = let none : has_inverse c ≡ false = ap has_inverse there in absurd cc
+marked_at (x ∷ cs) zero (suc i) c lt there has = ((λ is. absurd cc), lt, there)
+marked_at (x ∷ cs) (suc p) zero c lt there has = ((λ is. absurd cc), omega arith, there)
+marked_at (x ∷ cs) (suc p) (suc i) c lt there has =
+    let rest = marked_at cs p i c (omega (arith, lt)) there has in ((λ is. rest.0 (omega (arith, is))), omega (arith, rest.1), rest.2)
+
+marked_count : (cs : List Noted) (p : ℕ) → standing_count (take p cs) ≤ standing_count (set_role cs p TakenBack)
+marked_count [] zero = omega arith
+marked_count [] (suc p) = omega arith
+marked_count (c ∷ cs) zero = omega arith
+marked_count (c ∷ cs) (suc p) = go (is_standing c.role) (marked_count cs p)
+  where
+    go : (b : Bool) → standing_count (take p cs) ≤ standing_count (set_role cs p TakenBack)
+        → cond b (suc (standing_count (take p cs))) (standing_count (take p cs)) ≤ cond b (suc (standing_count (set_role cs p TakenBack))) (standing_count (set_role cs p TakenBack))
+    go true less = omega (arith, less)
+    go false less = less
+
+-- what stood is no inverse
+marked_forward : (cs : List Noted) (p : ℕ) → last_place cs ≡ Some p → forward_count (set_role cs p TakenBack) ≡ forward_count cs
+marked_forward [] p is = absurd cc
+marked_forward (c ∷ cs) p is = go (last_place cs) refl (has_inverse c) refl is (λ n at. marked_forward cs n at)
+  where
+    stood : (r : Role) → is_standing r ≡ true → is_forward r ≡ true
+    stood Stands h = refl
+    stood TakenBack h = absurd cc
+    stood Back h = absurd cc
+
+    go : (o : Option ℕ) → last_place cs ≡ o → (h : Bool) → has_inverse c ≡ h → later o h ≡ Some p → ((n : ℕ) → last_place cs ≡ Some n → forward_count (set_role cs n TakenBack) ≡ forward_count cs)
+        → forward_count (set_role (c ∷ cs) p TakenBack) ≡ forward_count (c ∷ cs)
+    go (Some n) at h here k rec = let same : suc n ≡ p = cc in subst (λ (x : ℕ). forward_count (set_role (c ∷ cs) x TakenBack) ≡ forward_count (c ∷ cs)) same (ap (λ x. cond (is_forward c.role) (suc x) x) (rec n at))
+    go None at true here k rec =
+        let same : 0 ≡ p = cc in
+        let own : is_forward c.role ≡ true = stood c.role (and_parts (is_standing c.role) (is_some (inverse_of c.op c.reply)) here).0 in
+        subst (λ (x : ℕ). forward_count (set_role (c ∷ cs) x TakenBack) ≡ forward_count (c ∷ cs)) same (ap (λ b. cond b (suc (forward_count cs)) (forward_count cs)) (sym own))
+    go None at false here k rec = absurd cc
+
+-- the last that did something is taken back, over records that tell of all others
+pub reported_mark : (last : ℕ) (was records : List Record) (t p : ℕ) (m : Member) → IsReported last was t m → last_place m.calls ≡ Some p → p < length m.calls → ((first : ℕ) → m.state ≡ Returning first → first ≤ standing_count (take p m.calls))
+    → ((n : ℕ) → n ≢ get_or m.operations p 0 → IsDue was t n → IsDue records t n) → IsReported last records t (with_role_at m p TakenBack)
+reported_mark last was records t p m k at within firsts later =
+    let size = length-set_role m.calls p TakenBack in let many = k.many in
+    record {
+      many = omega (arith, size, many);
+      numbers = k.numbers;
+      rising = k.rising;
+      due = λ i c lt there has.
+          let other = marked_at m.calls p i c lt there has in
+          later (get_or m.operations i 0) (apart i other.0 other.1) (k.due i c other.1 other.2 has);
+      firsts = λ first is. let few = firsts first is in let kept = marked_count m.calls p in omega (arith, few, kept);
+      few = let same = marked_forward m.calls p at in let all = k.few in omega (arith, same, all);
+    }
+  where
+    apart : (i : ℕ) → i ≢ p → i < length m.calls → get_or m.operations i 0 ≢ get_or m.operations p 0
+    apart i other lt is =
+        let many = k.many in
+        ⊎_elim (λ (less : i < p). let below = k.rising i p 0 less (omega (arith, within, many)) in omega (arith, below, is))
+        (λ (more : p ≤ i). ⊎_elim (λ (less : p < i). let below = k.rising p i 0 less (omega (arith, lt, many)) in omega (arith, below, is)) (λ (low : i ≤ p). other (omega (arith, more, low))) (cases_lt p i)) (cases_lt i p)
+
+-- what still did something once calls are settled is as it was
+settled_at_all : (n : ℕ) (cs : List Noted) (i : ℕ) (c : Noted) → c ≡ get_or (settle_calls n cs) i c → i < length cs → has_inverse c ≡ true → c ≡ get_or cs i c
+settled_at_all n [] i c there lt has = absurd (omega (arith, lt))
+settled_at_all n (x ∷ cs) zero c there lt has = there ∙ same
+  where
+    role_same : (k : ℕ) (r : Role) → is_standing (settled_role k r) ≡ true → settled_role k r ≡ r
+    role_same zero Stands is = absurd cc
+    role_same zero TakenBack is = refl
+    role_same zero Back is = refl
+    role_same (suc k) r is = refl
+
+    same : record x { role = settled_role n x.role } ≡ x
+    same =
+        let stands : is_standing (settled_role n x.role) ≡ true = (and_parts (is_standing (settled_role n x.role)) (is_some (inverse_of x.op x.reply)) (ap has_inverse (sym there) ∙ has)).0 in
+        ap (λ (r : Role). record x { role = r }) (role_same n x.role stands)
+settled_at_all n (x ∷ cs) (suc i) c there lt has = settled_at_all (left_after n x.role) cs i c there (omega (arith, lt)) has
+
+pub length_settle : (n : ℕ) (cs : List Noted) → length (settle_calls n cs) ≡ length cs
+length_settle n [] = refl
+length_settle n (c ∷ cs) = ap suc (length_settle (left_after n c.role) cs)
+
+settled_forward : (n : ℕ) (cs : List Noted) → forward_count (settle_calls n cs) ≡ forward_count cs
+settled_forward n [] = refl
+settled_forward n (c ∷ cs) = (λ i. cond (same n c.role i) (suc (settled_forward (left_after n c.role) cs i)) (settled_forward (left_after n c.role) cs i))
+  where
+    same : (k : ℕ) (r : Role) → is_forward (settled_role k r) ≡ is_forward r
+    same zero Stands = refl
+    same zero TakenBack = refl
+    same zero Back = refl
+    same (suc k) r = refl
+
+-- the calls after the first so many are taken back, and their transaction is open
+pub reported_settled : (last : ℕ) (records : List Record) (t n : ℕ) (m : Member) → IsReported last records t m → IsReported last records t (with_state (settled_at n m) Open)
+reported_settled last records t n m k =
+    let size = length_settle n m.calls in let many = k.many in
+    record {
+      many = omega (arith, size, many);
+      numbers = k.numbers;
+      rising = k.rising;
+      due = λ i c lt there has. let short : i < length m.calls = omega (arith, lt, size) in k.due i c short (settled_at_all n m.calls i c there short has) has;
+      firsts = λ first is. absurd cc;
+      few = let same = settled_forward n m.calls in let all = k.few in omega (arith, same, all);
     }
 
 -- ---- all of them
@@ -169,6 +319,8 @@ reported_more last more ms records rs less none outcome t m is = let k = outcome
   numbers = λ i d lt. let was = k.numbers i d lt in (was.0, omega (arith, less, was));
   rising = k.rising;
   due = λ i c lt there has. let many = k.many in let low = (k.numbers i 0 (omega arith)).1 in due_more t (get_or m.operations i 0) records rs (none t (get_or m.operations i 0) low) (k.due i c lt there has);
+  firsts = k.firsts;
+  few = k.few;
 }
 
 pub reported_last : (last more : ℕ) (ms : List Member) (records : List Record) → last ≤ more → AreReported last ms records → AreReported more ms records
@@ -177,6 +329,8 @@ reported_last last more ms records less outcome t m is = let k = outcome t m is 
   numbers = λ i d lt. let was = k.numbers i d lt in (was.0, omega (arith, less, was));
   rising = k.rising;
   due = k.due;
+  firsts = k.firsts;
+  few = k.few;
 }
 
 -- one transaction has changed, and perhaps the records

@@ -17,9 +17,10 @@ use Rattle.mt_live.proofs.Events.{commits}
 use Rattle.mt_live.proofs.Standing.{effects_run}
 use Rattle.mt_live.specs.Entries.{Entry, calls, runs, kept}
 use Rattle.mt_live.specs.Lives.{member_of, IsChanged}
-use Rattle.mt_live.specs.Machine.{put}
+use Rattle.mt_live.specs.Machine.{State, put}
+use Rattle.mt_model.specs.declared.operations.Op.{Op}
 use Rattle.mt_live.specs.Members.{Member, Noted, noted, has_inverse, with_call, with_room, with_state, with_back, taken_back, cut_at, cut_to, last_place, last_operation, operation_at}
-use Rattle.mt_live.specs.Undoing.{only, others, last_effect, cut_back}
+use Rattle.mt_live.specs.Undoing.{only, others, last_effect, cut_back, mark_last}
 use Rattle.mt_live.specs.declared.transactions.TxnState.{TxnState}
 use Rattle.mt_live.specs.declared.transactions.TxnState.TheVariants.{Open, Committing, Returning, Aborting}
 use Rattle.mt_log.specs.Words.{appended, durable, area_size}
@@ -56,13 +57,13 @@ use Rattle.mt_core.proofs.Marking.{did_mark, effects_back, effects_back_other, b
 use Rattle.mt_core.proofs.Members.{changed_other, states_kept, states_put}
 use Rattle.mt_core.proofs.Ending.{taken_state}
 use Rattle.mt_core.proofs.Recovering.{recovers}
-use Rattle.mt_core.proofs.Resting.{aborting_open}
+use Rattle.mt_core.proofs.Resting.{backwards_open}
 use Rattle.mt_live.specs.Laws.{in_turn}
 use Rattle.mt_core.proofs.Between.{appends_none}
 use Rattle.mt_core.specs.Booked.{txns_of}
-use Rattle.mt_core.specs.Consistent.{Origin, session_in, state_in, state_of, IsConsistent, IsReported}
-use Rattle.mt_core.specs.Restartable.{did, did_call, effects_of, its_effects, HasEnds, entry_of, numbers_did, numbers_of, TellsOf, Recovers, IsRestartable, TellsBook, Lasts, SameArea, IsQuiet, AppendsQuietly, AppendsEnd, QuietlyAppends, SameBook, NotesEnd, NotesUndone, NotesBack}
-use Rattle.mt_core.specs.Runs.{is_at_work, is_open, TakesBack}
+use Rattle.mt_core.specs.Consistent.{Origin, session_in, state_in, state_of, IsConsistent, IsReported, InvertsIn}
+use Rattle.mt_core.specs.Restartable.{did, did_call, effects_of, its_effects, HasEnds, entry_of, numbers_did, numbers_of, TellsOf, Recovers, IsRestartable, TellsBook, Lasts, SameArea, IsQuiet, AppendsQuietly, AppendsEnd, QuietlyAppends, SameBook, NotesEnd, NotesUndone, NotesBack, NotesInverse}
+use Rattle.mt_core.specs.Runs.{is_at_work, is_open, TakesBack, goes_back}
 use Rattle.mt_core.specs.declared.parts.Commit.{Commit}
 use Rattle.mt_core.specs.declared.parts.Core.{Core}
 use Rattle.mt_op.specs.declared.scope.OpScope.{OpScope}
@@ -156,6 +157,14 @@ at_place (y ∷ ys) zero lt = (y, refl)
 at_place (y ∷ ys) (suc i) lt = at_place ys i (omega (arith, lt))
 
 -- ---- parts
+
+-- what an inverse leaves is consistent
+pub inverted_consistent : {D : Type 0} (g : Ghosts D) (origin : Origin) (base : Base) (s : State) (n : Core D) (t : ℕ) (i : Op) (state : Option TxnState) → InvertsIn g origin base s n t i state → IsConsistent g origin (base_after base i) n
+inverted_consistent g origin base s n t i None h = h.leads.consistent
+inverted_consistent g origin base s n t i (Some Open) h = h.leads.consistent
+inverted_consistent g origin base s n t i (Some Committing) h = h.leads.consistent
+inverted_consistent g origin base s n t i (Some (Returning first)) h = h.leads.consistent
+inverted_consistent g origin base s n t i (Some Aborting) h = h.leads.consistent
 
 module _ {D : Type 0} (g : Ghosts D) (origin : Origin) where
   -- these records tell of the parts, and have led to this base
@@ -260,22 +269,29 @@ module _ {D : Type 0} (g : Ghosts D) (origin : Origin) where
   pub quiet_store : (k n : Core D) → n.operations.store ≡ k.operations.store → QuietlyAppends origin.pages k n
   quiet_store k n store = record { area = same_area k n store; appends = appends_none origin.pages (appended k.operations.store.log) (appended n.operations.store.log) (ap (λ s. appended s.log) store) }
 
-  pub stays_same : (k n : Core D) (base later : Base) → IsConsistent g origin base k → IsConsistent g origin later n → QuietlyAppends origin.pages k n → SameBook k n
-      → n.live.standing ≡ k.live.standing → ((t : ℕ) → num n.live.members t ≡ num k.live.members t) → Eases (state_in k.live.members) (state_in n.live.members) → length n.live.members ≤ 64 → IsRestartable origin k → IsRestartable origin n
-  stays_same k n base later safe_k safe_n q book standing numbers eases few r =
+  -- where the entries that did something are the same, and lead as far
+  pub stays_alike : (k n : Core D) (base later : Base) → IsConsistent g origin base k → IsConsistent g origin later n → QuietlyAppends origin.pages k n → SameBook k n
+      → filter did n.live.standing ≡ filter did k.live.standing → ((t : ℕ) → its_effects t n.live.standing ≡ its_effects t k.live.standing) → ((b : Base) → runs b n.live.standing ≡ runs b k.live.standing)
+      → ((t : ℕ) → num n.live.members t ≡ num k.live.members t) → Eases (state_in k.live.members) (state_in n.live.members) → length n.live.members ≤ 64 → IsRestartable origin k → IsRestartable origin n
+  stays_alike k n base later safe_k safe_n q book standing effects leads numbers eases few r =
       let old = appended k.operations.store.log in
       let was = now_of k old base safe_k r.tells in
-      let bases : base ≡ later = sym (base_is k base safe_k) ∙ (λ i. runs (after origin.first (sym book.book i)) (sym standing i)) ∙ base_is n later safe_n in
+      let bases : base ≡ later = sym (base_is k base safe_k) ∙ (λ i. runs (after origin.first (sym book.book i)) k.live.standing) ∙ sym (leads (after origin.first n.book.items)) ∙ base_is n later safe_n in
       let tally = tally_same (txns_of k.commits.items) (num k.live.members) (num n.live.members) (filter did k.live.standing) (tells old).live was.tally numbers in
-      let ends = books_still (map effects_of was.since) (txns_of k.commits.items) (state_in k.live.members) (state_in n.live.members) k.live.standing (tells old) was.ends k.live.standing (λ t. refl) eases in
+      let ends = books_still (map effects_of was.since) (txns_of k.commits.items) (state_in k.live.members) (state_in n.live.members) k.live.standing (tells old) was.ends n.live.standing effects eases in
       let here : Now n old later = record {
         since = was.since;
         book = book.book ∙ was.book;
-        tally = subst (λ (X : Type 0). X) (λ i. Tallies (txns_of (sym book.commits i)) (num n.live.members) (filter did (sym standing i)) (tells old).live) tally;
-        ends = subst (λ (X : Type 0). X) (λ i. Books (map effects_of was.since) (txns_of (sym book.commits i)) (state_in n.live.members) (sym standing i) (tells old)) ends;
+        tally = subst (λ (X : Type 0). X) (λ i. Tallies (txns_of (sym book.commits i)) (num n.live.members) (sym standing i) (tells old).live) tally;
+        ends = subst (λ (X : Type 0). X) (λ i. Books (map effects_of was.since) (txns_of (sym book.commits i)) (state_in n.live.members) n.live.standing (tells old)) ends;
         leads = was.leads ∙ bases;
       } in
       stays k n later safe_n q few (appended_now n old (appended n.operations.store.log) later q.appends here) (stays_reported g origin k n later safe_n q.area.lasts book r.booked) r
+
+  pub stays_same : (k n : Core D) (base later : Base) → IsConsistent g origin base k → IsConsistent g origin later n → QuietlyAppends origin.pages k n → SameBook k n
+      → n.live.standing ≡ k.live.standing → ((t : ℕ) → num n.live.members t ≡ num k.live.members t) → Eases (state_in k.live.members) (state_in n.live.members) → length n.live.members ≤ 64 → IsRestartable origin k → IsRestartable origin n
+  stays_same k n base later safe_k safe_n q book standing numbers eases few r =
+      stays_alike k n base later safe_k safe_n q book (ap (filter did) standing) (λ t. ap (its_effects t) standing) (λ b. ap (runs b) standing) numbers eases few r
 
   pub store_same : (k n : Core D) (base later : Base) → IsConsistent g origin base k → IsConsistent g origin later n → n.operations.store ≡ k.operations.store → SameBook k n → n.live ≡ k.live → IsRestartable origin k → IsRestartable origin n
   store_same k n base later safe_k safe_n store book live r = stays_same k n base later safe_k safe_n (quiet_store k n store) book (ap (λ l. l.standing) live) (λ t. ap (λ l. num l.members t) live) (eases_same (state_in k.live.members) (state_in n.live.members) (λ t. ap (λ l. state_in l.members t) live)) (subst (λ l. length l.members ≤ 64) (sym live) r.few) r
@@ -317,6 +333,14 @@ module _ {D : Type 0} (g : Ghosts D) (origin : Origin) where
     same = record { book = e.same.book ∙ ap (λ v. v.items) book; commits = e.same.commits ∙ ap (λ v. v.items) commits };
     standing = e.standing ∙ ap (λ l. cut_back r.txn l.standing) live;
     members = subst (λ l. IsChanged l.members n.live.members r.txn taken_back) live e.members;
+    count = e.count ∙ ap (λ l. length l.members) live;
+  }
+
+  back_then : (k m n : Core D) (r : OpScope) (reply : Reply) → m.book ≡ k.book → m.commits ≡ k.commits → m.live ≡ k.live → NotesBack m n r reply → NotesBack k n r reply
+  back_then k m n r reply book commits live e = record {
+    same = record { book = e.same.book ∙ ap (λ v. v.items) book; commits = e.same.commits ∙ ap (λ v. v.items) commits };
+    standing = e.standing ∙ ap (λ l. mark_last r.txn l.standing ++ record { txn = r.txn; op = r.op; reply = reply; role = Back } ∷ []) live;
+    members = subst (λ l. IsChanged l.members n.live.members r.txn (λ m. with_back m r.number (r.op, reply))) live e.members;
     count = e.count ∙ ap (λ l. length l.members) live;
   }
 
@@ -594,7 +618,7 @@ module _ {D : Type 0} (g : Ghosts D) (origin : Origin) where
         effects = λ u apart. effects_beside u t k.live.standing n.live.standing others_same apart;
         states = λ u. states_kept taken_back k.live.members n.live.members t taken_state e.members u;
         ends = λ ends had. subst (λ (o : Option TxnState). HasEnds o (ends ++ (r.op, reply) ∷ []) (its_effects t n.live.standing)) (sym aborting) tt;
-      }) back (aborting_open (member_of k.live.members t) aborting) takes replies restartable
+      }) back (backwards_open (member_of k.live.members t) (ap goes_back aborting)) takes replies restartable
 
   pub returned : (k n : Core D) (base : Base) (r : OpScope) (reply : Reply) → IsConsistent g origin base k → IsConsistent g origin (base_after base r.op) n → SameArea k n
       → AppendsEnd origin (pages k.operations.store.pool) (appended k.operations.store.log) (appended n.operations.store.log) r reply → NotesBack k n r reply → r.undoes ≢ 0
@@ -618,6 +642,18 @@ module _ {D : Type 0} (g : Ghosts D) (origin : Origin) where
         states = λ u. states_kept (λ x. with_back x r.number (r.op, reply)) k.live.members n.live.members t (λ x. back_state x r.number (r.op, reply)) e.members u;
         ends = λ ends had. more_ends (member_of k.live.members t) working ends (its_effects t k.live.standing) (its_effects t n.live.standing) (r.op, reply) (ap (its_effects t) e.standing ∙ effects_back t k.live.standing b refl did_it) had;
       }) back working takes replies restartable
+
+  -- an inverse, in a transaction of either kind
+  pub inverse_restarts : (k m n : Core D) (base : Base) (r : OpScope) (reply : Reply) (state : Option TxnState) → state_in k.live.members r.txn ≡ state → IsConsistent g origin base k → IsConsistent g origin (base_after base r.op) n → SameArea k n
+      → AppendsEnd origin (pages k.operations.store.pool) (appended k.operations.store.log) (appended n.operations.store.log) r reply → m.book ≡ k.book → m.commits ≡ k.commits → m.live ≡ k.live → NotesInverse m n r reply state → r.undoes ≢ 0
+      → goes_back (state_in k.live.members r.txn) ≡ true → is_open (member_of k.live.members r.txn) ≡ true → TakesBack k.live.members k.live.standing r → reply_of base r.op ≡ reply → IsRestartable origin k → IsRestartable origin n
+  inverse_restarts k m n base r reply (Some (Returning first)) at safe_k safe_n same a book commits live e back backwards working takes replies restartable =
+      returned k n base r reply safe_k safe_n same a (back_then k m n r reply book commits live e) back working takes replies restartable
+  inverse_restarts k m n base r reply (Some Aborting) at safe_k safe_n same a book commits live e back backwards working takes replies restartable =
+      undone k n base r reply safe_k safe_n same a (undone_then k m n r book commits live e) back at takes replies restartable
+  inverse_restarts k m n base r reply None at safe_k safe_n same a book commits live e back backwards working takes replies restartable = let not : goes_back (state_in k.live.members r.txn) ≡ false = ap goes_back at in absurd cc
+  inverse_restarts k m n base r reply (Some Open) at safe_k safe_n same a book commits live e back backwards working takes replies restartable = let not : goes_back (state_in k.live.members r.txn) ≡ false = ap goes_back at in absurd cc
+  inverse_restarts k m n base r reply (Some Committing) at safe_k safe_n same a book commits live e back backwards working takes replies restartable = let not : goes_back (state_in k.live.members r.txn) ≡ false = ap goes_back at in absurd cc
 
   -- ---- a transaction's end
 

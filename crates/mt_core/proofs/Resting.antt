@@ -10,7 +10,7 @@ use Rattle.mt_model.specs.declared.operations.Reply.{Reply}
 use Rattle.std.proofs.lemmas.List.Elements.{All-push}
 use Rattle.std.proofs.lemmas.List.Quantifiers.{all_pairs_push}
 use Rattle.mt_live.specs.Entries.{Entry}
-use Rattle.mt_live.specs.Lives.{member_of}
+use Rattle.mt_live.specs.Lives.{member_of, IsAbove}
 use Rattle.mt_live.specs.Machine.{IsKept}
 use Rattle.mt_live.specs.Members.{Member, last_operation}
 use Rattle.mt_live.specs.Undoing.{last_effect}
@@ -25,8 +25,9 @@ use Rattle.mt_op.specs.declared.scope.Stage.TheVariants.{Planning}
 use Rattle.mt_space.specs.Changes.{PageBytes}
 use Rattle.mt_slock.specs.Views.{held_of}
 use Rattle.mt_steps.specs.Held.{Holds}
-use Rattle.mt_live.specs.declared.transactions.TxnState.TheVariants.{Aborting}
-use Rattle.mt_core.specs.Runs.{running_in, is_for, state_in, AreApart, AreHeldBy, IsRunning, IsOwned, is_at_work, is_open, pages_of, kept_bytes, taken_bytes}
+use Rattle.mt_live.specs.declared.transactions.TxnState.{TxnState}
+use Rattle.mt_live.specs.declared.transactions.TxnState.TheVariants.{Open, Committing, Returning, Aborting}
+use Rattle.mt_core.specs.Runs.{running_in, is_for, state_in, AreApart, AreHeldBy, IsRunning, IsOwned, IsNotedAfter, goes_back, is_at_work, is_open, pages_of, kept_bytes, taken_bytes}
 use Rattle.mt_op.specs.World.{left_of}
 use Rattle.mt_core.specs.Consistent.{Origin, state_of, IsNumbered, AreReported, IsQueued, IsConsistent, IsFit, IsIn}
 use Rattle.mt_core.specs.declared.parts.Core.{Core}
@@ -35,10 +36,16 @@ use Rattle.mt_core.proofs.Calling.{numbered_last}
 use Rattle.mt_core.proofs.Holders.{held_push, sums_push}
 use Rattle.mt_core.proofs.Reported.{reported_last}
 
--- one that is to be undone is at work
-pub aborting_open : (o : Option Member) → option_map (λ (m : Member). m.state) o ≡ Some Aborting → is_open o ≡ true
-aborting_open None is = absurd cc
-aborting_open (Some m) is = let state : m.state ≡ Aborting = cc in ap is_at_work state
+-- one that goes back is at work
+pub backwards_open : (o : Option Member) → goes_back (option_map (λ (m : Member). m.state) o) ≡ true → is_open o ≡ true
+backwards_open None is = absurd cc
+backwards_open (Some m) is = go m.state is
+  where
+    go : (s : TxnState) → goes_back (Some s) ≡ true → is_at_work s ≡ true
+    go Open h = absurd cc
+    go Committing h = absurd cc
+    go (Returning first) h = refl
+    go Aborting h = refl
 
 module _ {D : Type 0} (g : Ghosts D) (origin : Origin) (base : Base) where
   -- operations have changed, and nothing else of the parts
@@ -86,11 +93,11 @@ module _ {D : Type 0} (g : Ghosts D) (origin : Origin) (base : Base) where
   running_also (x ∷ xs) r u back = ap (λ (o : Option Op). cond (is_for u x) (Some x.op) o) (running_also xs r u back)
 
   -- an inverse begins, of the last entry of its transaction that did something
-  pub undoing_in : (k n : Core D) (t : ℕ) (e : Entry) (r : OpScope) → IsConsistent g origin base k → state_in k.live.members t ≡ Some Aborting → All (λ (q : OpScope). q.txn ≢ t) k.running.items
+  pub undoing_in : (k n : Core D) (t : ℕ) (e : Entry) (r : OpScope) → IsConsistent g origin base k → goes_back (state_in k.live.members t) ≡ true → ((first : ℕ) → state_in k.live.members t ≡ Some (Returning first) → IsNotedAfter first (k.last + 1) (member_of k.live.members t)) → All (λ (q : OpScope). q.txn ≢ t) k.running.items
       → last_effect t k.live.standing ≡ Some e → inverse_of e.op e.reply ≡ Some r.op → n.running.items ≡ k.running.items ++ r ∷ [] → last_operation (member_of k.live.members t) ≡ Some r.undoes
       → IsUnderWay origin.relations origin.counters (world g origin.pages k.operations) r → HasBudget r → r.txn ≡ t → r.number ≡ k.last + 1 → r.undoes ≢ 0 → r.split ≡ false → r.stage ≡ Planning
       → r.left ≡ 106496 → n.reserved + 106496 ≡ k.reserved → IsIn g origin base (state_of k base) (record k { running = n.running; last = k.last + 1; reserved = n.reserved })
-  undoing_in k n t e r safe aborting idle last inverse items named under budget txn number back unsplit planning left freed =
+  undoing_in k n t e r safe backwards returns idle last inverse items named under budget txn number back unsplit planning left freed =
       let fit = safe.fit in
       let z : Core D = record k { running = n.running; last = k.last + 1; reserved = n.reserved } in
       let runs : (u : ℕ) → running_in k.running.items u ≡ running_in n.running.items u = λ u. sym (running_also k.running.items r u back) ∙ ap (λ (rs : List OpScope). running_in rs u) (sym items) in
@@ -109,12 +116,15 @@ module _ {D : Type 0} (g : Ghosts D) (origin : Origin) (base : Base) where
       λ i d lt. let was = safe.runs i d lt in record { under = was.under; budget = was.budget; number = let low = was.number in omega arith; moving = was.moving } in
       let mine : IsRunning origin.relations origin.counters (world g origin.pages k.operations) (k.last + 1) r = record { under = under; budget = budget; number = omega arith; moving = inl planning } in
       let own : IsOwned k.live.members k.live.standing r = record {
-        at_work = rw txn (aborting_open (member_of k.live.members t) aborting);
+        at_work = rw txn (backwards_open (member_of k.live.members t) backwards);
         room = λ fore. absurd (back fore);
         inverse = λ b2. record { named = ap (λ (u : ℕ). last_operation (member_of k.live.members u)) txn ∙ named; entry = e; last = rw txn last; inverse = inverse; unsplit = unsplit };
         newest = λ fore. absurd (back fore);
+        few = λ fore. absurd (back fore);
         taken = λ is. absurd cc;
-        aborts = λ b2. ap (state_in k.live.members) txn ∙ aborting;
+        forwards = λ fore. absurd (back fore);
+        backwards = λ b2. rw txn backwards;
+        returns = λ b2 first is. let noted = returns first (ap (state_in k.live.members) (sym txn) ∙ is) in record { room = rw txn noted.room; newest = subst (λ (X : Type 0). X) (λ i. IsAbove (sym number i) (member_of k.live.members (sym txn i))) noted.newest; after = rw txn noted.after };
       } in
       let sums = sums_push k.running.items n.running.items r items in
       let pages = sums.pages in let lefts = sums.left in let keeps = sums.kept in let takes = sums.taken in

@@ -1,29 +1,37 @@
 -- The steps that an abort has left.
-use Rattle.std.proofs.Common.{◌≡◌, ◌≢◌, ⊎_elim, ℕ, zero, suc, ◌<◌, ◌≤◌, ◌&&◌, ◌+◌, ◌-◌, ◌*◌, ◌==◌, Bool, true, false, cond, not, if◌then◌else◌, List, [], ◌∷◌, ◌++◌, length, get_or, Option, Some, None, Result, Ok, Err, is_some, refl, sym, ap, ◌∙◌, arith}
+use Rattle.std.proofs.Common.{◌≡◌, ◌≢◌, ◌⊎◌, inl, inr, ⊎_elim, ℕ, zero, suc, ◌<◌, ◌≤◌, ◌&&◌, ◌+◌, ◌-◌, ◌*◌, ◌==◌, Bool, true, false, cond, not, if◌then◌else◌, List, [], ◌∷◌, ◌++◌, length, get_or, filter, Option, Some, None, Result, Ok, Err, is_some, refl, sym, ap, subst, ◌∙◌, arith}
 use Rattle.std.specs.Prelude.{All, AllPairs, OnErr}
 use Rattle.std.specs.List.{remove, sum_by}
 use Rattle.std.proofs.Math.Nat.{suc-mul}
-use Rattle.std.proofs.lemmas.Bool.{eq-eqb, eqb-true, ne_eqb, cases_eq}
+use Rattle.std.proofs.lemmas.Bool.{eq-eqb, eqb-true, ne_eqb, cases_eq, and_left, and_right}
 use Rattle.std.proofs.lemmas.List.{get_or_default}
 use Rattle.std.proofs.lemmas.List.Elements.{All-head, All-tail}
-use Rattle.std.proofs.lemmas.List.Sums.{sum_by-cons}
+use Rattle.std.proofs.lemmas.List.Sums.{sum_by-cons, sum_by_push}
 use Rattle.mt_disk.specs.declared.device.Device.{Ghosts}
 use Rattle.mt_base.specs.declared.refusal.Refusal.{Refusal}
-use Rattle.mt_live.specs.Entries.{Entry, is_standing, kept}
-use Rattle.mt_live.specs.Undoing.{only, others, is_effect, last_of, last_effect, cut_back}
-use Rattle.mt_live.specs.declared.transactions.TxnState.TheVariants.{Open, Aborting}
-use Rattle.mt_model.specs.Model.{Base, inverse_of}
+use Rattle.mt_live.specs.Entries.{Entry, with_role, kept}
+use Rattle.mt_live.specs.declared.transactions.Role.TheVariants as role
+use Rattle.mt_live.specs.Undoing.{others, is_counted, is_effect, last_of, last_effect, cut_back, mark_last}
+use Rattle.mt_model.specs.Model.{Base, inverse_of, reply_of}
+use Rattle.mt_op.proofs.Planned.{has_changed}
 use Rattle.mt_op.proofs.Restored.{few_stand}
 use Rattle.mt_op.specs.Operations.{world}
 use Rattle.mt_op.specs.Moves.{SameOp}
-use Rattle.mt_op.specs.Work.{work_of}
+use Rattle.mt_op.specs.Work.{sum_below, is_written, steps_for, work_at, work_of}
+use Rattle.mt_op.specs.World.{World, IsUnderWay, looked, changes_in}
+use Rattle.mt_op.specs.declared.scope.Stage.{Stage}
+use Rattle.mt_op.specs.declared.scope.Stage.TheVariants.{Planning, Writing, Taking}
 use Rattle.mt_op.specs.declared.answers.TakenBack.{TakenBack}
 use Rattle.mt_op.specs.declared.answers.TakenBack.TheVariants as taken
 use Rattle.mt_op.specs.declared.scope.OpScope.{OpScope}
 use Rattle.mt_pool.specs.Views.{pages}
 use Rattle.mt_live.specs.Lives.{Lives}
-use Rattle.mt_core.specs.Consistent.{Origin, IsConsistent}
-use Rattle.mt_core.specs.Runs.{AreApart, state_in}
+use Rattle.mt_live.specs.Machine.{State}
+use Rattle.mt_live.specs.declared.transactions.TxnState.{TxnState}
+use Rattle.mt_live.specs.declared.transactions.TxnState.TheVariants.{Open, Committing, Returning, Aborting}
+use Rattle.mt_model.specs.declared.operations.Op.{Op}
+use Rattle.mt_core.specs.Consistent.{Origin, state_of, IsConsistent, UndoesIn, InvertsIn}
+use Rattle.mt_core.specs.Runs.{AreApart, IsMoving, IsOwned, IsRunning}
 use Rattle.mt_core.specs.Work.{effect_steps, effects_left, steps_with, abort_steps, undo_steps, most_steps, LeavesStanding}
 use Rattle.mt_core.specs.declared.parts.Core.{Core}
 use Rattle.mt_core.proofs.Lists.{pairs_head, pairs_tail, pair_at, all_remove}
@@ -64,6 +72,24 @@ module _ (all t : ℕ) where
       go rec (Some later) at c own k = let rest = rec (at ∙ k) in let whole = sum_by-cons (effect_steps all t) x es in let left = sum_by-cons (effect_steps all t) x (cut_back t es) in omega arith
       go rec None at true own k = let mine = of_effect x true own in let rest = none_left es at in let gone = others_left es in let whole = sum_by-cons (effect_steps all t) x es in omega arith
       go rec None at false own k = absurd cc
+
+  -- or taken back by one that goes on
+  pub mark_left : (es : List Entry) (e : Entry) → last_effect t es ≡ Some e → effects_left all (mark_last t es) t + (2 * all + 10) ≡ effects_left all es t
+  mark_left [] e is = absurd cc
+  mark_left (x ∷ es) e is = go (λ k. mark_left es e k) (last_effect t es) refl (is_effect t x) refl is
+    where
+      gone : is_effect t (with_role role.TakenBack x) ≡ false
+      gone = and_left (is_counted t (with_role role.TakenBack x)) (is_some (inverse_of x.op x.reply)) (and_right (x.txn == t) false refl)
+
+      go : (last_effect t es ≡ Some e → effects_left all (mark_last t es) t + (2 * all + 10) ≡ effects_left all es t) → (o : Option Entry) → last_effect t es ≡ o → (c : Bool) → is_effect t x ≡ c → last_of o c x ≡ Some e
+          → effects_left all (cond (is_some o) (x ∷ mark_last t es) (cond c (with_role role.TakenBack x ∷ es) (x ∷ es))) t + (2 * all + 10) ≡ effects_left all (x ∷ es) t
+      go rec (Some later) at c own k = let rest = rec (at ∙ k) in let whole = sum_by-cons (effect_steps all t) x es in let left = sum_by-cons (effect_steps all t) x (mark_last t es) in omega arith
+      go rec None at true own k = let mine = of_effect x true own in let now = of_effect (with_role role.TakenBack x) false gone in let whole = sum_by-cons (effect_steps all t) x es in let left = sum_by-cons (effect_steps all t) (with_role role.TakenBack x) es in omega arith
+      go rec None at false own k = absurd cc
+
+  -- the inverse of a transaction that goes on is no effect
+  pub back_left : (es : List Entry) (e : Entry) → is_effect t e ≡ false → effects_left all (es ++ e ∷ []) t ≡ effects_left all es t
+  back_left es e none = let whole = sum_by_push (effect_steps all t) es e in let mine = of_effect e false none in omega (arith, whole, mine)
 
 -- ---- the operation under way
 
@@ -171,6 +197,24 @@ module _ {D : Type 0} (g : Ghosts D) (origin : Origin) (base : Base) where
         standing = ap (λ (l : Lives). l.standing) live;
       }
 
+  -- an inverse that has ended leaves one effect fewer
+  pub inverted_left : (k n : Core D) (all t : ℕ) (i : Op) (state : Option TxnState) → InvertsIn g origin base (state_of k base) n t i state → effects_left all n.live.standing t + (2 * all + 10) ≡ effects_left all k.live.standing t
+  inverted_left k n all t i state h = go state h
+    where
+      undone_left : UndoesIn g origin base (state_of k base) n t i → effects_left all n.live.standing t + (2 * all + 10) ≡ effects_left all k.live.standing t
+      undone_left u = ap (λ es. effects_left all es t + (2 * all + 10)) (sym (ap (λ (s : State). s.standing) u.leads.state)) ∙ cut_left all t k.live.standing u.last u.effect
+
+      go : (x : Option TxnState) → InvertsIn g origin base (state_of k base) n t i x → effects_left all n.live.standing t + (2 * all + 10) ≡ effects_left all k.live.standing t
+      go None u = undone_left u
+      go (Some Open) u = undone_left u
+      go (Some Committing) u = undone_left u
+      go (Some Aborting) u = undone_left u
+      go (Some (Returning first)) u =
+          let e : Entry = record { txn = t; op = i; reply = reply_of base i; role = role.Back } in
+          let none : is_effect t e ≡ false = and_left (is_counted t e) (is_some (inverse_of e.op e.reply)) (and_right (t == t) false refl) in
+          ap (λ es. effects_left all es t + (2 * all + 10)) (sym (ap (λ (s : State). s.standing) u.leads.state))
+          ∙ ap (λ x. x + (2 * all + 10)) (back_left all t (mark_last t k.live.standing) e none) ∙ mark_left all t k.live.standing u.last u.effect
+
 -- what a step of a taking back says of it
 pub puts_back : (s t : OpScope) (r : Result TakenBack Refusal) → (r ≡ Ok taken.More → t.standing + 1 ≡ s.standing) → (r ≡ Ok taken.Flush → t ≡ s) → OnErr r (t ≡ s) → LeavesStanding s t r
 puts_back s t (Ok taken.More) more flush err = more refl
@@ -180,42 +224,85 @@ puts_back s t (Err why) more flush err = ap (λ (x : OpScope). x.standing) err
 
 -- ---- how many there are at most
 
--- each entry of a transaction is an effect or nothing
-few_of : (f : Entry → ℕ) (t w : ℕ) → ((e : Entry) → f e ≤ cond (e.txn == t) w 0) → (es : List Entry) → sum_by f es ≤ length (kept (only t) es) * w
+-- each entry of a transaction that stands is an effect or nothing
+few_of : (f : Entry → ℕ) (t w : ℕ) → ((e : Entry) → f e ≤ cond (is_counted t e) w 0) → (es : List Entry) → sum_by f es ≤ length (filter (is_counted t) es) * w
 few_of f t w each [] = omega arith
-few_of f t w each (x ∷ es) = go (x.txn == t) (each x) (few_of f t w each es)
+few_of f t w each (x ∷ es) = go (is_counted t x) (each x) (few_of f t w each es)
   where
-    go : (c : Bool) → f x ≤ cond c w 0 → sum_by f es ≤ length (kept (only t) es) * w → sum_by f (x ∷ es) ≤ length (cond c (x ∷ kept (only t) es) (kept (only t) es)) * w
-    go true here rest = let whole = sum_by-cons f x es in let one = suc-mul (length (kept (only t) es)) w in omega (arith, here, rest, whole, one)
+    go : (c : Bool) → f x ≤ cond c w 0 → sum_by f es ≤ length (filter (is_counted t) es) * w → sum_by f (x ∷ es) ≤ length (cond c (x ∷ filter (is_counted t) es) (filter (is_counted t) es)) * w
+    go true here rest = let whole = sum_by-cons f x es in let one = suc-mul (length (filter (is_counted t) es)) w in omega (arith, here, rest, whole, one)
     go false here rest = let whole = sum_by-cons f x es in omega (arith, here, rest, whole)
 
-effect_of : (all t : ℕ) (e : Entry) → effect_steps all t e ≤ cond (e.txn == t) (2 * all + 10) 0
-effect_of all t e = go (e.txn == t) (is_standing e.role) (is_some (inverse_of e.op e.reply))
+effect_of : (all t : ℕ) (e : Entry) → effect_steps all t e ≤ cond (is_counted t e) (2 * all + 10) 0
+effect_of all t e = go (is_counted t e) (is_some (inverse_of e.op e.reply))
   where
-    go : (a s b : Bool) → (if (a && s) && b then 2 * all + 10 else 0) ≤ cond a (2 * all + 10) 0
-    go true true true = omega arith
-    go true true false = omega arith
-    go true false b = omega arith
-    go false s b = omega arith
+    go : (a b : Bool) → (if a && b then 2 * all + 10 else 0) ≤ cond a (2 * all + 10) 0
+    go true true = omega arith
+    go true false = omega arith
+    go false b = omega arith
 
--- none of its operations under way is an inverse
-under_way : (all effects t : ℕ) (rs : List OpScope) → All (λ (r : OpScope). r.txn ≡ t → (r.undoes ≡ 0) × (r.standing ≤ 8)) rs → abort_steps all rs t effects ≤ effects + 9
+-- An operation under way has no more steps left than an effect takes.
+module _ (s : OpScope) where
+  two_each : (p : ℕ) → steps_for s p ≤ 2
+  two_each p = go (is_some (looked s p)) (is_written s.guards.items p)
+    where
+      go : (a b : Bool) → (if a then (if b then 0 else 1) else 2) ≤ 2
+      go true true = omega arith
+      go true false = omega arith
+      go false b = omega arith
+
+  two_below : (n : ℕ) → sum_below n (steps_for s) ≤ 2 * n
+  two_below zero = omega arith
+  two_below (suc n) = let rest = two_below n in let one = two_each n in omega (arith, rest, one)
+
+  pub most_left : (relations counters : ℕ) (w : World) → IsUnderWay relations counters w s → IsMoving s.stage → work_of s ≤ 2 * s.seen.total + 10
+  most_left relations counters w k moving = elim moving [
+    | inl planning ↦ subst (λ (x : Stage). work_at s x ≤ 2 * s.seen.total + 10) (sym planning) (let each = two_below s.seen.total in let one = room_step (is_some s.room) in omega (arith, each, one))
+    | inr now ↦ let few = (has_changed relations counters w s k now).plan.few in later few now
+  ]
+    where
+      room_step : (b : Bool) → (if b then 1 else 0) ≤ 1
+      room_step true = omega arith
+      room_step false = omega arith
+
+      later : length (changes_in s) ≤ 8 → (s.stage ≡ Writing) ⊎ (s.stage ≡ Taking) → work_of s ≤ 2 * s.seen.total + 10
+      later few (inl writing) = subst (λ (x : Stage). work_at s x ≤ 2 * s.seen.total + 10) (sym writing) (omega (arith, few))
+      later few (inr taking) = subst (λ (x : Stage). work_at s x ≤ 2 * s.seen.total + 10) (sym taking) (omega arith)
+
+-- of each of its operations under way
+under_way : (all effects t : ℕ) (rs : List OpScope) → All (λ (r : OpScope). r.txn ≡ t → steps_with all r effects ≤ effects + 9) rs → abort_steps all rs t effects ≤ effects + 9
 under_way all effects t [] each = omega arith
-under_way all effects t (x ∷ xs) each = go (x.txn == t) refl (under_way all effects t xs (All-tail (λ (r : OpScope). r.txn ≡ t → (r.undoes ≡ 0) × (r.standing ≤ 8)) x xs each))
+under_way all effects t (x ∷ xs) each = go (x.txn == t) refl (under_way all effects t xs (All-tail (λ (r : OpScope). r.txn ≡ t → steps_with all r effects ≤ effects + 9) x xs each))
   where
     go : (c : Bool) → (x.txn == t) ≡ c → abort_steps all xs t effects ≤ effects + 9 → cond c (steps_with all x effects) (abort_steps all xs t effects) ≤ effects + 9
-    go true is rest = let own = All-head (λ (r : OpScope). r.txn ≡ t → (r.undoes ≡ 0) × (r.standing ≤ 8)) x xs each (eqb-true x.txn t is) in let with = fore_with all effects x own.0 in let few = own.1 in omega (arith, with, few)
+    go true is rest = All-head (λ (r : OpScope). r.txn ≡ t → steps_with all r effects ≤ effects + 9) x xs each (eqb-true x.txn t is)
     go false is rest = rest
 
 most_of : (steps effects n w : ℕ) → steps ≤ effects + 9 → effects ≤ n * w → 10 ≤ w → steps ≤ (n + 1) * w
 most_of steps effects n w few within wide = let one = suc-mul n w in let same : (n + 1) * w ≡ suc n * w = ap (λ (m : ℕ). m * w) (omega arith) in omega (arith, few, within, wide, one, same)
 
 module _ {D : Type 0} (g : Ghosts D) (origin : Origin) (base : Base) where
-  pub few_steps : (k : Core D) (t : ℕ) → IsConsistent g origin base k → state_in k.live.members t ≡ Some Open → undo_steps k t ≤ most_steps k t
-  few_steps k t safe opened =
+  -- an inverse has what it takes back among the effects
+  effects_with : (k : Core D) (t : ℕ) (r : OpScope) → IsRunning origin.relations origin.counters (world g origin.pages k.operations) k.last r → IsOwned k.live.members k.live.standing r → r.txn ≡ t
+      → let all = pages k.operations.store.pool in let effects = effects_left all k.live.standing t in r.seen.total ≡ all → steps_with all r effects ≤ effects + 9
+  effects_with k t r runs owned own total = ⊎_elim
+      (λ (fore : r.undoes ≡ 0). let with = fore_with all effects r fore in let few = few_stand origin.relations origin.counters (world g origin.pages k.operations) r runs.under runs.moving in omega (arith, with, few))
+      (λ (back : r.undoes ≡ 0 → ⊥).
+      let with = back_with all effects r back in
+      let takes = owned.inverse back in
+      let cut = cut_left all t k.live.standing takes.entry (subst (λ u. last_effect u k.live.standing ≡ Some takes.entry) own takes.last) in
+      let few = most_left r origin.relations origin.counters (world g origin.pages k.operations) runs.under runs.moving in omega (arith, with, cut, few, total))
+      (cases_eq r.undoes 0)
+    where
+      all : ℕ
+      all = pages k.operations.store.pool
+
+      effects : ℕ
+      effects = effects_left all k.live.standing t
+
+  pub few_steps : (k : Core D) (t : ℕ) → IsConsistent g origin base k → undo_steps k t ≤ most_steps k t
+  few_steps k t safe =
       let all = pages k.operations.store.pool in let effects = effects_left all k.live.standing t in
-      let each : All (λ (r : OpScope). r.txn ≡ t → (r.undoes ≡ 0) × (r.standing ≤ 8)) k.running.items = λ i d lt own. let r = get_or k.running.items i d in (
-        ⊎_elim (λ (fore : r.undoes ≡ 0). fore) (λ (back : r.undoes ≡ 0 → ⊥). let now : Some Open ≡ Some Aborting = sym opened ∙ ap (state_in k.live.members) (sym own) ∙ (safe.fit.owned i d lt).aborts back in absurd cc) (cases_eq r.undoes 0),
-        few_stand origin.relations origin.counters (world g origin.pages k.operations) r (safe.runs i d lt).under (safe.runs i d lt).moving,
-      ) in
-      most_of (undo_steps k t) effects (length (kept (only t) k.live.standing)) (2 * all + 10) (under_way all effects t k.running.items each) (few_of (effect_steps all t) t (2 * all + 10) (effect_of all t) k.live.standing) (omega arith)
+      let each : All (λ (r : OpScope). r.txn ≡ t → steps_with all r effects ≤ effects + 9) k.running.items = λ i d lt own. let r = get_or k.running.items i d in
+      effects_with k t r (safe.runs i d lt) (safe.fit.owned i d lt) own (safe.runs i d lt).under.total in
+      most_of (undo_steps k t) effects (length (filter (is_counted t) k.live.standing)) (2 * all + 10) (under_way all effects t k.running.items each) (few_of (effect_steps all t) t (2 * all + 10) (effect_of all t) k.live.standing) (omega arith)

@@ -2,8 +2,8 @@
 use Rattle.std.specs.Prelude.{ℕ, ◌≡◌, ◌⊎◌, ◌++◌, [], Bool, IfErr, List, Ok, Result, length, slice_index_or, ◌≤◌, ◌∷◌, ◌+◌, ◌*◌, OnErr, OnOk}
 use Rattle.mt_disk.specs.declared.device.Device.{Ghosts}
 use Rattle.mt_base.specs.declared.refusal.Refusal.{Refusal}
-use Rattle.mt_core.specs.Consistent.{Advances, AtPlace, GoesBack, IsConsistent, Origin, state_of, EndsIn, IsReadyAt, SameStates, UndoesIn, DropsIn, IsClearedAt, BooksIn, SameUncommitted, IsCalled, MayRun, SameCommits, log_kept, CallsIn, IsAskedFor, IsGranted, IsRestored, without_call, IsLocked}
-use Rattle.mt_core.specs.Restartable.{QuietlyAppends, StepAppends, NotesEnd, NotesUndone, StaysRestartable}
+use Rattle.mt_core.specs.Consistent.{Advances, AtPlace, GoesBack, IsConsistent, Origin, state_of, EndsIn, IsReadyAt, SameStates, UndoesIn, ReturnsIn, InvertsIn, state_in, DropsIn, IsClearedAt, BooksIn, SameUncommitted, IsCalled, MayRun, SameCommits, log_kept, CallsIn, IsAskedFor, IsGranted, IsRestored, without_call, IsLocked}
+use Rattle.mt_core.specs.Restartable.{QuietlyAppends, StepAppends, NotesEnd, NotesUndone, NotesBack, NotesInverse, StaysRestartable}
 use Rattle.mt_core.specs.Steps.{LeavesExplained, TellsOther, WantsFrame}
 use Rattle.mt_core.specs.declared.calls.Called.{Called}
 use Rattle.mt_core.specs.declared.parts.Core.{Core}
@@ -108,17 +108,36 @@ pub record EndsReady {D : Type 0} (g : Ghosts D) (k n : Core D) (place : ℕ) (r
       → AtPlace k.running.items place (λ r. EndsIn g origin base k n r)
   pub notes : AtPlace k.running.items place (λ r. NotesEnd k n r reply)
 
--- The inverse at a place, which was ready, ended.
-pub record EndsInverse {D : Type 0} (g : Ghosts D) (k n : Core D) (place : ℕ) : Type 0 where
+-- The operation at a place has ended: it is under way no more, with its page locks.
+pub record EndsAt {D : Type 0} (k n : Core D) (place : ℕ) : Type 0 where
   pub items : n.running.items ≡ remove k.running.items place
   pub locks : AtPlace k.running.items place (λ r. core_page_locks n ≡ locks_without r.number (core_page_locks k))
   pub store : core_store n ≡ core_store k
   pub states : SameStates k n
   pub commits : n.commits ≡ k.commits
   pub numbers : n.last ≡ k.last
+
+-- The inverse at a place, which was ready, ended in an abort.
+pub record EndsUndone {D : Type 0} (g : Ghosts D) (k n : Core D) (place : ℕ) : Type 0 where
+  pub outer : EndsAt k n place
   pub ends : (origin : Origin) (base : Base) (reply : Reply) → IsReadyAt g origin base k place reply
       → AtPlace k.running.items place (λ r. UndoesIn g origin base (state_of k base) n r.txn r.op)
   pub notes : AtPlace k.running.items place (NotesUndone k n)
+
+-- It did, with this reply, in a transaction that goes on.
+pub record EndsReturned {D : Type 0} (g : Ghosts D) (k n : Core D) (place : ℕ) (reply : Reply) : Type 0 where
+  pub outer : EndsAt k n place
+  pub ends : (origin : Origin) (base : Base) → IsReadyAt g origin base k place reply
+      → AtPlace k.running.items place (λ r. ReturnsIn g origin base (state_of k base) n r.txn r.op)
+  pub notes : AtPlace k.running.items place (λ r. NotesBack k n r reply)
+
+-- It did in a transaction of either kind.
+pub record EndsInverse {D : Type 0} (g : Ghosts D) (k n : Core D) (place : ℕ) (reply : Reply) : Type 0 where
+  pub outer : EndsAt k n place
+  pub ends : (origin : Origin) (base : Base) → IsReadyAt g origin base k place reply
+      → AtPlace k.running.items place (λ r.
+      InvertsIn g origin base (state_of k base) n r.txn r.op (state_in k.live.members r.txn))
+  pub notes : AtPlace k.running.items place (λ r. NotesInverse k n r reply (state_in k.live.members r.txn))
 
 -- The operation at a place, which was taken back and no inverse, is gone.
 pub record DropsOut {D : Type 0} (g : Ghosts D) (k n : Core D) (place : ℕ) : Type 0 where

@@ -1,5 +1,5 @@
 -- What calls of the core did, and what each left of it: parts k before, and n after the call.
-use Rattle.std.specs.Prelude.{ℕ, ◌≡◌, ◌≤◌, ◌+◌, ◌++◌, ◌∷◌, [], IfErr, None, Ok, Result, Some, length}
+use Rattle.std.specs.Prelude.{ℕ, ◌≡◌, ◌≤◌, ◌+◌, ◌++◌, ◌∷◌, [], IfErr, None, Ok, Result, Some, false, length}
 use Rattle.mt_disk.specs.declared.device.Device.{Ghosts}
 use Rattle.mt_base.specs.declared.refusal.Refusal.{Refusal}
 use Rattle.mt_frame.specs.declared.records.Record.TheVariants as record_of
@@ -13,7 +13,9 @@ use Rattle.mt_op.specs.declared.answers.TakenBack.TheVariants as taken
 use Rattle.mt_pool.specs.Views.{pages}
 use Rattle.mt_core.specs.Consistent.{AtPlace, IsConsistent, Origin, SameCommits, SameRunning, SameStates, SameStatesBut, SetsState}
 use Rattle.mt_core.specs.PageLocks.{GivesLocksBack, KeepsPageLocks}
-use Rattle.mt_core.specs.Runs.{state_in}
+use Rattle.mt_live.specs.Lives.{member_of}
+use Rattle.mt_live.specs.Undoing.{after_first, last_effect}
+use Rattle.mt_core.specs.Runs.{did_after, state_in}
 use Rattle.mt_core.specs.Seen.{core_device, core_log, core_page_locks, core_pool, core_store}
 use Rattle.mt_core.specs.Steps.{LeavesExplained, NamesOther, WantsFrame}
 use Rattle.mt_core.specs.Work.{KeepsOthers, Lowers, LowersBack, steps_in, undo_steps}
@@ -65,6 +67,19 @@ module _ {D : Type 0} where
     pub store : core_store n ≡ core_store k
     pub locks : core_page_locks n ≡ core_page_locks k
     pub live : n.live ≡ k.live
+    pub commits : n.commits ≡ k.commits
+    pub others : KeepsOthers t k.running.items n.running.items
+
+  -- no operation of a transaction after its first so many stands and did something
+  pub record NoneAfter (k : Core D) (t first : ℕ) : Type 0 where
+    pub effect : last_effect t (after_first t first k.live.standing) ≡ None
+    pub call : did_after first (member_of k.live.members t) ≡ false
+
+  -- what stays as an inverse of a transaction begins that goes on, or none does
+  pub record KeepsToReturn (k n : Core D) (t : ℕ) : Type 0 where
+    pub store : core_store n ≡ core_store k
+    pub locks : core_page_locks n ≡ core_page_locks k
+    pub states : SameStates k n
     pub commits : n.commits ≡ k.commits
     pub others : KeepsOthers t k.running.items n.running.items
 

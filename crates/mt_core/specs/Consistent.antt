@@ -5,20 +5,20 @@ use Rattle.std.specs.Option.{option_map}
 use Rattle.std.specs.Vec.{vec_capacity}
 use Rattle.mt_disk.specs.declared.device.Device.{Ghosts}
 use Rattle.mt_core.specs.declared.commits.TheConstants.{END_LOG_BYTES}
-use Rattle.mt_base.specs.declared.limits.TheConstants.{MAX_AREA_MIB, MAX_BEGUN, MAX_COUNTERS, MAX_RELATIONS, MIB_BYTES, OPERATION_LOG_BYTES, TRANSACTION_LOG_BYTES}
+use Rattle.mt_base.specs.declared.limits.TheConstants.{MAX_AREA_MIB, MAX_BEGUN, MAX_COUNTERS, MAX_OPERATIONS, MAX_RELATIONS, MIB_BYTES, OPERATION_LOG_BYTES, TRANSACTION_LOG_BYTES}
 use Rattle.mt_base.specs.declared.refusal.Refusal.{Refusal}
 use Rattle.mt_escrow.specs.Seen.{Escrowed, all_adds, CanStand, add_of}
 use Rattle.mt_frame.specs.declared.records.Record.{Record}
 use Rattle.mt_frame.specs.declared.records.Record.TheVariants as record_of
 use Rattle.mt_area_rules.specs.History.{some_record, ends_txn, ends_op, finishes, undoes_op}
 use Rattle.mt_live.specs.Adds.{add_before, GivesBack}
-use Rattle.mt_live.specs.Lives.{member_of, has_room}
-use Rattle.mt_live.specs.Machine.{State, put, committed_base, IsKept, IsAdmitted, called, ended, undone, dropped, booked}
+use Rattle.mt_live.specs.Lives.{calls_of, member_of, has_room}
+use Rattle.mt_live.specs.Machine.{State, put, committed_base, IsKept, IsAdmitted, called, ended, undone, returned, dropped, booked}
 use Rattle.mt_live.specs.Entries.{Entry}
 use Rattle.mt_live.specs.Undoing.{last_effect}
-use Rattle.mt_live.specs.Members.{Member, Noted, has_inverse}
+use Rattle.mt_live.specs.Members.{Member, Noted, has_inverse, standing_count, forward_count}
 use Rattle.mt_live.specs.declared.transactions.TxnState.{TxnState}
-use Rattle.mt_live.specs.declared.transactions.TxnState.TheVariants.{Committing}
+use Rattle.mt_live.specs.declared.transactions.TxnState.TheVariants.{Open, Committing, Returning, Aborting}
 use Rattle.mt_log.specs.Words.{appended, used, area_size}
 use Rattle.mt_model.specs.declared.history.Committed.{Committed}
 use Rattle.mt_model.specs.declared.operations.Reply.{Reply}
@@ -48,7 +48,7 @@ use Rattle.mt_slock.specs.declared.holders.Holder.{Holder}
 use Rattle.mt_steps.specs.Held.{Holds}
 use Rattle.mt_steps.specs.Logged.{HasSmallReply}
 use Rattle.mt_steps.specs.Plans.{own_needs}
-use Rattle.mt_core.specs.Runs.{running_in, AreApart, AreHeldBy, IsRunning, IsOwned, is_open, pages_of, entry_pages, entry_bytes, kept_bytes, taken_bytes}
+use Rattle.mt_core.specs.Runs.{running_in, AreApart, AreHeldBy, IsRunning, IsOwned, is_open, is_returning, pages_of, entry_pages, entry_bytes, kept_bytes, taken_bytes}
 use Rattle.mt_op.specs.World.{left_of}
 pub use Rattle.mt_core.specs.Runs.{state_in}
 use Rattle.mt_core.specs.declared.calls.Called.{Called}
@@ -108,13 +108,15 @@ pub record IsDue (records : List Record) (t n : ℕ) : Type 0 where
   pub standing : some_record (undoes_op t n) records ≡ false
 
 -- The operations of a transaction are numbered in the order of their ends, and each that did something may be taken
--- back.
+-- back. If it goes back to where its first so many had ended, these stand. They are no more than it may call.
 pub record IsReported (last : ℕ) (records : List Record) (t : ℕ) (m : Member) : Type 0 where
   pub many : length m.operations ≡ length m.calls
   pub numbers : All (λ n. (1 ≤ n) × (n ≤ last)) m.operations
   pub rising : AllPairs (λ a b. a < b) m.operations
   pub due : (i : ℕ) (c : Noted) → i < length m.calls → c ≡ slice_index_or m.calls i c → has_inverse c ≡ true
       → IsDue records t (slice_index_or m.operations i 0)
+  pub firsts : (first : ℕ) → m.state ≡ Returning first → first ≤ standing_count m.calls
+  pub few : forward_count m.calls ≤ MAX_OPERATIONS
 
 abbrev pub AreReported : ℕ → List Member → List Record → Type 0
 AreReported last ms records = (t : ℕ) (m : Member) → member_of ms t ≡ Some m → IsReported last records t m
@@ -318,19 +320,23 @@ GoesBack g origin base s k place (Ok taken.More) = IsIn g origin base s k
 GoesBack g origin base s k place (Ok taken.Flush) = IsIn g origin base s k
 GoesBack g origin base s k place (Err why) = IsIn g origin base s k
 
--- An operation that a transaction has called may run: it lies within the schema, and its transaction is at work, with
--- room, and idle.
+-- An operation that a transaction has called may run: it lies within the schema, and its transaction is at work and
+-- idle, does not go back, has room, and may call one more.
 pub record MayRun {D : Type 0} (origin : Origin) (k : Core D) (t : ℕ) (op : Op) : Type 0 where
   pub within : IsWithin origin.relations origin.counters op
   pub at_work : is_open (member_of k.live.members t) ≡ true
+  pub forwards : is_returning (state_in k.live.members t) ≡ false
   pub room : has_room (member_of k.live.members t) ≡ true
   pub idle : All (λ (r : OpScope). r.txn ≢ t) k.running.items
+  pub few : forward_count (calls_of k.live.members t) < MAX_OPERATIONS
 
 -- but for room for its end
 pub record MayBeCalled {D : Type 0} (origin : Origin) (k : Core D) (t : ℕ) (op : Op) : Type 0 where
   pub within : IsWithin origin.relations origin.counters op
   pub at_work : is_open (member_of k.live.members t) ≡ true
+  pub forwards : is_returning (state_in k.live.members t) ≡ false
   pub idle : All (λ (r : OpScope). r.txn ≢ t) k.running.items
+  pub few : forward_count (calls_of k.live.members t) < MAX_OPERATIONS
 
 -- Its locks are held: nobody was in the way of any. But for those locks the parts are as they were.
 pub record IsLocked {D : Type 0} (g : Ghosts D) (origin : Origin) (base : Base)
@@ -403,6 +409,24 @@ pub record UndoesIn {D : Type 0} (g : Ghosts D) (origin : Origin) (base : Base)
   pub inverts : inverse_of last.op last.reply ≡ Some inverse
   pub given : GivesBack t last.op s.pending n.escrow.pending
   pub leads : IsIn g origin (base_after base inverse) (undone s t inverse n.escrow.pending) n
+
+-- the inverse has, of the last effect of a transaction that goes on, whose add is set aside if it is one
+pub record ReturnsIn {D : Type 0} (g : Ghosts D) (origin : Origin) (base : Base)
+    (s : State) (n : Core D) (t : ℕ) (inverse : Op) : Type 0 where
+  pub last : Entry
+  pub idle : s.running t ≡ None
+  pub effect : last_effect t s.standing ≡ Some last
+  pub inverts : inverse_of last.op last.reply ≡ Some inverse
+  pub given : GivesBack t last.op s.pending n.escrow.pending
+  pub leads : IsIn g origin (base_after base inverse) (returned s t last inverse n.escrow.pending) n
+
+-- so in a transaction of a state: one that goes on, or is to be undone
+abbrev pub InvertsIn : {D : Type 0} → Ghosts D → Origin → Base → State → Core D → ℕ → Op → Option TxnState → Type 0
+InvertsIn g origin base s n t inverse None = UndoesIn g origin base s n t inverse
+InvertsIn g origin base s n t inverse (Some Open) = UndoesIn g origin base s n t inverse
+InvertsIn g origin base s n t inverse (Some Committing) = UndoesIn g origin base s n t inverse
+InvertsIn g origin base s n t inverse (Some (Returning first)) = ReturnsIn g origin base s n t inverse
+InvertsIn g origin base s n t inverse (Some Aborting) = UndoesIn g origin base s n t inverse
 
 -- what the transaction runs is dropped, and its add is given back if it is one
 pub record DropsIn {D : Type 0} (g : Ghosts D) (origin : Origin) (base : Base)

@@ -191,6 +191,14 @@ pub record NotesBack {D : Type 0} (k n : Core D) (r : OpScope) (reply : Reply) :
   pub members : IsChanged k.live.members n.live.members r.txn (λ m. with_back m r.number (r.op, reply))
   pub count : length n.live.members ≡ length k.live.members
 
+-- an inverse has ended, in a transaction of a state
+abbrev pub NotesInverse : {D : Type 0} → Core D → Core D → OpScope → Reply → Option TxnState → Type 0
+NotesInverse k n r reply None = NotesUndone k n r
+NotesInverse k n r reply (Some Open) = NotesUndone k n r
+NotesInverse k n r reply (Some Committing) = NotesUndone k n r
+NotesInverse k n r reply (Some (Returning first)) = NotesBack k n r reply
+NotesInverse k n r reply (Some Aborting) = NotesUndone k n r
+
 -- parts that are consistent, and become so, stay restartable
 abbrev pub StaysRestartable : {D : Type 0} → Ghosts D → Core D → Core D → Type 0
 StaysRestartable g k n = (origin : Origin) (base later : Base) → IsConsistent g origin base k

@@ -1,13 +1,13 @@
 -- The operations under way, at most one a transaction, and what is kept for them and for what may have to be undone.
-use Rattle.std.specs.Prelude.{ℕ, ◌≡◌, ◌≢◌, ◌⊎◌, ◌≤◌, ◌+◌, ◌==◌, ◌&&◌, Bool, true, false, cond, if◌then◌else◌, List, [], ◌∷◌, Option, Some, None, is_some, All}
+use Rattle.std.specs.Prelude.{ℕ, ◌≡◌, ◌≢◌, ◌⊎◌, ◌<◌, ◌≤◌, ◌+◌, ◌==◌, ◌&&◌, Bool, true, false, cond, if◌then◌else◌, List, [], ◌∷◌, Option, Some, None, is_some, All}
 use Rattle.std.specs.List.{list_any}
 use Rattle.std.specs.Option.{option_map}
-use Rattle.mt_base.specs.declared.limits.TheConstants.{OPERATION_LOG_BYTES}
+use Rattle.mt_base.specs.declared.limits.TheConstants.{MAX_OPERATIONS, OPERATION_LOG_BYTES}
 use Rattle.mt_live.specs.declared.transactions.TxnState.{TxnState}
 use Rattle.mt_live.specs.declared.transactions.TxnState.TheVariants.{Open, Committing, Returning, Aborting}
 use Rattle.mt_live.specs.Entries.{Entry, is_standing}
-use Rattle.mt_live.specs.Lives.{member_of, has_room, IsAbove}
-use Rattle.mt_live.specs.Members.{Member, Noted, has_inverse, last_operation}
+use Rattle.mt_live.specs.Lives.{calls_of, member_of, has_room, IsAbove}
+use Rattle.mt_live.specs.Members.{Member, Noted, has_inverse, last_operation, last_place, noted_after, standing_count, forward_count}
 use Rattle.mt_live.specs.Undoing.{last_effect}
 use Rattle.mt_model.specs.History.{Call}
 use Rattle.mt_model.specs.declared.operations.Op.{Op}
@@ -64,6 +64,23 @@ is_open (Some m) = is_at_work m.state
 abbrev pub state_in : List Member → ℕ → Option TxnState
 state_in ms t = option_map (λ (m : Member). m.state) (member_of ms t)
 
+-- in which its operations are undone one after the other, the last one first
+abbrev pub goes_back : Option TxnState → Bool
+goes_back None = false
+goes_back (Some Open) = false
+goes_back (Some Committing) = false
+goes_back (Some (Returning first)) = true
+goes_back (Some Aborting) = true
+
+-- how many operations of a transaction stand, if it lives
+abbrev pub count_in : List Member → ℕ → Option ℕ
+count_in ms t = option_map (λ (m : Member). standing_count m.calls) (member_of ms t)
+
+-- an operation of it after its first so many stands and did something
+abbrev pub did_after : ℕ → Option Member → Bool
+did_after first None = false
+did_after first (Some m) = is_some (last_place (noted_after first m.calls))
+
 -- the last entry of its transaction that did something, which it takes back, by its operation's number
 pub record TakesBack (ms : List Member) (standing : List Entry) (r : OpScope) : Type 0 where
   pub named : last_operation (member_of ms r.txn) ≡ Some (undoes_of r)
@@ -72,14 +89,34 @@ pub record TakesBack (ms : List Member) (standing : List Entry) (r : OpScope) : 
   pub inverse : inverse_of entry.op entry.reply ≡ Some r.op
   pub unsplit : splits r ≡ false
 
--- Only what a transaction that is to be undone has called is taken back, and only of such a one are there inverses.
+-- An inverse may be noted in a transaction that goes back to its first so many operations: there is room, its number is
+-- above the others, and what it takes back is none of those.
+pub record IsNotedAfter (first number : ℕ) (m : Option Member) : Type 0 where
+  pub room : has_room m ≡ true
+  pub newest : IsAbove number m
+  pub after : did_after first m ≡ true
+
+-- in a state of one that goes back and then on
+abbrev pub is_returning : Option TxnState → Bool
+is_returning None = false
+is_returning (Some Open) = false
+is_returning (Some Committing) = false
+is_returning (Some (Returning first)) = true
+is_returning (Some Aborting) = false
+
+-- Only what a transaction that is to be undone has called is taken back. Inverses are there of one that goes back, and
+-- while it goes on after that, nothing but these.
 pub record IsOwned (ms : List Member) (standing : List Entry) (r : OpScope) : Type 0 where
   pub at_work : is_open (member_of ms r.txn) ≡ true
   pub room : undoes_of r ≡ 0 → has_room (member_of ms r.txn) ≡ true
   pub inverse : undoes_of r ≢ 0 → TakesBack ms standing r
   pub newest : undoes_of r ≡ 0 → IsAbove r.number (member_of ms r.txn)
+  pub few : undoes_of r ≡ 0 → forward_count (calls_of ms r.txn) < MAX_OPERATIONS
   pub taken : r.stage ≡ Taking → (undoes_of r ≡ 0) × (state_in ms r.txn ≡ Some Aborting)
-  pub aborts : undoes_of r ≢ 0 → state_in ms r.txn ≡ Some Aborting
+  pub forwards : undoes_of r ≡ 0 → is_returning (state_in ms r.txn) ≡ false
+  pub backwards : undoes_of r ≢ 0 → goes_back (state_in ms r.txn) ≡ true
+  pub returns : undoes_of r ≢ 0 → (first : ℕ) → state_in ms r.txn ≡ Some (Returning first)
+      → IsNotedAfter first r.number (member_of ms r.txn)
 
 -- ---- claims and log bytes
 

@@ -9,7 +9,7 @@ use Rattle.mt_op.specs.declared.answers.Stepped.TheVariants as stepped
 use Rattle.mt_pool.specs.Kept.{IsKept, Explains}
 use Rattle.mt_pool.specs.Views.{IsFull}
 use Rattle.mt_space.specs.Changes.{PageBytes}
-use Rattle.mt_core.specs.Consistent.{Origin, state_of, IsIn, EndsIn, UndoesIn, IsOwnerOf}
+use Rattle.mt_core.specs.Consistent.{Origin, state_of, IsIn, EndsIn, InvertsIn, state_in, IsOwnerOf}
 use Rattle.mt_core.specs.declared.parts.Core.{Core}
 use Rattle.mt_op.specs.declared.scope.OpScope.{OpScope}
 use Rattle.mt_core.specs.declared.steps.Going.{Going}
@@ -26,12 +26,13 @@ Steps g origin base k n place (Ok (Ended reply)) =
 Steps g origin base k n place (Ok (GoingOn going)) = IsIn g origin base (state_of k base) n
 Steps g origin base k n place (Err why) = IsIn g origin base (state_of k base) n
 
--- It ends, with the model's reply, and what it takes back stands no more; or the base and all that stands are as
--- before.
+-- It ends, with the model's reply. In an abort what it takes back stands no more; in a transaction that goes on both
+-- stand. Or the base and all that stands are as before.
 abbrev pub UndoSteps : {D : Type 0} → Ghosts D → Origin → Base → Core D → Core D → ℕ → Result Stepping Refusal → Type 0
 UndoSteps g origin base k n place (Ok (Ended reply)) =
     (r : OpScope) → r ≡ slice_index_or k.running.items place r
-    → (reply_of base r.op ≡ reply) × UndoesIn g origin base (state_of k base) n r.txn r.op
+    → (reply_of base r.op ≡ reply)
+    × InvertsIn g origin base (state_of k base) n r.txn r.op (state_in k.live.members r.txn)
 UndoSteps g origin base k n place (Ok (GoingOn going)) = IsIn g origin base (state_of k base) n
 UndoSteps g origin base k n place (Err why) = IsIn g origin base (state_of k base) n
 

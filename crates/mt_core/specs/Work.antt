@@ -1,9 +1,9 @@
 -- The steps that a transaction's operation under way has left, and those that its abort has.
-use Rattle.std.specs.Prelude.{ℕ, ◌≡◌, ◌≢◌, ◌<◌, ◌≤◌, ◌+◌, ◌-◌, ◌*◌, ◌==◌, ◌++◌, cond, if◌then◌else◌, List, [], ◌∷◌, length, Result, Ok, Err, ⊤}
+use Rattle.std.specs.Prelude.{ℕ, ◌≡◌, ◌≢◌, ◌<◌, ◌≤◌, ◌+◌, ◌-◌, ◌*◌, ◌==◌, ◌++◌, cond, if◌then◌else◌, List, [], ◌∷◌, filter, length, Result, Ok, Err, ⊤}
 use Rattle.std.specs.List.{sum_by}
 use Rattle.mt_base.specs.declared.refusal.Refusal.{Refusal}
-use Rattle.mt_live.specs.Entries.{Entry, kept}
-use Rattle.mt_live.specs.Undoing.{only, is_effect}
+use Rattle.mt_live.specs.Entries.{Entry}
+use Rattle.mt_live.specs.Undoing.{is_counted, is_effect}
 use Rattle.mt_op.specs.Work.{work_of}
 use Rattle.mt_core.specs.declared.calls.Called.{Called}
 use Rattle.mt_core.specs.declared.calls.Called.TheVariants as answer
@@ -92,7 +92,7 @@ LeavesUndo k n = (t : ℕ) → undo_steps n t ≤ undo_steps k t
 
 -- what that is at most: the steps of an effect for each of its operations that stand, and for the one under way
 abbrev pub most_steps : {D : Type 0} → Core D → ℕ → ℕ
-most_steps k t = (length (kept (only t) k.live.standing) + 1) * (2 * pages (core_pool k) + 10)
+most_steps k t = (length (filter (is_counted t) k.live.standing) + 1) * (2 * pages (core_pool k) + 10)
 
 -- what a step of an inverse leaves of them
 abbrev pub LowersUndo : ℕ → Result Stepping Refusal → ℕ → ℕ → Type 0

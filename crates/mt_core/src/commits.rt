@@ -1,8 +1,8 @@
 // Transactions that begin, commit and leave, and the writes that make commits durable.
-ghost use Rattle.std.specs.Prelude.{◌≡◌, ◌≢◌, ◌⊎◌, ◌<◌, ◌≤◌, ◌+◌, List, ◌∷◌, ◌++◌, [], length, drop, true, All, Some, Ok, Err, IfOk, IfErr, OnOk, OnErr};
+ghost use Rattle.std.specs.Prelude.{ℕ, IfSome, ◌≡◌, ◌≢◌, ◌⊎◌, ◌<◌, ◌≤◌, ◌+◌, List, ◌∷◌, ◌++◌, [], length, drop, true, All, Some, Ok, Err, IfOk, IfErr, OnOk, OnErr};
 ghost use Rattle.mt_live.specs.Lives.{member_of};
 ghost use Rattle.mt_live.specs.Machine.{begun};
-ghost use Rattle.mt_live.specs.declared.transactions.TxnState.TheVariants.{Open, Aborting};
+ghost use Rattle.mt_live.specs.declared.transactions.TxnState.TheVariants.{Open, Returning, Aborting};
 ghost use Rattle.mt_disk.specs.Disk.{HasCause};
 ghost use Rattle.mt_log.specs.Forcing.{ReportsFault};
 ghost use Rattle.mt_log.specs.Steps.{ForceSteps};
@@ -20,7 +20,7 @@ ghost use Rattle.mt_core.specs.Consistent.{log_kept, SameCommits, SameRunning, S
 ghost use Rattle.mt_core.specs.Restartable.{StaysRestartable};
 ghost use Rattle.mt_core.specs.Steps.{LeavesExplained};
 ghost use Rattle.mt_core.specs.Booked.{booked_each, durable_count, durable_txns};
-ghost use Rattle.mt_core.specs.Runs.{is_open};
+ghost use Rattle.mt_core.specs.Runs.{count_in, is_open};
 ghost use Rattle.mt_core.specs.Work.{LeavesUndo, most_steps, undo_steps};
 ghost use Rattle.std.specs.Vec.{vec_len, vec_capacity};
 ghost use Rattle.mt_base.specs.declared.limits.TheConstants.{MAX_BEGUN, MAX_LIVE, TRANSACTION_LOG_BYTES};
@@ -91,9 +91,10 @@ impl<D: Device> Core<D> {
         Ok(txn)
     }
 
-    /// Begins to undo an open transaction. It takes no memory.
+    /// Begins to undo a transaction that is open or goes back. An inverse of it that is under way is one of the abort
+    /// then. It takes no memory.
     pub fn abort_begin(&mut self, txn: TxnNo)
-        requires { state_in self.old.live.members txn ≡ Some Open }
+        requires { is_open (member_of self.old.live.members txn) ≡ true }
         ensures state { StaysIn D.Device self.old self.new }
         ensures aborts { SetsState self.old self.new txn (Some Aborting) }
         ensures running { self.new.running ≡ self.old.running }
@@ -105,6 +106,23 @@ impl<D: Device> Core<D> {
         ensures restartable { StaysRestartable D.Device self.old self.new }
     {
         self.live.set_state(txn, TxnState::Aborting);
+    }
+
+    /// An open transaction that runs nothing begins to go back to where its first so many operations had ended, of
+    /// those that count. It takes no memory.
+    pub fn return_begin(&mut self, txn: TxnNo, first: u16)
+        requires opened { state_in self.old.live.members txn ≡ Some Open }
+        requires idle { All (λ (r : OpScope). r.txn ≢ txn) self.old.running.items }
+        requires few { IfSome (count_in self.old.live.members txn) (λ count. first ≤ count) }
+        ensures state { StaysIn D.Device self.old self.new }
+        ensures returns { SetsState self.old self.new txn (Some (Returning first)) }
+        ensures rest { self.new ≡ record self.old { live = self.new.live } }
+        ensures count { (t : ℕ) → count_in self.new.live.members t ≡ count_in self.old.live.members t }
+        ensures few_steps { (origin : Origin) (base : Base) → IsConsistent D.Device origin base self.old
+            → undo_steps self.new txn ≤ most_steps self.old txn }
+        ensures restartable { StaysRestartable D.Device self.old self.new }
+    {
+        self.live.set_state(txn, TxnState::Returning(first));
     }
 
     /// Begins the commit of an open transaction that runs nothing: its Commit is appended, and it is the last of

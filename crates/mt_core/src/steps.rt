@@ -96,9 +96,11 @@ impl<D: Device> Core<D> {
         }
     }
 
-    /// Makes a step of an inverse, at a place of those under way. If it ends, with the model's reply on the base,
-    /// what it takes back stands no more, nor what its transaction did after that. Its add, if it is one, is
-    /// pending no more. It waits, or begins anew, only for an operation of another transaction.
+    /// Makes a step of an inverse, at a place of those under way. It may end, with the model's reply on the base. If
+    /// its transaction is to be undone, what it takes back stands no more then, nor what the transaction did after
+    /// that. Its add, if it is one, is pending no more. If the transaction goes on, both stand: what is taken back
+    /// counts no more, and its add is set aside. It waits, or begins anew, only for an operation of another
+    /// transaction.
     ///
     /// Refused with 1 for want of memory, and with 2 if the device fails in this call; the base is as before.
     pub fn undo_step(&mut self, alloc: Global, place: usize) -> Result<Stepping, Refusal>
@@ -118,8 +120,7 @@ impl<D: Device> Core<D> {
         match going_of(stepped) {
             Ok(going) => Ok(Stepping::Going(going)),
             Err((reply, answer)) => {
-                self.note_undone(place);
-                drop(reply);
+                self.note_inverse(place, reply);
                 Ok(Stepping::Ended(answer))
             }
         }

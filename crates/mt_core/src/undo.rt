@@ -1,15 +1,16 @@
 // The inverse of a transaction's last effect begins, and an abort ends of which nothing is left to undo.
 // The steps between are made in `steps`. An operation that is unfinished is taken back before, in `drops`.
-ghost use Rattle.std.specs.Prelude.{◌≡◌, ◌≢◌, ◌<◌, ◌≤◌, ◌+◌, true, false, All, None, Some, Ok, IfErr, OnOk, OnErr};
-ghost use Rattle.mt_live.specs.Lives.{member_of};
-ghost use Rattle.mt_live.specs.Machine.{gone};
-ghost use Rattle.mt_live.specs.Undoing.{last_effect};
+ghost use Rattle.std.specs.Prelude.{ℕ, ◌≡◌, ◌≢◌, ◌<◌, ◌≤◌, ◌+◌, true, false, All, None, Some, Ok, is_some, IfErr, OnOk, OnErr};
+ghost use Rattle.mt_live.specs.Lives.{has_room, member_of, IsChanged};
+ghost use Rattle.mt_live.specs.Machine.{gone, settled};
+ghost use Rattle.mt_live.specs.Members.{with_room};
+ghost use Rattle.mt_live.specs.Undoing.{after_first, last_effect};
 ghost use Rattle.mt_model.specs.Model.{Base};
-ghost use Rattle.mt_live.specs.declared.transactions.TxnState.TheVariants.{Aborting};
-ghost use Rattle.mt_core.specs.Answered.{EndsAbort, KeepsAtAbort, KeepsToUndo};
-ghost use Rattle.mt_core.specs.Consistent.{IsSound, SameStates, StaysIn, state_in, Origin, state_of, IsConsistent, IsIn};
+ghost use Rattle.mt_live.specs.declared.transactions.TxnState.TheVariants.{Open, Returning, Aborting};
+ghost use Rattle.mt_core.specs.Answered.{EndsAbort, KeepsAtAbort, KeepsToReturn, KeepsToUndo, NoneAfter};
+ghost use Rattle.mt_core.specs.Consistent.{IsSound, SameStates, SetsState, StaysIn, state_in, Origin, state_of, IsConsistent, IsIn};
 ghost use Rattle.mt_core.specs.Restartable.{StaysRestartable};
-ghost use Rattle.mt_core.specs.Runs.{is_open};
+ghost use Rattle.mt_core.specs.Runs.{count_in, did_after, goes_back, is_open};
 ghost use Rattle.mt_core.specs.Work.{undo_steps};
 ghost use Rattle.mt_op.specs.declared.scope.OpScope.{OpScope};
 
@@ -19,17 +20,18 @@ use mt_base::{OpNo, Refusal, TxnNo};
 use mt_disk::Device;
 use mt_frame::Record;
 use mt_inverse::inverse_of;
+use mt_live::TxnState;
 use std::alloc::Global;
 
 impl<D: Device> Core<D> {
-    /// Begins the inverse of the last operation that did something, of a transaction that is to be undone and runs
-    /// nothing (Weikum 1991). Answers `false` if there is none. It runs on the pages and the log bytes that were
-    /// kept for it, under the locks that its transaction holds, and splits no bucket.
-    ///
-    /// Refused with 1 for want of memory; nothing has begun then.
-    pub fn undo_begin(&mut self, alloc: Global, txn: TxnNo) -> Result<bool, Refusal>
+    // Begins the inverse of the last operation that did something, of a transaction that goes back and runs nothing. If
+    // it goes on after that, there is room to note its end.
+    fn inverse_begin(&mut self, alloc: Global, txn: TxnNo) -> Result<bool, Refusal>
         requires safe { IsSound D.Device self.old }
-        requires aborting { state_in self.old.live.members txn ≡ Some Aborting }
+        requires backwards { goes_back (state_in self.old.live.members txn) ≡ true }
+        requires noted { (first : ℕ) → state_in self.old.live.members txn ≡ Some (Returning first)
+            → (has_room (member_of self.old.live.members txn) ≡ true)
+            × (did_after first (member_of self.old.live.members txn) ≡ true) }
         requires idle { All (λ (r : OpScope). r.txn ≢ txn) self.old.running.items }
         ensures state { StaysIn D.Device self.old self.new }
         ensures nothing { result ≡ Ok false → last_effect txn self.old.live.standing ≡ None }
@@ -63,6 +65,94 @@ impl<D: Device> Core<D> {
             }
             Err((why, _inverse)) => Err(why),
         }
+    }
+
+    /// Begins the inverse of the last operation that did something, of a transaction that is to be undone and runs
+    /// nothing (Weikum 1991). Answers `false` if there is none. It runs on the pages and the log bytes that were
+    /// kept for it, under the locks that its transaction holds, and splits no bucket.
+    ///
+    /// Refused with 1 for want of memory; nothing has begun then.
+    pub fn undo_begin(&mut self, alloc: Global, txn: TxnNo) -> Result<bool, Refusal>
+        requires safe { IsSound D.Device self.old }
+        requires aborting { state_in self.old.live.members txn ≡ Some Aborting }
+        requires idle { All (λ (r : OpScope). r.txn ≢ txn) self.old.running.items }
+        ensures state { StaysIn D.Device self.old self.new }
+        ensures nothing { result ≡ Ok false → last_effect txn self.old.live.standing ≡ None }
+        ensures same { result ≡ Ok false → self.new ≡ self.old }
+        ensures fewer { result ≡ Ok true → undo_steps self.new txn < undo_steps self.old txn }
+        ensures err_left { OnErr result (undo_steps self.new txn ≤ undo_steps self.old txn) }
+        ensures keeps { KeepsToUndo self.old self.new txn }
+        ensures drawn { result ≡ Ok true → self.new.last ≡ self.old.last + 1 }
+        ensures undrawn { OnErr result (self.new.last ≡ self.old.last) }
+        ensures only_memory { IfErr result (λ why. why ≡ Refusal.NoMemory) }
+        ensures restartable { StaysRestartable D.Device self.old self.new }
+    {
+        self.inverse_begin(alloc, txn)
+    }
+
+    /// Begins the inverse of the last operation after the first so many, of a transaction that goes back to these and
+    /// runs nothing, if an operation after them did something. Answers `false` if none did. It runs on what was kept
+    /// for it, as one of an abort does.
+    ///
+    /// Refused with 1 for want of memory; nothing has begun then.
+    pub fn return_next(&mut self, alloc: Global, txn: TxnNo, first: u16) -> Result<bool, Refusal>
+        requires safe { IsSound D.Device self.old }
+        requires returning { state_in self.old.live.members txn ≡ Some (Returning first) }
+        requires idle { All (λ (r : OpScope). r.txn ≢ txn) self.old.running.items }
+        ensures state { StaysIn D.Device self.old self.new }
+        ensures after { result ≡ Ok true
+            → is_some (last_effect txn (after_first txn first self.old.live.standing)) ≡ true }
+        ensures nothing { result ≡ Ok false → NoneAfter self.old txn first }
+        ensures same { result ≡ Ok false → self.new ≡ self.old }
+        ensures fewer { result ≡ Ok true → undo_steps self.new txn < undo_steps self.old txn }
+        ensures err_left { OnErr result (undo_steps self.new txn ≤ undo_steps self.old txn) }
+        ensures keeps { KeepsToReturn self.old self.new txn }
+        ensures drawn { result ≡ Ok true → self.new.last ≡ self.old.last + 1 }
+        ensures undrawn { OnErr result (self.new.last ≡ self.old.last) }
+        ensures only_memory { IfErr result (λ why. why ≡ Refusal.NoMemory) }
+        ensures restartable { StaysRestartable D.Device self.old self.new }
+    {
+        if !self.live.has_effect_after(txn, usize::from(first)) {
+            return Ok(false);
+        }
+        self.make_room(txn)?;
+        self.inverse_begin(alloc, txn)
+    }
+
+    // Makes room for one more end of a transaction at work.
+    fn make_room(&mut self, txn: TxnNo) -> Result<(), Refusal>
+        requires safe { IsSound D.Device self.old }
+        requires at_work { is_open (member_of self.old.live.members txn) ≡ true }
+        ensures state { StaysIn D.Device self.old self.new }
+        ensures member { OnOk result (IsChanged self.old.live.members self.new.live.members txn with_room) }
+        ensures rest { self.new ≡ record self.old { live = self.new.live } }
+        ensures states { SameStates self.old self.new }
+        ensures standing { self.new.live.standing ≡ self.old.live.standing }
+        ensures only_memory { IfErr result (λ why. why ≡ Refusal.NoMemory) }
+        ensures err { OnErr result (self.new ≡ self.old) }
+        ensures restartable { StaysRestartable D.Device self.old self.new }
+    {
+        self.live.room(txn)?;
+        Ok(())
+    }
+
+    /// A transaction is back where its first so many operations had ended, since none after them is left to undo: they
+    /// are those that count, and it is open. It takes no memory.
+    pub fn return_end(&mut self, txn: TxnNo, first: u16)
+        requires safe { IsSound D.Device self.old }
+        requires returning { state_in self.old.live.members txn ≡ Some (Returning first) }
+        requires idle { All (λ (r : OpScope). r.txn ≢ txn) self.old.running.items }
+        requires nothing { NoneAfter self.old txn first }
+        ensures settled { (origin : Origin) (base : Base) → IsConsistent D.Device origin base self.old
+            → IsIn D.Device origin base (settled (state_of self.old base) txn first) self.new }
+        ensures count { count_in self.new.live.members txn ≡ Some first }
+        ensures opened { SetsState self.old self.new txn (Some Open) }
+        ensures rest { self.new ≡ record self.old { live = self.new.live } }
+        ensures left { undo_steps self.new txn ≤ undo_steps self.old txn }
+        ensures restartable { StaysRestartable D.Device self.old self.new }
+    {
+        self.live.settle(txn, usize::from(first));
+        self.live.set_state(txn, TxnState::Open);
     }
 
     /// Ends an abort of which nothing is left to undo: its end is appended, the transaction is gone with its locks,

@@ -15,6 +15,7 @@ fn refusals_have_their_texts(rt: HostRuntime) -> Result<(), Fail> {
         (Refusal::Escrow, "refused 9 Escrow"),
         (Refusal::Die(TxnNo::new(1)), "refused 14 Die"),
         (Refusal::BadLine(2), "refused 18 BadLine 2"),
+        (Refusal::BadSavepoint, "refused 19 BadSavepoint"),
         (Refusal::WrongFormat, "refused 20 WrongFormat"),
         (Refusal::from(AllocError), "refused 1 NoMemory"),
     ] {

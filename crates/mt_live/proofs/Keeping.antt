@@ -435,6 +435,18 @@ kept_undone b s t e i ps k idle last inverse given =
     let c = cut_of t s.standing e i last inverse in
     subst (λ w. IsKept b (undone_at s w i ps)) (sym c.then) (kept_undone_at b s t c.front e c.rest i ps k idle c.done given)
 
+-- the add of the last effect, if it is one, is the transaction's last that is pending
+pub last_pends : (b : Base) (s : State) (t : ℕ) (e : Entry) (i : Op) → IsKept b s → s.running t ≡ None
+    → last_effect t s.standing ≡ Some e → inverse_of e.op e.reply ≡ Some i → (front : List Pending) × (pending_of t s.pending ≡ front ++ add_before t e.op [])
+last_pends b s t e i k idle last inverse =
+    let c = cut_of t s.standing e i last inverse in
+    let m = c.done in
+    let done = subst (Each IsDone) m.place k.sound.done in
+    let nothing : pending_of t (adds c.rest) ≡ [] = idle_adds t c.rest m.idle (each_back IsDone c.front (e ∷ c.rest) done).1 in
+    let tied : pending_of t s.pending ≡ pending_of t (adds (c.front ++ (e ∷ c.rest))) ++ add_of t (s.running t) =
+    k.tied t ∙ ap (λ w. pending_of t (adds w) ++ add_of t (s.running t)) m.place in
+    (pending_of t (adds c.front), mine_of s t c.front e c.rest idle m.its m.role tied nothing)
+
 -- ---- an inverse ends in a transaction that goes on
 
 back_tied : (t : ℕ) (front : List Entry) (e : Entry) (rest : List Entry) (last : Entry) (ps qs run' : List Pending) → e.txn ≡ t → e.role ≡ Stands → last.role ≡ Back

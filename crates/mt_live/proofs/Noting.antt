@@ -4,9 +4,8 @@ use Rattle.std.proofs.Math.Seq.{take-append_seam}
 use Rattle.std.proofs.lemmas.List.{take_all, drop_all}
 use Rattle.mt_model.specs.History.{Call}
 use Rattle.mt_live.specs.declared.transactions.Role.{Role}
-use Rattle.mt_live.specs.Entries.{is_standing}
-use Rattle.mt_live.specs.Members.{Noted, noted, noted_calls, plain_call, set_role, standing_count, settle_calls}
-use Rattle.mt_live.specs.Roles.{standing_roles, settled_role, left_after, settle_roles}
+use Rattle.mt_live.specs.Members.{Noted, noted, noted_calls, plain_call, set_role, count_noted, settle_calls}
+use Rattle.mt_live.specs.Roles.{count_roles, settled_role, left_after, settle_roles}
 
 pub noted-push : (cs : List Call) (rs : List Role) (c : Call) (r : Role) → length rs ≡ length cs → noted_calls (cs ++ c ∷ []) (rs ++ r ∷ []) ≡ noted_calls cs rs ++ noted r c ∷ []
 noted-push [] [] c r h = refl
@@ -53,11 +52,11 @@ noted-settle n [] rs = refl
 noted-settle n (c ∷ cs) [] = refl
 noted-settle n (c ∷ cs) (r ∷ rs) = ap (λ w. noted (settled_role n r) c ∷ w) (noted-settle (left_after n r) cs rs)
 
-pub noted-count : (cs : List Call) (rs : List Role) → length rs ≡ length cs → standing_count (noted_calls cs rs) ≡ standing_roles rs
-noted-count [] [] h = refl
-noted-count [] (r ∷ rs) h = absurd cc
-noted-count (c ∷ cs) [] h = absurd cc
-noted-count (c ∷ cs) (r ∷ rs) h = let same : length rs ≡ length cs = cc in ap (λ n. cond (is_standing r) (suc n) n) (noted-count cs rs same)
+pub noted-count : (p : Role → Bool) (cs : List Call) (rs : List Role) → length rs ≡ length cs → count_noted p (noted_calls cs rs) ≡ count_roles p rs
+noted-count p [] [] h = refl
+noted-count p [] (r ∷ rs) h = absurd cc
+noted-count p (c ∷ cs) [] h = absurd cc
+noted-count p (c ∷ cs) (r ∷ rs) h = let same : length rs ≡ length cs = cc in ap (λ n. cond (p r) (suc n) n) (noted-count p cs rs same)
 
 -- one call beside its role
 pub noted-at : (n : ℕ) (cs : List Call) (rs : List Role) (c : Call) (r : Role) → length rs ≡ length cs → n < length cs → c ≡ get_or cs n c → r ≡ get_or rs n r → noted r c ≡ get_or (noted_calls cs rs) n (noted r c)
@@ -68,13 +67,13 @@ noted-at (suc n) (x ∷ cs) (y ∷ rs) c r h lt is role = let same : length rs �
 
 -- ---- a loop over the roles
 
-pub standing-more : (rs : List Role) (i : ℕ) (r : Role) → i < length rs → r ≡ get_or rs i r → standing_roles (take (suc i) rs) ≡ cond (is_standing r) (standing_roles (take i rs) + 1) (standing_roles (take i rs))
-standing-more [] i r lt is = absurd (omega (arith, lt))
-standing-more (x ∷ rs) zero r lt is = ap (λ y. cond (is_standing y) 1 0) (sym is)
-standing-more (x ∷ rs) (suc i) r lt is = go (is_standing x) (is_standing r) (standing-more rs i r (omega (arith, lt)) is)
+pub counted-more : (p : Role → Bool) (rs : List Role) (i : ℕ) (r : Role) → i < length rs → r ≡ get_or rs i r → count_roles p (take (suc i) rs) ≡ cond (p r) (count_roles p (take i rs) + 1) (count_roles p (take i rs))
+counted-more p [] i r lt is = absurd (omega (arith, lt))
+counted-more p (x ∷ rs) zero r lt is = ap (λ y. cond (p y) 1 0) (sym is)
+counted-more p (x ∷ rs) (suc i) r lt is = go (p x) (p r) (counted-more p rs i r (omega (arith, lt)) is)
   where
-    go : (a b : Bool) → standing_roles (take (suc i) rs) ≡ cond b (standing_roles (take i rs) + 1) (standing_roles (take i rs))
-        → cond a (suc (standing_roles (take (suc i) rs))) (standing_roles (take (suc i) rs)) ≡ cond b (cond a (suc (standing_roles (take i rs))) (standing_roles (take i rs)) + 1) (cond a (suc (standing_roles (take i rs))) (standing_roles (take i rs)))
+    go : (a b : Bool) → count_roles p (take (suc i) rs) ≡ cond b (count_roles p (take i rs) + 1) (count_roles p (take i rs))
+        → cond a (suc (count_roles p (take (suc i) rs))) (count_roles p (take (suc i) rs)) ≡ cond b (cond a (suc (count_roles p (take i rs))) (count_roles p (take i rs)) + 1) (cond a (suc (count_roles p (take i rs))) (count_roles p (take i rs)))
     go true true h = omega (arith, h)
     go true false h = omega (arith, h)
     go false true h = h

@@ -24,6 +24,12 @@ is_standing Stands = true
 is_standing TakenBack = false
 is_standing Back = false
 
+-- it is no inverse
+abbrev pub is_forward : Role → Bool
+is_forward Stands = true
+is_forward TakenBack = true
+is_forward Back = false
+
 -- the calls, whoever made them
 abbrev pub calls : List Entry → List Call
 calls es = map (λ (e : Entry). (e.op, e.reply)) es

@@ -8,7 +8,7 @@ use Rattle.mt_model.specs.declared.operations.Op.{Op}
 use Rattle.mt_model.specs.declared.operations.Reply.{Reply}
 use Rattle.mt_live.specs.declared.transactions.Role.{Role}
 use Rattle.mt_live.specs.declared.transactions.Role.TheVariants.{Stands, TakenBack, Back}
-use Rattle.mt_live.specs.Entries.{is_standing}
+use Rattle.mt_live.specs.Entries.{is_standing, is_forward}
 use Rattle.mt_live.specs.Roles.{settled_role, left_after}
 use Rattle.mt_live.specs.declared.transactions.TxnState.{TxnState}
 use Rattle.mt_live.specs.declared.transactions.TxnState.TheVariants.{Open}
@@ -116,10 +116,18 @@ with_mark m (Some n) = with_role_at m n TakenBack
 abbrev pub with_back : Member → ℕ → Call → Member
 with_back m operation c = with_noted (with_mark m (last_place m.calls)) operation (noted Back c)
 
+-- how many calls have a role that a test picks
+abbrev pub count_noted : (Role → Bool) → List Noted → ℕ
+count_noted p [] = 0
+count_noted p (c ∷ cs) = cond (p c.role) (suc (count_noted p cs)) (count_noted p cs)
+
 -- how many calls stand
 abbrev pub standing_count : List Noted → ℕ
-standing_count [] = 0
-standing_count (c ∷ cs) = cond (is_standing c.role) (suc (standing_count cs)) (standing_count cs)
+standing_count cs = count_noted is_standing cs
+
+-- how many are no inverses
+abbrev pub forward_count : List Noted → ℕ
+forward_count cs = count_noted is_forward cs
 
 -- the calls after the first so many that stand
 abbrev pub noted_after : ℕ → List Noted → List Noted

@@ -10,7 +10,7 @@ ghost use Rattle.mt_live.specs.Entries.{Entry, calls, kept};
 ghost use Rattle.mt_live.specs.declared.transactions.Role.{Role};
 ghost use Rattle.mt_live.specs.Undoing.{only, others, last_effect, after_first, cut_back, mark_last, settle_after};
 ghost use Rattle.mt_live.specs.Machine.{put};
-ghost use Rattle.mt_live.specs.Members.{Member, fresh, with_room, with_call, with_state, with_back, with_mark, settled_at, last_place, standing_count, noted_calls, taken_back, committed_of, last_operation};
+ghost use Rattle.mt_live.specs.Members.{Member, fresh, with_room, with_call, with_state, with_back, with_mark, settled_at, last_place, standing_count, forward_count, noted_after, noted_calls, taken_back, committed_of, last_operation};
 ghost use Rattle.mt_live.specs.Lives.{entry_by, member_of, is_member, has_room, AreInOrder, AreNumbered, IsAbove, IsFirst, IsChanged};
 
 use crate::places::{Place, cut_from, take_out};
@@ -161,13 +161,14 @@ impl Live {
         self.transactions.len()
     }
 
-    /// How many operations of a live transaction have ended and stand.
+    /// How many operations of a live transaction have ended. Those that it took back count too, and their inverses do
+    /// not.
     pub fn count_ended(&self, txn: TxnNo) -> usize
         requires { is_member self.now.members txn ≡ true }
-        ensures { Some result ≡ option_map (λ m. length m.calls) (member_of self.now.members txn) }
+        ensures { Some result ≡ option_map (λ m. forward_count m.calls) (member_of self.now.members txn) }
     {
         let at = place_in(&self.transactions, txn);
-        self.transactions[at].len()
+        self.transactions[at].count_forward()
     }
 
     /// The state of a transaction, if it lives.
@@ -276,8 +277,8 @@ impl Live {
         self.transactions[at].count_standing()
     }
 
-    /// A live transaction is back where its first `first` operations had ended. Those after them count no more. It takes
-    /// no memory.
+    /// A live transaction is back where its first `first` operations had ended. Those after them count no more. It
+    /// takes no memory.
     pub fn settle(&mut self, txn: TxnNo, first: usize)
         requires { is_member self.old.members txn ≡ true }
         ensures standing { self.new.standing ≡ settle_after txn first self.old.standing }
@@ -308,7 +309,9 @@ impl Live {
     /// [`Live::last_to_undo`] is one of them.
     pub fn has_effect_after(&self, txn: TxnNo, first: usize) -> bool
         requires { is_member self.now.members txn ≡ true }
-        ensures { result ≡ is_some (last_effect txn (after_first txn first self.now.standing)) }
+        ensures effects { result ≡ is_some (last_effect txn (after_first txn first self.now.standing)) }
+        ensures member { Some result
+            ≡ option_map (λ m. is_some (last_place (noted_after first m.calls))) (member_of self.now.members txn) }
     {
         let place = place_in(&self.transactions, txn);
         self.transactions[place].has_effect_after(first)

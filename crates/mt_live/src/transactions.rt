@@ -1,9 +1,9 @@
 // What is kept of one active transaction: its session, its state, and its calls with their replies.
 // `live` keeps the list of them. Locks, pages and log are not known here.
 ghost use Rattle.std.specs.Prelude.{ℕ, ◌≡◌, ◌<◌, ◌≤◌, IfSome, IfNone, OnOk, OnErr, length, true, is_some, slice_index_or};
-ghost use Rattle.mt_live.specs.Members.{Noted, noted, noted_calls, plain_call, fresh, with_room, with_noted, with_role_at, with_state, cut_at, committed_of, has_inverse, last_place, standing_count, noted_after, settled_at};
-ghost use Rattle.mt_live.specs.Entries.{is_standing};
-ghost use Rattle.mt_live.specs.Roles.{standing_roles, settled_role, left_after, settle_roles};
+ghost use Rattle.mt_live.specs.Members.{Noted, noted, noted_calls, plain_call, fresh, with_room, with_noted, with_role_at, with_state, cut_at, committed_of, has_inverse, last_place, standing_count, forward_count, noted_after, settled_at};
+ghost use Rattle.mt_live.specs.Entries.{is_standing, is_forward};
+ghost use Rattle.mt_live.specs.Roles.{standing_roles, forward_roles, settled_role, left_after, settle_roles};
 
 use mt_base::{OpNo, TxnNo};
 use mt_inverse::has_effect;
@@ -123,6 +123,27 @@ fn count_standing(roles: &[Role]) -> usize
     count
 }
 
+// Whether an operation of this role is no inverse.
+fn is_forward(role: Role) -> bool
+    ensures { result ≡ is_forward role }
+{
+    role != Role::Back
+}
+
+// How many of these are no inverses.
+fn count_forward(roles: &[Role]) -> usize
+    ensures count { result ≡ forward_roles roles.now }
+    ensures within { result ≤ length roles.now }
+{
+    let mut count = 0;
+    for role in roles {
+        if is_forward(*role) {
+            count += 1;
+        }
+    }
+    count
+}
+
 // Whether one after the first so many that stand stands and did something.
 fn has_effect_after(calls: &[(Op, Reply)], roles: &[Role], first: usize) -> bool
     requires { length roles.now ≡ length calls.now }
@@ -231,6 +252,13 @@ impl Transaction {
         ensures { result ≡ standing_count self.now.calls }
     {
         count_standing(&self.roles)
+    }
+
+    /// How many calls are no inverses.
+    pub fn count_forward(&self) -> usize
+        ensures { result ≡ forward_count self.now.calls }
+    {
+        count_forward(&self.roles)
     }
 
     /// The calls that stand, but for the first so many, are taken back.

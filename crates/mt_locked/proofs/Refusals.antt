@@ -11,7 +11,7 @@ use Rattle.mt_core.specs.declared.calls.Called.{Called}
 use Rattle.mt_core.specs.declared.parts.Core.{Core}
 use Rattle.mt_model.specs.declared.operations.Op.{Op}
 use Rattle.mt_model.specs.declared.operations.Op.TheVariants.{Get, Insert, Update, Delete, Add, Read, Scan}
-use Rattle.mt_txn.specs.Causes.{IsCallRefusal, IsFault, abort_cause, busy_cause, call_cause, commit_cause, count_cause, first_of, is_aborting, is_busy, is_open, name_cause, open_cause, size_cause, step_cause, unless}
+use Rattle.mt_txn.specs.Causes.{IsCallRefusal, IsFault, abort_begin_cause, abort_cause, busy_cause, call_cause, commit_cause, count_cause, first_of, is_aborting, is_busy, is_open, may_abort, name_cause, open_cause, size_cause, step_cause, unless}
 use Rattle.mt_txn.specs.Events.{AnswersIn}
 use Rattle.mt_txn.specs.Seen.{KernelSeen, has_failed_in}
 use Rattle.mt_txn.specs.declared.answers.AbortStepped.{AbortStepped}
@@ -41,6 +41,9 @@ none_is P w is = absurd (cc)
 module _ {D : Type 0} (P : Refusal → Type 0) (failed : Bool) (k : Core D) (t : ℕ) (w : Refusal) (device : P refusal.DeviceFailed) (stranger : P refusal.Stranger) where
   open_is : open_cause failed k t ≡ Some w → P w
   open_is = if_is P failed refusal.DeviceFailed w (unless (is_open (state_in k.live.members t)) refusal.Stranger) device (unless_is P (is_open (state_in k.live.members t)) refusal.Stranger w stranger)
+
+  begins_abort : abort_begin_cause failed k t ≡ Some w → P w
+  begins_abort = if_is P failed refusal.DeviceFailed w (unless (may_abort (state_in k.live.members t)) refusal.Stranger) device (unless_is P (may_abort (state_in k.live.members t)) refusal.Stranger w stranger)
 
   abort_is : abort_cause failed k t ≡ Some w → P w
   abort_is = if_is P failed refusal.DeviceFailed w (unless (is_aborting (state_in k.live.members t)) refusal.Stranger) device (unless_is P (is_aborting (state_in k.live.members t)) refusal.Stranger w stranger)
@@ -138,7 +141,7 @@ module _ {D : Type 0} (w : Refusal) (o n : Option (KernelSeen D)) where
 
     pub abort_refused : (t : ℕ) → IsAskedOf {T = Unit {0}} o (Err w) n (λ k m. DidAbort g k t (Err w) m) → IsAbortRefusal w
     abort_refused t = let P : Refusal → Type 0 = IsAbortRefusal in
-        asked_is _ P o n w _ tt (λ k m a. open_is P (has_failed_in k) k.core t w tt tt a.answers.why)
+        asked_is _ P o n w _ tt (λ k m a. begins_abort P (has_failed_in k) k.core t w tt tt a.answers.why)
 
     pub call_refused : (t : ℕ) (op : Op) → IsAskedOf {T = Called} o (Err w) n (λ k m. DidCall g k t op (Err w) m) → IsCallRefusal op w
     call_refused t op = asked_is _ (IsCallRefusal op) o n w _ tt did

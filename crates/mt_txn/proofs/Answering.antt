@@ -1,24 +1,27 @@
 -- What the calls' answers say of the state that a kernel shows.
-use Rattle.std.proofs.Common.{⊎_elim, arith, ◌≤◌, ◌≡◌, ◌≢◌, ℕ, List, Some, Result, Ok, Err, refl, sym, subst}
+use Rattle.std.proofs.Common.{⊎_elim, arith, ◌<◌, ◌≤◌, ◌≡◌, ◌≢◌, ℕ, List, Option, Some, None, Result, Ok, Err, refl, sym, ap, subst}
 use Rattle.std.specs.Prelude.{All}
 use mathlib.Core.Logic.{∥∥₁_map}
 use Rattle.mt_base.specs.declared.refusal.Refusal.{Refusal}
 use Rattle.mt_disk.specs.declared.device.Device.{Ghosts}
-use Rattle.mt_live.specs.Lives.{member_of}
+use Rattle.mt_live.specs.Lives.{calls_of, member_of}
+use Rattle.mt_live.specs.Members.{forward_count}
 use Rattle.mt_live.specs.Machine.{State, called}
-use Rattle.mt_live.specs.declared.transactions.TxnState.TheVariants.{Open}
+use Rattle.mt_live.specs.declared.transactions.TxnState.TheVariants.{Open, Committing, Returning, Aborting}
 use Rattle.mt_model.specs.Model.{Base, IsWithin}
 use Rattle.mt_model.specs.declared.operations.Op.{Op}
 use Rattle.mt_core.specs.Consistent.{Origin, state_of, IsConsistent, IsIn, MayBeCalled, IsCalled}
-use Rattle.mt_core.specs.Runs.{state_in}
+use Rattle.mt_core.specs.Runs.{state_in, is_returning}
 use Rattle.mt_core.specs.declared.calls.Called.{Called}
 use Rattle.mt_core.specs.declared.calls.Called.TheVariants as call
 use Rattle.mt_core.specs.declared.parts.Core.{Core}
 use Rattle.mt_op.specs.declared.scope.OpScope.{OpScope}
 use Rattle.mt_txn.proofs.Showing.{open_works, within_of}
 use Rattle.mt_txn.specs.Causes.{IsNamed, IsSized}
-use Rattle.mt_txn.specs.Events.{AbortsTo, HasCalled, HasForced, StepsTo}
+use Rattle.mt_txn.specs.Events.{AbortsTo, HasCalled, HasForced, InvertsTo, ReturnsTo, StepsTo}
 use Rattle.mt_txn.specs.Events.IsBack.{stands}
+use Rattle.mt_txn.specs.Events.IsReturn.{stays}
+use Rattle.mt_live.specs.declared.transactions.TxnState.{TxnState}
 use Rattle.mt_txn.specs.Shown.{Shows}
 use Rattle.mt_core.specs.Work.{LeavesSteps}
 use Rattle.mt_core.specs.declared.steps.Going.{Going}
@@ -53,6 +56,31 @@ module _ (Is : State → Type 0) (s : State) where
   going_aborted t abort.Again not shows = shows
   going_aborted t abort.Flush not shows = shows
 
+  pub err_returned : (t first : ℕ) (r : Result AbortStepped Refusal) (y : Refusal) → r ≡ Err y → Is s → ReturnsTo Is s t first r
+  err_returned t first r y is shows = subst (λ x. ReturnsTo Is s t first x) (sym is) shows
+
+  -- an inverse that goes on, whatever the state of its transaction
+  pub err_inverted : (t : ℕ) (state : Option TxnState) (r : Result AbortStepped Refusal) (y : Refusal) → r ≡ Err y → Is s → InvertsTo Is s t state r
+  err_inverted t None r y is shows = err_aborted t r y is shows
+  err_inverted t (Some Open) r y is shows = err_aborted t r y is shows
+  err_inverted t (Some Committing) r y is shows = err_aborted t r y is shows
+  err_inverted t (Some (Returning first)) r y is shows = err_returned t first r y is shows
+  err_inverted t (Some Aborting) r y is shows = err_aborted t r y is shows
+
+  pub going_inverted : (t : ℕ) (state : Option TxnState) (x : AbortStepped) → (x ≡ abort.Ended → ⊥) → Is s → InvertsTo Is s t state (Ok x)
+  going_inverted t None x not shows = going_aborted t x not shows
+  going_inverted t (Some Open) x not shows = going_aborted t x not shows
+  going_inverted t (Some Committing) x not shows = going_aborted t x not shows
+  going_inverted t (Some (Returning first)) x not shows = on x not shows
+    where
+      on : (x : AbortStepped) → (x ≡ abort.Ended → ⊥) → Is s → ReturnsTo Is s t first (Ok x)
+      on abort.Ended not shows = absurd (not refl)
+      on abort.More not shows = ∣ (s, stays, shows) ∣₁
+      on (abort.Wait other) not shows = shows
+      on abort.Again not shows = shows
+      on abort.Flush not shows = shows
+  going_inverted t (Some Aborting) x not shows = going_aborted t x not shows
+
 module _ {D : Type 0} {g : Ghosts D} (first : Base) (s : State) where
   pub err_forced : (n : Kernel D g) (r : Result KernelForced Refusal) (y : Refusal) → r ≡ Err y → Shows first s n → HasForced first s r n
   err_forced n r y is shows = subst (λ x. HasForced first s x n) (sym is) shows
@@ -60,11 +88,13 @@ module _ {D : Type 0} {g : Ghosts D} (first : Base) (s : State) where
 -- ---- a call
 
 module _ {D : Type 0} (g : Ghosts D) (relations counters : ℕ) where
-  pub may_call : (k : Core D) (t : ℕ) (op : Op) (origin : Origin) → IsOrigin relations counters origin.first origin → IsNamed relations counters op → IsSized op → state_in k.live.members t ≡ Some Open → All (λ (r : OpScope). r.txn ≢ t) k.running.items → MayBeCalled origin k t op
-  may_call k t op origin is named sized opened idle = record {
+  pub may_call : (k : Core D) (t : ℕ) (op : Op) (origin : Origin) → IsOrigin relations counters origin.first origin → IsNamed relations counters op → IsSized op → state_in k.live.members t ≡ Some Open → All (λ (r : OpScope). r.txn ≢ t) k.running.items → forward_count (calls_of k.live.members t) < 256 → MayBeCalled origin k t op
+  may_call k t op origin is named sized opened idle few = record {
     within = subst (λ (X : Type 0). X) (λ i. IsWithin (sym is.relations_are i) (sym is.counters_are i) op) (within_of relations counters op named sized);
     at_work = open_works (member_of k.live.members t) opened;
+    forwards = ap is_returning opened;
     idle = idle;
+    few = few;
   }
 
   abbrev pub CallShown : Core D → Base → State → ℕ → Op → Result Called Refusal → Type 0

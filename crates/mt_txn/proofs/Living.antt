@@ -1,5 +1,5 @@
 -- Who lives, who runs an operation, and which commits are under way, as a state tells it.
-use Rattle.std.proofs.Common.{◌≡◌, ◌≢◌, ◌==◌, ◌&&◌, ◌||◌, ◌∷◌, [], ℕ, Bool, true, false, cond, List, get_or, Option, Some, None, is_some, ⊎_elim, refl, sym, ap, ◌∙◌, subst, arith}
+use Rattle.std.proofs.Common.{◌≡◌, ◌≢◌, ◌==◌, ◌&&◌, ◌||◌, ◌∷◌, [], ℕ, suc, ◌≤◌, Bool, true, false, cond, List, get_or, Option, Some, None, is_some, ⊎_elim, refl, sym, ap, ◌∙◌, subst, arith}
 use Rattle.std.proofs.Props.{props}
 use Rattle.std.specs.Prelude.{All}
 use Rattle.std.specs.List.{list_any}
@@ -10,11 +10,15 @@ use mathlib.Core.Logic.{∥∥₁_elim}
 use Rattle.mt_disk.specs.declared.device.Device.{Ghosts}
 use Rattle.mt_live.specs.Lives.{member_of}
 use Rattle.mt_live.specs.Machine.{State, is_live}
-use Rattle.mt_live.specs.Members.{Member}
-use Rattle.mt_live.specs.declared.transactions.TxnState.TheVariants.{Open, Committing, Aborting}
+use Rattle.mt_live.specs.Entries.{is_standing, is_forward}
+use Rattle.mt_live.specs.Members.{Member, Noted, standing_count, forward_count}
+use Rattle.mt_live.specs.declared.transactions.Role.{Role}
+use Rattle.mt_live.specs.declared.transactions.Role.TheVariants.{Stands, TakenBack, Back}
+use Rattle.mt_live.specs.declared.transactions.TxnState.TheVariants.{Open, Committing}
 use Rattle.mt_model.specs.Model.{Base}
 use Rattle.mt_model.specs.declared.operations.Op.{Op}
-use Rattle.mt_core.specs.Runs.{running_in, state_in, is_for}
+use Rattle.mt_core.specs.Consistent.{Origin, IsConsistent}
+use Rattle.mt_core.specs.Runs.{running_in, state_in, is_for, goes_back}
 use Rattle.mt_core.specs.declared.parts.Commit.{Commit}
 use Rattle.mt_core.specs.declared.parts.Core.{Core}
 use Rattle.mt_op.specs.declared.scope.OpScope.{OpScope}
@@ -63,11 +67,11 @@ module _ {D : Type 0} (g : Ghosts D) (relations counters : ℕ) where
 
   pub idle_of : (k : Core D) (first : Base) (s : State) → ShowsIn g relations counters first s k → (t : ℕ) → state_in k.live.members t ≡ Some Open → s.running t ≡ None → is_busy k t ≡ false
   idle_of k first s shows t opened none = ∥∥₁_elim shows (hlevel props) (λ (origin, base, is, x).
-      rests_in k.running.items t (λ i d lt own. fore (get_or k.running.items i d) own (x.consistent.fit.owned i d lt).aborts) (ap (λ (z : State). z.running t) (sym x.state) ∙ none))
+      rests_in k.running.items t (λ i d lt own. fore (get_or k.running.items i d) own (x.consistent.fit.owned i d lt).backwards) (ap (λ (z : State). z.running t) (sym x.state) ∙ none))
     where
-      fore : (r : OpScope) → r.txn ≡ t → (r.undoes ≢ 0 → state_in k.live.members r.txn ≡ Some Aborting) → (r.undoes == 0) ≡ true
-      fore r own aborts = ⊎_elim (λ (forward : r.undoes ≡ 0). ap (λ (n : ℕ). n == 0) forward)
-          (λ (back : r.undoes ≢ 0). let now : Some Open ≡ Some Aborting = sym opened ∙ ap (state_in k.live.members) (sym own) ∙ aborts back in absurd cc) (cases_eq r.undoes 0)
+      fore : (r : OpScope) → r.txn ≡ t → (r.undoes ≢ 0 → goes_back (state_in k.live.members r.txn) ≡ true) → (r.undoes == 0) ≡ true
+      fore r own backwards = ⊎_elim (λ (forward : r.undoes ≡ 0). ap (λ (n : ℕ). n == 0) forward)
+          (λ (back : r.undoes ≢ 0). let not : goes_back (state_in k.live.members r.txn) ≡ false = ap goes_back (ap (state_in k.live.members) own ∙ opened) in let is = backwards back in absurd cc) (cases_eq r.undoes 0)
 
   pub no_commits : (k : Core D) → IsWell g relations counters k → ((t : ℕ) → state_in k.live.members t ≢ Some Committing) → k.commits.items ≡ []
   no_commits k well nobody = go k.commits.items refl
@@ -77,3 +81,24 @@ module _ {D : Type 0} (g : Ghosts D) (relations counters : ℕ) where
       go (c ∷ cs) is = absurd (∥∥₁_elim well (hlevel props) (λ (origin, base, is_origin, safe).
           let each : All (λ (d : Commit). state_in k.live.members d.txn ≡ Some Committing) (c ∷ cs) = subst (All (λ (d : Commit). state_in k.live.members d.txn ≡ Some Committing)) is safe.fit.queued.each in
           nobody c.txn (each 0 c (omega arith))))
+
+-- ---- how many of its operations count
+
+standing_forward : (cs : List Noted) → standing_count cs ≤ forward_count cs
+standing_forward [] = omega arith
+standing_forward (c ∷ cs) = go c.role (standing_forward cs)
+  where
+    go : (r : Role) → standing_count cs ≤ forward_count cs → cond (is_standing r) (suc (standing_count cs)) (standing_count cs) ≤ cond (is_forward r) (suc (forward_count cs)) (forward_count cs)
+    go Stands less = omega (arith, less)
+    go TakenBack less = omega (arith, less)
+    go Back less = less
+
+pub few_stand : {D : Type 0} (g : Ghosts D) (origin : Origin) (base : Base) (k : Core D) (t n : ℕ) → IsConsistent g origin base k → Some n ≡ option_map (λ (m : Member). standing_count m.calls) (member_of k.live.members t) → n ≤ 256
+few_stand g origin base k t n safe is = go (member_of k.live.members t) refl is
+  where
+    go : (o : Option Member) → member_of k.live.members t ≡ o → Some n ≡ option_map (λ (m : Member). standing_count m.calls) o → n ≤ 256
+    go None at h = absurd cc
+    go (Some m) at h =
+        let same : n ≡ standing_count m.calls = cc in
+        let few = (safe.outcome t m at).few in
+        let less = standing_forward m.calls in omega (arith, same, few, less)

@@ -37,6 +37,8 @@ use Rattle.mt_replay.specs.Recoverable.{IsRecoverable}
 use Rattle.mt_replay.specs.Stands.{CanRestart, StandsFor}
 use Rattle.mt_replay.specs.Recorded.{stands_for, tells}
 use Rattle.mt_core.proofs.Prefixed.{stands_first, tells_more}
+use Rattle.mt_core.proofs.Restarts.{inverted_consistent}
+use Rattle.mt_core.specs.Runs.{state_in}
 use Rattle.mt_core.proofs.Recovering.{commits_since, since_legal, after_earlier}
 use Rattle.mt_core.specs.Consistent.{Origin, state_of, BacksIn, IsConsistent, IsCalled, IsIn, MayBeCalled, StaysIn}
 use Rattle.mt_core.specs.Restartable.{Recovers, StaysRestartable}
@@ -100,7 +102,7 @@ module _ {D : Type 0} (g : Ghosts D) where
   pub undo_goes : (k n : Core D) (place : ℕ) (res : Result Stepping Refusal) → place < length k.running.items → ((origin : Origin) (base : Base) → IsConsistent g origin base k → UndoSteps g origin base k n place res) → Goes k n
   undo_goes k n place (Ok (Going going)) within go origin base safe = (base, (go origin base safe).consistent)
   undo_goes k n place (Err why) within go origin base safe = (base, (go origin base safe).consistent)
-  undo_goes k n place (Ok (Ended reply)) within go origin base safe = let at = at_place k.running.items place within in (base_after base at.0.op, (go origin base safe at.0 at.1).1.leads.consistent)
+  undo_goes k n place (Ok (Ended reply)) within go origin base safe = let at = at_place k.running.items place within in (base_after base at.0.op, inverted_consistent g origin base (state_of k base) n at.0.txn at.0.op (state_in k.live.members at.0.txn) (go origin base safe at.0 at.1).1)
 
   pub back_goes : (k n : Core D) (place : ℕ) (res : Result TakenBack Refusal) → place < length k.running.items → ((origin : Origin) (base : Base) → IsConsistent g origin base k → BacksIn g origin base k n place res) → Goes k n
   back_goes k n place (Ok taken.More) within go origin base safe = (base, (go origin base safe).consistent)

@@ -1,5 +1,5 @@
 -- What a kernel shows once its parts have met an event, and what it asks of them.
-use Rattle.std.proofs.Common.{◌≡◌, ◌≢◌, ◌⊎◌, ◌<◌, ℕ, true, length, get_or, Option, Some, None, Result, Ok, Err, inl, inr, ⊎_elim, refl, sym, ap, ◌∙◌, subst}
+use Rattle.std.proofs.Common.{◌≡◌, ◌≢◌, ◌⊎◌, ◌<◌, ℕ, true, false, length, get_or, Option, Some, None, Result, Ok, Err, inl, inr, ⊎_elim, refl, sym, ap, ◌∙◌, subst}
 use Rattle.std.proofs.Props.{props}
 use Rattle.std.specs.Prelude.{OnOk, OnErr}
 use Rattle.std.specs.Option.{option_map}
@@ -7,9 +7,10 @@ use Rattle.std.proofs.lemmas.Bool.{cases_eq}
 use mathlib.Core.Logic.{∥∥₁_elim, ∥∥₁_map}
 use Rattle.mt_base.specs.declared.refusal.Refusal.{Refusal}
 use Rattle.mt_disk.specs.declared.device.Device.{Ghosts}
-use Rattle.mt_live.specs.Machine.{State, IsKept, ended, dropped, undone}
+use Rattle.mt_live.specs.Machine.{State, IsKept, ended, dropped, undone, returned}
 use Rattle.mt_live.specs.Members.{Member}
-use Rattle.mt_live.specs.declared.transactions.TxnState.TheVariants.{Open, Aborting}
+use Rattle.mt_live.specs.declared.transactions.TxnState.TheVariants.{Open, Committing, Returning, Aborting}
+use Rattle.mt_live.specs.declared.transactions.TxnState.{TxnState}
 use Rattle.mt_model.specs.History.{IsLegal}
 use Rattle.mt_model.specs.Model.{Base, reply_of, base_after, IsWithin}
 use Rattle.mt_model.specs.declared.operations.Op.{Op}
@@ -19,9 +20,10 @@ use Rattle.mt_op.specs.declared.answers.TakenBack.TheVariants as taken
 use Rattle.mt_op.specs.declared.scope.Stage.{Stage}
 use Rattle.mt_op.specs.declared.scope.Stage.TheVariants.{Planning, Writing, Ready, Taking, Cleared}
 pub use Rattle.mt_core.proofs.Restarts.{at_place, open_works}
+use Rattle.mt_core.proofs.Restarts.{inverted_consistent}
 use Rattle.mt_core.proofs.Underway.{running_at}
-use Rattle.mt_core.specs.Consistent.{Origin, state_of, AtPlace, IsConsistent, IsSound, IsIn, BacksIn, DropsIn, UndoesIn, StaysIn}
-use Rattle.mt_core.specs.Runs.{running_in, state_in, is_at_work, is_open, IsMoving, IsOwned, IsRunning}
+use Rattle.mt_core.specs.Consistent.{Origin, state_of, AtPlace, IsConsistent, IsSound, IsIn, BacksIn, DropsIn, InvertsIn, UndoesIn, StaysIn}
+use Rattle.mt_core.specs.Runs.{running_in, state_in, is_at_work, is_open, is_returning, goes_back, IsMoving, IsOwned, IsRunning}
 use Rattle.mt_core.specs.Steps.{Steps, UndoSteps}
 use Rattle.mt_core.specs.declared.parts.Core.{Core}
 use Rattle.mt_op.specs.declared.scope.OpScope.{OpScope}
@@ -29,10 +31,12 @@ use Rattle.mt_core.specs.declared.steps.Stepping.{Stepping}
 use Rattle.mt_core.specs.declared.steps.Stepping.TheVariants.{Going, Ended}
 use Rattle.mt_op.specs.Operations.{world}
 use Rattle.mt_txn.specs.Causes.{IsNamed, IsSized}
-use Rattle.mt_txn.specs.Events.{IsBack}
+use Rattle.mt_txn.specs.Events.{InvertsTo, IsBack, IsReturn}
+use Rattle.mt_txn.specs.declared.answers.AbortStepped.TheVariants as abort
 use Rattle.mt_txn.specs.Events.IsBack.{stands, drops, undoes}
+use Rattle.mt_txn.specs.Events.IsReturn.{returns}
 use Rattle.mt_txn.specs.Shown.{SameSchema, Stays}
-use Rattle.mt_txn.specs.Well.{IsWell, ShowsIn}
+use Rattle.mt_txn.specs.Well.{IsOrigin, IsWell, ShowsIn}
 use Rattle.mt_txn.specs.declared.kernel.Kernel.{Kernel}
 
 -- ---- one of the operations under way
@@ -72,8 +76,8 @@ module _ {D : Type 0} (g : Ghosts D) (relations counters : ℕ) where
   pub forward_of : (k : Core D) (t place : ℕ) → IsWell g relations counters k → place < length k.running.items → AtPlace k.running.items place (λ r. r.txn ≡ t) → state_in k.live.members t ≡ Some Open → AtPlace k.running.items place (λ r. r.undoes ≡ 0)
   forward_of k t place well within own opened r there = ⊎_elim (λ (fore : r.undoes ≡ 0). fore) (λ (back : r.undoes ≡ 0 → ⊥).
       absurd (∥∥₁_elim well (hlevel props) (λ (origin, base, is, safe).
-      let aborts = (own_of k place r within there origin base safe).0.aborts back in
-      let now : state_in k.live.members t ≡ Some Aborting = ap (state_in k.live.members) (sym (own r there)) ∙ aborts in absurd cc))) (cases_eq r.undoes 0)
+      let backwards = (own_of k place r within there origin base safe).0.backwards back in
+      let not : goes_back (state_in k.live.members r.txn) ≡ false = ap goes_back (ap (state_in k.live.members) (own r there) ∙ opened) in absurd cc))) (cases_eq r.undoes 0)
 
   pub stage_of : (k : Core D) (t place : ℕ) → IsWell g relations counters k → place < length k.running.items → AtPlace k.running.items place (λ r. r.txn ≡ t) → state_in k.live.members t ≡ Some Open → AtPlace k.running.items place (λ r. (r.stage ≡ Planning) ⊎ (r.stage ≡ Writing))
   stage_of k t place well within own opened r there = going_of r.stage (∥∥₁_map well (λ (origin, base, is, safe). let mine = own_of k place r within there origin base safe in (
@@ -82,6 +86,12 @@ module _ {D : Type 0} (g : Ghosts D) (relations counters : ℕ) where
         let aborting = (mine.0.taken taking).1 in
         let now : state_in k.live.members t ≡ Some Aborting = ap (state_in k.live.members) (sym (own r there)) ∙ aborting in absurd cc,
   )))
+
+  -- of one that goes back and then on there are inverses alone
+  pub inverse_of : (k : Core D) (t place first : ℕ) → IsWell g relations counters k → place < length k.running.items → AtPlace k.running.items place (λ r. r.txn ≡ t) → state_in k.live.members t ≡ Some (Returning first) → AtPlace k.running.items place (λ r. r.undoes ≢ 0)
+  inverse_of k t place first well within own returning r there fore = ∥∥₁_elim well (hlevel props) (λ (origin, base, is, safe).
+      let forwards = (own_of k place r within there origin base safe).0.forwards fore in
+      let now : is_returning (state_in k.live.members r.txn) ≡ true = ap is_returning (ap (state_in k.live.members) (own r there) ∙ returning) in absurd cc)
 
   -- an inverse is not taken back
   pub inverse_stage : (k : Core D) (place : ℕ) → IsWell g relations counters k → place < length k.running.items → AtPlace k.running.items place (λ r. r.undoes ≢ 0) → AtPlace k.running.items place (λ r. (r.stage ≡ Planning) ⊎ (r.stage ≡ Writing))
@@ -170,29 +180,56 @@ module _ {D : Type 0} (g : Ghosts D) (relations counters : ℕ) where
   pub back_stands : (n : Core D) (first : Base) (s : State) (t : ℕ) → ShowsIn g relations counters first s n → ShowsBack n first s t
   back_stands n first s t shows = ∣ (s, stands, shows) ∣₁
 
-  abbrev pub UndoShown : Core D → Base → State → ℕ → Result Stepping Refusal → Type 0
-  UndoShown n first s t (Ok (Ended reply)) = ShowsBack n first s t
-  UndoShown n first s t (Ok (Going going)) = ShowsIn g relations counters first s n
-  UndoShown n first s t (Err why) = ShowsIn g relations counters first s n
+  abbrev pub ShowsReturn : Core D → Base → State → ℕ → Type 0
+  ShowsReturn n first s t = ∥ ((z : State) × IsReturn s t z × ShowsIn g relations counters first z n) ∥₁
+
+  -- an inverse has ended, as its transaction is to be undone or goes on
+  abbrev pub InvertedTo : Core D → Base → State → ℕ → Option TxnState → Type 0
+  InvertedTo n first s t None = ShowsBack n first s t
+  InvertedTo n first s t (Some Open) = ShowsBack n first s t
+  InvertedTo n first s t (Some Committing) = ShowsBack n first s t
+  InvertedTo n first s t (Some (Returning many)) = ShowsReturn n first s t
+  InvertedTo n first s t (Some Aborting) = ShowsBack n first s t
+
+  abbrev pub UndoShown : Core D → Base → State → ℕ → Option TxnState → Result Stepping Refusal → Type 0
+  UndoShown n first s t state (Ok (Ended reply)) = InvertedTo n first s t state
+  UndoShown n first s t state (Ok (Going going)) = ShowsIn g relations counters first s n
+  UndoShown n first s t state (Err why) = ShowsIn g relations counters first s n
+
+  inverted_shown : (n : Core D) (first : Base) (s : State) (t : ℕ) (i : Op) (state : Option TxnState) → ∥ ((origin : Origin) × (base : Base) × IsOrigin relations counters first origin × InvertsIn g origin base s n t i state) ∥₁ → InvertedTo n first s t state
+  inverted_shown n first s t i state outcome = go state outcome
+    where
+      back : ∥ ((origin : Origin) × (base : Base) × IsOrigin relations counters first origin × UndoesIn g origin base s n t i) ∥₁ → ShowsBack n first s t
+      back outcome = ∥∥₁_map outcome (λ (origin, base, is, u). (undone s t i n.escrow.pending, undoes u.last i n.escrow.pending u.idle u.effect u.inverts u.given, ∣ (origin, base_after base i, is, u.leads) ∣₁))
+
+      go : (x : Option TxnState) → ∥ ((origin : Origin) × (base : Base) × IsOrigin relations counters first origin × InvertsIn g origin base s n t i x) ∥₁ → InvertedTo n first s t x
+      go None h = back h
+      go (Some Open) h = back h
+      go (Some Committing) h = back h
+      go (Some Aborting) h = back h
+      go (Some (Returning many)) h = ∥∥₁_map h (λ (origin, base, is, u). (returned s t u.last i n.escrow.pending, returns u.last i n.escrow.pending u.idle u.effect u.inverts u.given, ∣ (origin, base_after base i, is, u.leads) ∣₁))
 
   pub undo_shown : (k n : Core D) (first : Base) (s : State) (t place : ℕ) (res : Result Stepping Refusal) → place < length k.running.items → AtPlace k.running.items place (λ r. r.txn ≡ t)
-      → ((origin : Origin) (base : Base) → IsConsistent g origin base k → UndoSteps g origin base k n place res) → ShowsIn g relations counters first s k → UndoShown n first s t res
+      → ((origin : Origin) (base : Base) → IsConsistent g origin base k → UndoSteps g origin base k n place res) → ShowsIn g relations counters first s k → UndoShown n first s t (state_in k.live.members t) res
   undo_shown k n first s t place (Ok (Going going)) within own go shows = led k n (λ z. z) first s (λ origin base safe. (base, go origin base safe)) shows
   undo_shown k n first s t place (Err why) within own go shows = led k n (λ z. z) first s (λ origin base safe. (base, go origin base safe)) shows
   undo_shown k n first s t place (Ok (Ended reply)) within own go shows = let at = at_place k.running.items place within in let r = at.0 in
-      ∥∥₁_map shows (λ (origin, base, is, x).
-      let u = subst (λ (X : Type 0). X) (λ i. UndoesIn g origin base (sym x.state i) n (own r at.1 i) r.op) (go origin base x.consistent r at.1).1 in (
-        undone s t r.op n.escrow.pending,
-        undoes u.last r.op n.escrow.pending u.idle u.effect u.inverts u.given,
-        ∣ (origin, base_after base r.op, is, u.leads) ∣₁,
-      ))
+      inverted_shown n first s t r.op (state_in k.live.members t)
+      (∥∥₁_map shows (λ (origin, base, is, x). (origin, base, is, subst (λ (X : Type 0). X) (λ i. InvertsIn g origin base (sym x.state i) n (own r at.1 i) r.op (state_in k.live.members (own r at.1 i))) (go origin base x.consistent r at.1).1)))
+
+  pub ended_inverted : (n : Core D) (first : Base) (s : State) (t : ℕ) (state : Option TxnState) → InvertedTo n first s t state → InvertsTo (λ z. ShowsIn g relations counters first z n) s t state (Ok abort.More)
+  ended_inverted n first s t None h = h
+  ended_inverted n first s t (Some Open) h = h
+  ended_inverted n first s t (Some Committing) h = h
+  ended_inverted n first s t (Some (Returning many)) h = h
+  ended_inverted n first s t (Some Aborting) h = h
 
   pub undo_well : (k n : Core D) (place : ℕ) (res : Result Stepping Refusal) → place < length k.running.items
       → ((origin : Origin) (base : Base) → IsConsistent g origin base k → UndoSteps g origin base k n place res) → IsWell g relations counters k → IsWell g relations counters n
   undo_well k n place (Ok (Going going)) within go well = well_led k n (λ z. z) (λ origin base safe. (base, go origin base safe)) well
   undo_well k n place (Err why) within go well = well_led k n (λ z. z) (λ origin base safe. (base, go origin base safe)) well
   undo_well k n place (Ok (Ended reply)) within go well = let at = at_place k.running.items place within in
-      ∥∥₁_map well (λ (origin, base, is, safe). (origin, base_after base at.0.op, is, (go origin base safe at.0 at.1).1.leads.consistent))
+      ∥∥₁_map well (λ (origin, base, is, safe). (origin, base_after base at.0.op, is, inverted_consistent g origin base (state_of k base) n at.0.txn at.0.op (state_in k.live.members at.0.txn) (go origin base safe at.0 at.1).1))
 
   abbrev pub BackShown : Core D → Base → State → ℕ → Result TakenBack Refusal → Type 0
   BackShown n first s t (Ok taken.Clear) = ShowsBack n first s t

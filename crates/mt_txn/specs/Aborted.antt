@@ -1,20 +1,21 @@
--- What a step of an abort does, if nothing forbids it.
-use Rattle.std.specs.Prelude.{ℕ, ◌≡◌, ◌≢◌, IfErr, IfOk, List, None, OnErr, Result, Ok, Err, true}
+-- What a step of an abort does, and of going back, if nothing forbids it.
+use Rattle.std.specs.Prelude.{ℕ, ◌≡◌, ◌≢◌, IfErr, IfOk, List, None, OnErr, Result, Some, Ok, Err, true}
 use Rattle.mt_base.specs.declared.refusal.Refusal.{Refusal}
 use Rattle.mt_base.specs.declared.refusal.Refusal.TheVariants.{DeviceFailed, NoMemory}
 use Rattle.mt_disk.specs.declared.device.Device.{Ghosts}
-use Rattle.mt_core.specs.Consistent.{SameCommits, SameStates, SameStatesBut}
-use Rattle.mt_core.specs.Runs.{state_in}
+use Rattle.mt_core.specs.Consistent.{SameCommits, SameStates, SameStatesBut, SetsState}
+use Rattle.mt_core.specs.Runs.{count_in, state_in}
 use Rattle.mt_core.specs.Steps.{WantsFrame}
 use Rattle.mt_core.specs.Work.{KeepsOthers, undo_steps}
 use Rattle.mt_live.specs.Machine.{State}
+use Rattle.mt_live.specs.declared.transactions.TxnState.TheVariants.{Open}
 use Rattle.mt_log.specs.Words.{durable}
 use Rattle.mt_model.specs.Model.{Base}
 use Rattle.mt_pool.specs.Views.{pages}
 use Rattle.mt_txn.specs.Causes.{IsFault}
-use Rattle.mt_txn.specs.Events.{HasAborted}
+use Rattle.mt_txn.specs.Events.{HasAborted, HasReturned, InvertsTo}
 use Rattle.mt_txn.specs.Shown.{CallsOnce, LeavesFound, SameSchema, Shows, StaysRestarting, TellsEachFault, is_failed, kernel_log, kernel_pool}
-use Rattle.mt_txn.specs.Work.{IsAbortForOther, LowersAbort}
+use Rattle.mt_txn.specs.Work.{IsAbortForOther, LowersAbort, LowersReturn}
 use Rattle.mt_txn.specs.declared.answers.AbortStepped.{AbortStepped}
 use Rattle.mt_txn.specs.declared.answers.AbortStepped.TheVariants.{Ended, Flush}
 use Rattle.mt_txn.specs.declared.kernel.Kernel.{Kernel}
@@ -39,3 +40,47 @@ module _ {D : Type 0} {g : Ghosts D} where
     pub once : CallsOnce k n
     pub others : KeepsOthers t k.core.running.items n.core.running.items
     pub aborted : (first : Base) (s : State) → Shows first s k → HasAborted first s t result n
+
+  -- From kernel k a step of the inverse of t under way answered this, and left kernel n.
+  pub record StepsInverse (k : Kernel D g) (t : ℕ) (result : Result AbortStepped Refusal)
+      (n : Kernel D g) : Type 0 where
+    pub why : IfErr result (λ why. why ≢ NoMemory → IsFault g k.core n.core why)
+    pub fails : result ≡ Err DeviceFailed → is_failed n ≡ true
+    pub quiet : TellsEachFault k result n
+    pub states : IfOk result (λ stepped. stepped ≢ Ended → SameStates k.core n.core)
+    pub work : LowersAbort (pages (kernel_pool k)) result (undo_steps k.core t) (undo_steps n.core t)
+    pub other : IfOk result (λ stepped. IsAbortForOther k.core.live.members t stepped)
+    pub full : result ≡ Ok Flush → WantsFrame k.core n.core
+    pub durable : durable (kernel_log n) ≡ durable (kernel_log k)
+    pub commits : SameCommits k.core n.core
+    pub err_states : OnErr result (SameStates k.core n.core)
+    pub goes : result ≡ Ok Ended → ⊥
+    pub schema : SameSchema k n
+    pub restarts : StaysRestarting k n
+    pub moments : LeavesFound k n
+    pub once : CallsOnce k n
+    pub others : KeepsOthers t k.core.running.items n.core.running.items
+    pub inverted : (first : Base) (s : State) → Shows first s k
+        → InvertsTo (λ z. Shows first z n) s t (state_in k.core.live.members t) result
+
+  -- From kernel k a step answered this of t's going back to its first so many, and left kernel n.
+  pub record StepsReturn (k : Kernel D g) (t first : ℕ) (result : Result AbortStepped Refusal)
+      (n : Kernel D g) : Type 0 where
+    pub why : IfErr result (λ why. why ≢ NoMemory → IsFault g k.core n.core why)
+    pub fails : result ≡ Err DeviceFailed → is_failed n ≡ true
+    pub quiet : TellsEachFault k result n
+    pub states : IfOk result (λ stepped. stepped ≢ Ended → SameStates k.core n.core)
+    pub work : LowersReturn (pages (kernel_pool k)) result (undo_steps k.core t) (undo_steps n.core t)
+    pub other : IfOk result (λ stepped. IsAbortForOther k.core.live.members t stepped)
+    pub full : result ≡ Ok Flush → WantsFrame k.core n.core
+    pub durable : durable (kernel_log n) ≡ durable (kernel_log k)
+    pub commits : SameCommits k.core n.core
+    pub err_states : OnErr result (SameStates k.core n.core)
+    pub opened : result ≡ Ok Ended
+        → SetsState k.core n.core t (Some Open) × (count_in n.core.live.members t ≡ Some first)
+    pub schema : SameSchema k n
+    pub restarts : StaysRestarting k n
+    pub moments : LeavesFound k n
+    pub once : CallsOnce k n
+    pub others : KeepsOthers t k.core.running.items n.core.running.items
+    pub back : (base : Base) (s : State) → Shows base s k → HasReturned base s t first result n

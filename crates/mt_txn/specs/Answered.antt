@@ -14,7 +14,7 @@ use Rattle.mt_log.specs.Words.{appended, waiting}
 use Rattle.mt_model.specs.Model.{Base}
 use Rattle.mt_model.specs.declared.operations.Op.{Op}
 use Rattle.mt_pool.specs.declared.flushes.Flushed.{Flushed}
-use Rattle.mt_txn.specs.Causes.{IsFailure, IsFault, IsRefusedAtOnce, abort_cause, begin_cause, call_cause, commit_cause, open_cause, step_cause}
+use Rattle.mt_txn.specs.Causes.{IsFailure, IsFault, IsRefusedAtOnce, abort_begin_cause, abort_cause, begin_cause, call_cause, commit_cause, step_cause}
 use Rattle.mt_txn.specs.Events.{AbortsTo, AnswersIn, IsForcedBy, StepsTo}
 use Rattle.mt_txn.specs.Seen.{KernelSeen, ShowsSeen, has_failed_in}
 use Rattle.mt_txn.specs.declared.answers.AbortStepped.{AbortStepped}
@@ -51,8 +51,8 @@ module _ {D : Type 0} where
   -- the transaction is to be undone then, or nothing has changed
   pub record AnswersAbort (k : KernelSeen D) (t : ℕ) (result : Result (Unit {0}) Refusal)
       (n : KernelSeen D) : Type 0 where
-    pub may : OnOk result (open_cause (has_failed_in k) k.core t ≡ None)
-    pub why : IfErr result (λ why. open_cause (has_failed_in k) k.core t ≡ Some why)
+    pub may : OnOk result (abort_begin_cause (has_failed_in k) k.core t ≡ None)
+    pub why : IfErr result (λ why. abort_begin_cause (has_failed_in k) k.core t ≡ Some why)
     pub aborts : OnOk result (SetsState k.core n.core t (Some Aborting))
     pub err : OnErr result (n ≡ k)
 

@@ -7,13 +7,14 @@ use Rattle.mt_base.specs.Limits.{IsKey, IsValue, IsStep}
 use Rattle.mt_base.specs.declared.refusal.Refusal.{Refusal}
 use Rattle.mt_base.specs.declared.refusal.Refusal.TheVariants as refusal
 use Rattle.mt_live.specs.Lives.{calls_of}
+use Rattle.mt_live.specs.Members.{forward_count, standing_count}
 use Rattle.mt_live.specs.declared.transactions.TxnState.{TxnState}
-use Rattle.mt_live.specs.declared.transactions.TxnState.TheVariants.{Open, Aborting}
+use Rattle.mt_live.specs.declared.transactions.TxnState.TheVariants.{Open, Returning, Aborting}
 use Rattle.mt_log.specs.Words.{area_size}
 use Rattle.mt_model.specs.declared.operations.Op.{Op}
 use Rattle.mt_model.specs.declared.operations.Op.TheVariants.{Get, Insert, Update, Delete, Add, Read, Scan}
 use Rattle.mt_core.specs.Consistent.{log_kept}
-use Rattle.mt_core.specs.Runs.{state_in}
+use Rattle.mt_core.specs.Runs.{state_in, is_returning}
 use Rattle.mt_core.specs.declared.parts.Core.{Core}
 use Rattle.mt_op.specs.declared.scope.OpScope.{OpScope}
 use Rattle.mt_core.specs.Seen.{core_device, core_log, core_last}
@@ -53,6 +54,12 @@ abbrev pub is_open : Option TxnState → Bool
 is_open (Some Open) = true
 is_open _ = false
 
+-- it is open, or goes back and then on
+abbrev pub may_abort : Option TxnState → Bool
+may_abort (Some Open) = true
+may_abort (Some (Returning first)) = true
+may_abort _ = false
+
 abbrev pub is_aborting : Option TxnState → Bool
 is_aborting (Some Aborting) = true
 is_aborting _ = false
@@ -62,10 +69,20 @@ abbrev pub open_cause : {D : Type 0} → Bool → Core D → ℕ → Option Refu
 open_cause failed k t =
     if failed then Some refusal.DeviceFailed else unless (is_open (state_in k.live.members t)) refusal.Stranger
 
+-- why a transaction cannot begin to be undone, if it cannot
+abbrev pub abort_begin_cause : {D : Type 0} → Bool → Core D → ℕ → Option Refusal
+abort_begin_cause failed k t =
+    if failed then Some refusal.DeviceFailed else unless (may_abort (state_in k.live.members t)) refusal.Stranger
+
 -- why a step of an abort is
 abbrev pub abort_cause : {D : Type 0} → Bool → Core D → ℕ → Option Refusal
 abort_cause failed k t =
     if failed then Some refusal.DeviceFailed else unless (is_aborting (state_in k.live.members t)) refusal.Stranger
+
+-- why a step of going back is
+abbrev pub return_cause : {D : Type 0} → Bool → Core D → ℕ → Option Refusal
+return_cause failed k t =
+    if failed then Some refusal.DeviceFailed else unless (is_returning (state_in k.live.members t)) refusal.Stranger
 
 -- whether an operation of it is under way
 abbrev pub is_busy : {D : Type 0} → Core D → ℕ → Bool
@@ -80,14 +97,24 @@ step_cause failed k t = first_of (open_cause failed k t) (unless (is_busy k t) r
 abbrev pub commit_cause : {D : Type 0} → Bool → Core D → ℕ → Option Refusal
 commit_cause failed k t = first_of (open_cause failed k t) (busy_cause k t)
 
+-- fewer of its operations stand than it is to go back to
+abbrev pub savepoint_cause : {D : Type 0} → Core D → ℕ → ℕ → Option Refusal
+savepoint_cause k t first = unless (nat_le first (standing_count (calls_of k.live.members t))) refusal.BadSavepoint
+
+-- why it cannot go back to so many, if it cannot
+abbrev pub back_cause : {D : Type 0} → Bool → Core D → ℕ → ℕ → Option Refusal
+back_cause failed k t first = first_of (commit_cause failed k t) (savepoint_cause k t first)
+
 -- why the pages cannot be surveyed, if they cannot
 abbrev pub survey_cause : {D : Type 0} → Bool → Core D → Option Refusal
 survey_cause failed k =
     if failed then Some refusal.DeviceFailed else if nat_eq (length k.live.members) 0 then None else Some refusal.Busy
 
--- it has called as many operations as it may, or 2^40 were called by all
+-- As many of its operations have ended as it may call, those that it took back among them and not their inverses; or
+-- 2^40 were called by all.
 abbrev pub count_cause : {D : Type 0} → Core D → ℕ → Option Refusal
-count_cause k t = if nat_le MAX_OPERATIONS (length (calls_of k.live.members t)) || nat_le MAX_BEGUN (core_last k) then
+count_cause k t =
+    if nat_le MAX_OPERATIONS (forward_count (calls_of k.live.members t)) || nat_le MAX_BEGUN (core_last k) then
     Some refusal.TooManyOperations else None
 
 -- ---- the operation

@@ -5,15 +5,15 @@ use Rattle.mt_base.specs.declared.refusal.Refusal.{Refusal}
 use Rattle.mt_core.specs.Work.{KeepsOthers}
 use Rattle.mt_core.specs.declared.parts.Commit.{Commit}
 use Rattle.mt_frame.specs.declared.records.Record.TheVariants as record_of
-use Rattle.mt_live.specs.declared.transactions.TxnState.TheVariants.{Committing}
+use Rattle.mt_live.specs.declared.transactions.TxnState.TheVariants.{Committing, Open, Returning}
 use Rattle.mt_log.specs.Words.{appended, durable, waiting}
 use Rattle.mt_pool.specs.Views.{AreClean, Cleans, IsWaiting, SamePlaces, pages, to_flush}
 use Rattle.mt_pool.specs.declared.flushes.Flushed.{Flushed}
 use Rattle.mt_pool.specs.declared.flushes.Flushed.TheVariants as flushed
 use Rattle.mt_txn.specs.PageLocks.{AbortsLocks, OfRunning, StepsLocks}
 use Rattle.mt_txn.specs.Shown.{kernel_log, kernel_page_locks, kernel_pool, kernel_ruling}
-use Rattle.mt_txn.specs.Words.{CommitsStay, FrameIsWanted, NumbersStay, RunningStays, StateIsSet, StatesStay, StatesStayBut, UncommittedStay, UndoStays, kernel_abort_cause, kernel_commits, kernel_is_busy, kernel_last, kernel_members, kernel_running, kernel_state, kernel_step_cause, kernel_steps, kernel_undo_steps}
-use Rattle.mt_txn.specs.Work.{IsAbortForOther, IsForOther, LowersAbort, LowersSteps}
+use Rattle.mt_txn.specs.Words.{CommitsStay, FrameIsWanted, NumbersStay, RunningStays, StateIsSet, StatesStay, StatesStayBut, UncommittedStay, UndoStays, kernel_abort_cause, kernel_commits, kernel_count, kernel_is_busy, kernel_last, kernel_members, kernel_return_cause, kernel_running, kernel_state, kernel_step_cause, kernel_steps, kernel_undo_steps}
+use Rattle.mt_txn.specs.Work.{IsAbortForOther, IsForOther, LowersAbort, LowersReturn, LowersSteps}
 use Rattle.mt_txn.specs.Writes.{WritesOnePage}
 use Rattle.mt_txn.specs.declared.answers.AbortStepped.{AbortStepped}
 use Rattle.mt_txn.specs.declared.answers.AbortStepped.TheVariants as abort
@@ -60,6 +60,32 @@ module _ {D : Type 0} {g : Ghosts D} where
   pub record LeavesAbort (k : Kernel D g) (t : ℕ) (result : Result AbortStepped Refusal) (n : Kernel D g) : Type 0 where
     pub states : IfOk result (λ stepped. stepped ≢ abort.Ended → StatesStay k n)
     pub out : result ≡ Ok abort.Ended → (kernel_state n t ≡ None) × StatesStayBut k n t
+    pub err_states : OnErr result (StatesStay k n)
+    pub durable : durable (kernel_log n) ≡ durable (kernel_log k)
+    pub commits : CommitsStay k n
+    pub numbers : kernel_is_busy k t ≡ true → NumbersStay k n
+    pub numbered : kernel_is_busy k t ≡ false → result ≡ Ok abort.More → kernel_last n ≡ kernel_last k + 1
+    pub unnumbered : result ≢ Ok abort.More → NumbersStay k n
+
+  -- ---- a step of t's going back to its first so many operations
+
+  -- It does as one of an abort.
+  pub record MovesReturn (k : Kernel D g) (t : ℕ) (result : Result AbortStepped Refusal) (n : Kernel D g) : Type 0 where
+    pub work : LowersReturn (pages (kernel_pool k)) result (kernel_undo_steps k t) (kernel_undo_steps n t)
+    pub others : KeepsOthers t (kernel_running k) (kernel_running n)
+    pub other : IfOk result (λ stepped. IsAbortForOther (kernel_members k) t stepped)
+    pub full : result ≡ Ok abort.Flush → FrameIsWanted k n
+    pub locks : kernel_return_cause k t ≡ None → kernel_is_busy k t ≡ true
+        → OfRunning (kernel_running k) t (λ r. AbortsLocks k.core n.core r result)
+    pub idle : kernel_is_busy k t ≡ false → kernel_page_locks n ≡ kernel_page_locks k
+
+  -- The transaction is open once it ends, and those first operations count; it lives with its locks. The others, the
+  -- commits and what is durable stay. It takes a number if it begins an inverse, and else none.
+  pub record LeavesReturn (k : Kernel D g) (t : ℕ) (result : Result AbortStepped Refusal)
+      (n : Kernel D g) : Type 0 where
+    pub states : IfOk result (λ stepped. stepped ≢ abort.Ended → StatesStay k n)
+    pub opened : (first : ℕ) → kernel_state k t ≡ Some (Returning first) → result ≡ Ok abort.Ended
+        → StateIsSet k n t (Some Open) × (kernel_count n t ≡ Some first)
     pub err_states : OnErr result (StatesStay k n)
     pub durable : durable (kernel_log n) ≡ durable (kernel_log k)
     pub commits : CommitsStay k n

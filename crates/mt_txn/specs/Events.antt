@@ -1,11 +1,13 @@
 -- What the calls do to the state that a kernel shows.
-use Rattle.std.specs.Prelude.{ℕ, ◌≡◌, true, drop, List, Some, None, Result, Ok, Err}
+use Rattle.std.specs.Prelude.{ℕ, ◌≡◌, true, drop, List, Option, Some, None, Result, Ok, Err}
 use Rattle.mt_base.specs.declared.refusal.Refusal.{Refusal}
 use Rattle.mt_disk.specs.declared.device.Device.{Ghosts}
 use Rattle.mt_live.specs.Adds.{GivesBack}
 use Rattle.mt_live.specs.Entries.{Entry}
-use Rattle.mt_live.specs.Machine.{State, called, ended, dropped, undone, gone}
-use Rattle.mt_live.specs.Undoing.{last_effect}
+use Rattle.mt_live.specs.Machine.{State, called, ended, dropped, undone, returned, settled, gone}
+use Rattle.mt_live.specs.Undoing.{after_first, last_effect}
+use Rattle.mt_live.specs.declared.transactions.TxnState.{TxnState}
+use Rattle.mt_live.specs.declared.transactions.TxnState.TheVariants.{Open, Committing, Returning, Aborting}
 use Rattle.mt_model.specs.Model.{Base, reply_of, inverse_of}
 use Rattle.mt_model.specs.declared.operations.Op.{Op}
 use Rattle.mt_model.specs.declared.pending_add.Pending.{Pending}
@@ -97,3 +99,35 @@ AbortsTo Is s t (Err why) = Is s
 abbrev pub HasAborted : {D : Type 0} → {g : Ghosts D} → Base → State → ℕ → Result AbortStepped Refusal → Kernel D g
     → Type 0
 HasAborted first s t result n = AbortsTo (λ z. Shows first z n) s t result
+
+-- ---- a transaction that goes back to its first so many operations, and then on
+
+-- What a step of it may lead to: the state as it was; or the last effect of the transaction and the inverse of that,
+-- which both stand. An add is set aside with it, if it was one, and no other.
+pub data IsReturn (s : State) (t : ℕ) : State → Type 0 where
+  stays : IsReturn s t s
+  returns : (last : Entry) (inverse : Op) (ps : List Pending) → s.running t ≡ None
+      → last_effect t s.standing ≡ Some last → inverse_of last.op last.reply ≡ Some inverse
+      → GivesBack t last.op s.pending ps → IsReturn s t (returned s t last inverse ps)
+
+-- What a step of t's going back to its first so many did to what is in this state.
+abbrev pub ReturnsTo : (State → Type 0) → State → ℕ → ℕ → Result AbortStepped Refusal → Type 0
+ReturnsTo Is s t first (Ok abort.More) = ∥ ((z : State) × IsReturn s t z × Is z) ∥₁
+ReturnsTo Is s t first (Ok (abort.Wait other)) = Is s
+ReturnsTo Is s t first (Ok abort.Again) = Is s
+ReturnsTo Is s t first (Ok abort.Flush) = Is s
+ReturnsTo Is s t first (Ok abort.Ended) =
+    Is (settled s t first) × ∥ last_effect t (after_first t first s.standing) ≡ None ∥₁
+ReturnsTo Is s t first (Err why) = Is s
+
+abbrev pub HasReturned : {D : Type 0} → {g : Ghosts D} → Base → State → ℕ → ℕ → Result AbortStepped Refusal
+    → Kernel D g → Type 0
+HasReturned base s t first result n = ReturnsTo (λ z. Shows base z n) s t first result
+
+-- What a step of an inverse did, by the state of its transaction.
+abbrev pub InvertsTo : (State → Type 0) → State → ℕ → Option TxnState → Result AbortStepped Refusal → Type 0
+InvertsTo Is s t None r = AbortsTo Is s t r
+InvertsTo Is s t (Some Open) r = AbortsTo Is s t r
+InvertsTo Is s t (Some Committing) r = AbortsTo Is s t r
+InvertsTo Is s t (Some (Returning first)) r = ReturnsTo Is s t first r
+InvertsTo Is s t (Some Aborting) r = AbortsTo Is s t r

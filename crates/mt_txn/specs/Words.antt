@@ -2,7 +2,7 @@
 use Rattle.std.specs.Prelude.{ℕ, ◌≡◌, Bool, List, Option}
 use Rattle.mt_base.specs.declared.refusal.Refusal.{Refusal}
 use Rattle.mt_core.specs.Consistent.{SameCommits, SameRunning, SameStates, SameStatesBut, SameUncommitted, SetsState}
-use Rattle.mt_core.specs.Runs.{state_in}
+use Rattle.mt_core.specs.Runs.{count_in, state_in}
 use Rattle.mt_core.specs.Seen.{core_commits, core_holds, core_last, core_store}
 use Rattle.mt_core.specs.Steps.{WantsFrame}
 use Rattle.mt_core.specs.Work.{LeavesUndo, steps_in, undo_steps}
@@ -17,7 +17,7 @@ use Rattle.mt_model.specs.declared.objects.Object.{Object}
 use Rattle.mt_model.specs.declared.operations.Op.{Op}
 use Rattle.mt_op.specs.declared.scope.OpScope.{OpScope}
 use Rattle.mt_pool.specs.declared.store.Store.{Store}
-use Rattle.mt_txn.specs.Causes.{IsFailure, IsFault, abort_cause, begin_cause, call_cause, commit_cause, is_busy, open_cause, step_cause, survey_cause}
+use Rattle.mt_txn.specs.Causes.{IsFailure, IsFault, abort_begin_cause, abort_cause, back_cause, begin_cause, call_cause, commit_cause, is_busy, open_cause, return_cause, step_cause, survey_cause}
 use Rattle.mt_txn.specs.Restarted.{FindsCommits, FindsMeanwhile, all_commits}
 use Rattle.mt_txn.specs.Shown.{is_failed}
 use Rattle.mt_txn.specs.declared.kernel.Kernel.{Kernel}
@@ -49,6 +49,10 @@ kernel_members k = k.core.live.members
 
 abbrev pub kernel_state : {D : Type 0} → {g : Ghosts D} → Kernel D g → ℕ → Option TxnState
 kernel_state k t = state_in k.core.live.members t
+
+-- how many of its operations count, if it lives
+abbrev pub kernel_count : {D : Type 0} → {g : Ghosts D} → Kernel D g → ℕ → Option ℕ
+kernel_count k t = count_in k.core.live.members t
 
 -- whether a transaction holds the lock of an object in a mode
 abbrev pub kernel_holds : {D : Type 0} → {g : Ghosts D} → Kernel D g → ℕ → Object → LockMode → Bool
@@ -85,12 +89,22 @@ kernel_step_cause k t = step_cause (is_failed k) k.core t
 abbrev pub kernel_commit_cause : {D : Type 0} → {g : Ghosts D} → Kernel D g → ℕ → Option Refusal
 kernel_commit_cause k t = commit_cause (is_failed k) k.core t
 
--- of the beginning of an abort, and of a step of it
 abbrev pub kernel_open_cause : {D : Type 0} → {g : Ghosts D} → Kernel D g → ℕ → Option Refusal
 kernel_open_cause k t = open_cause (is_failed k) k.core t
 
+-- of the beginning of an abort, and of a step of it
+abbrev pub kernel_abort_begin_cause : {D : Type 0} → {g : Ghosts D} → Kernel D g → ℕ → Option Refusal
+kernel_abort_begin_cause k t = abort_begin_cause (is_failed k) k.core t
+
 abbrev pub kernel_abort_cause : {D : Type 0} → {g : Ghosts D} → Kernel D g → ℕ → Option Refusal
 kernel_abort_cause k t = abort_cause (is_failed k) k.core t
+
+-- of going back to so many operations, and of a step of that
+abbrev pub kernel_back_cause : {D : Type 0} → {g : Ghosts D} → Kernel D g → ℕ → ℕ → Option Refusal
+kernel_back_cause k t first = back_cause (is_failed k) k.core t first
+
+abbrev pub kernel_return_cause : {D : Type 0} → {g : Ghosts D} → Kernel D g → ℕ → Option Refusal
+kernel_return_cause k t = return_cause (is_failed k) k.core t
 
 abbrev pub kernel_survey_cause : {D : Type 0} → {g : Ghosts D} → Kernel D g → Option Refusal
 kernel_survey_cause k = survey_cause (is_failed k) k.core

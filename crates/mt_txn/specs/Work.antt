@@ -74,3 +74,12 @@ LowersAbort pages (Ok abort.Again) before now = now ≤ before + 2 * pages
 LowersAbort pages (Ok abort.Flush) before now = now ≤ before
 LowersAbort pages (Ok abort.Ended) before now = before ≡ 0
 LowersAbort pages (Err why) before now = now ≤ before
+
+-- So does a step of going back, but that ends with what came before still to be undone.
+abbrev pub LowersReturn : ℕ → Result AbortStepped Refusal → ℕ → ℕ → Type 0
+LowersReturn pages (Ok abort.More) before now = now < before
+LowersReturn pages (Ok (abort.Wait other)) before now = now ≤ before
+LowersReturn pages (Ok abort.Again) before now = now ≤ before + 2 * pages
+LowersReturn pages (Ok abort.Flush) before now = now ≤ before
+LowersReturn pages (Ok abort.Ended) before now = now ≤ before
+LowersReturn pages (Err why) before now = now ≤ before

@@ -10,13 +10,13 @@ ghost use Rattle.mt_core.specs.Work.{most_steps};
 ghost use Rattle.mt_op.specs.declared.scope.OpScope.{OpScope};
 ghost use Rattle.mt_txn.specs.Causes.{IsRefusedAtOnce};
 ghost use Rattle.mt_txn.specs.Effects.{LeavesAbort, MovesAbort};
-ghost use Rattle.mt_txn.specs.Aborted.{StepsAbort};
+ghost use Rattle.mt_txn.specs.Aborted.{StepsAbort, StepsInverse};
 ghost use Rattle.mt_txn.specs.Events.{HasAborted};
 ghost use Rattle.mt_txn.specs.Shown.{FailsForGood, SameSchema, Shows, Stays, StaysRestarting, TellsEachFault, kernel_device, kernel_page_locks};
 ghost use Rattle.mt_txn.specs.Work.{IsAbortReportedAs};
 ghost use Rattle.mt_txn.specs.Shown.{CallsOnce, LeavesFound};
 ghost use Rattle.mt_txn.specs.PageLocks.{AbortsLocks};
-ghost use Rattle.mt_txn.specs.Words.{kernel_state, kernel_running, kernel_undo_steps, kernel_open_cause, kernel_abort_cause, kernel_last, IsKernelFault, StateIsSet, CommitsStay, NumbersStay, RunningStays};
+ghost use Rattle.mt_txn.specs.Words.{kernel_state, kernel_running, kernel_undo_steps, kernel_abort_begin_cause, kernel_abort_cause, kernel_last, IsKernelFault, StateIsSet, CommitsStay, NumbersStay, RunningStays};
 ghost use Rattle.mt_op.specs.World.{undoes_of};
 
 use crate::answers::AbortStepped;
@@ -27,15 +27,16 @@ use mt_disk::Device;
 use mt_op::TakenBack;
 
 impl<D: Device> Kernel<D> {
-    /// Begins to undo an open transaction, whether an operation of it is unfinished or not; abort steps bring it to
-    /// its end. If nobody is in the way, over n pages, they have a bound. They are at most 2 n + 10 for each
-    /// operation of it that stands or is under way, and the end. It takes no memory, and makes no call of the device.
+    /// Begins to undo a transaction that is open, or goes back to a savepoint, whether an operation of it is unfinished
+    /// or not; abort steps bring it to its end. An inverse that is under way comes to its end first. If nobody is in
+    /// the way, over n pages, they have a bound. They are at most 2 n + 10 for each operation of it that stands or is
+    /// under way, and the end. It takes no memory, and makes no call of the device.
     ///
-    /// Refused, in this order: 2 if the device has failed, 15 if the transaction is not open. Nothing has
-    /// changed then.
+    /// Refused, in this order: 2 if the device has failed, 15 if the transaction neither is open nor goes back. Nothing
+    /// has changed then.
     pub fn abort_begin(&mut self, txn: TxnNo) -> Result<(), Refusal>
-        ensures may { OnOk result (kernel_open_cause self.old txn ≡ None) }
-        ensures cause { IfErr result (λ why. kernel_open_cause self.old txn ≡ Some why) }
+        ensures may { OnOk result (kernel_abort_begin_cause self.old txn ≡ None) }
+        ensures cause { IfErr result (λ why. kernel_abort_begin_cause self.old txn ≡ Some why) }
         ensures state { Stays self.old self.new }
         ensures aborts { OnOk result (StateIsSet self.old self.new txn (Some Aborting)) }
         ensures running { RunningStays self.old self.new }
@@ -49,7 +50,7 @@ impl<D: Device> Kernel<D> {
         ensures restarts { StaysRestarting self.old self.new }
         ensures moments { LeavesFound self.old self.new }
     {
-        if let Some(why) = self.open_cause(txn) {
+        if let Some(why) = self.abort_begin_cause(txn) {
             return Err(why);
         }
         self.core.abort_begin(txn);
@@ -78,11 +79,11 @@ impl<D: Device> Kernel<D> {
     }
 
     // Makes a step of the inverse at a place.
-    fn undo_step(&mut self, txn: TxnNo, place: usize) -> Result<AbortStepped, Refusal>
+    pub(crate) fn undo_step(&mut self, txn: TxnNo, place: usize) -> Result<AbortStepped, Refusal>
         requires within { place < length (kernel_running self.old) }
         requires own { AtPlace (kernel_running self.old) place
             (λ r. (r.txn ≡ txn) × (undoes_of r ≢ 0)) }
-        ensures steps { StepsAbort self.old txn result self.new }
+        ensures steps { StepsInverse self.old txn result self.new }
         ensures marks { self.new.failed ≡ true → result ≡ Err Refusal.DeviceFailed }
         ensures numbers { NumbersStay self.old self.new }
         ensures locks { AtPlace (kernel_running self.old) place

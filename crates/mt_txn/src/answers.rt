@@ -28,10 +28,10 @@ pub enum KernelForced {
     Durable(Vec<TxnNo>),
 }
 
-/// What a step of an abort answers.
+/// What a step of an abort answers, or of going back to a savepoint.
 #[derive(Clone, Copy, PartialEq, Eq, Debug)]
 pub enum AbortStepped {
-    /// The abort went on.
+    /// It went on.
     More,
     /// This transaction's operation has a page in the way. Nothing has changed.
     Wait(TxnNo),
@@ -39,6 +39,6 @@ pub enum AbortStepped {
     Again,
     /// A frame has to be flushed first. Nothing has changed.
     Flush,
-    /// The transaction has been undone, and lives no more.
+    /// Nothing is left to undo. After an abort the transaction lives no more; after going back it is open.
     Ended,
 }

@@ -1,10 +1,13 @@
 // Why calls are refused before the core is asked for locks, adds, pages and log bytes. Nothing changes here.
-ghost use Rattle.std.specs.Prelude.{◌≡◌, ◌≢◌, ◌<◌, ◌^◌, All, IfNone, None, Some, false, true};
-ghost use Rattle.mt_base.specs.declared.limits.TheConstants.{MAX_BEGUN};
+ghost use Rattle.std.specs.Prelude.{◌≡◌, ◌≢◌, ◌<◌, ◌≤◌, ◌^◌, All, IfErr, IfNone, IfOk, IfSome, OnOk, None, Some, false, true};
+ghost use Rattle.mt_base.specs.declared.limits.TheConstants.{MAX_BEGUN, MAX_OPERATIONS};
 ghost use Rattle.mt_op.specs.declared.scope.OpScope.{OpScope};
-ghost use Rattle.mt_live.specs.declared.transactions.TxnState.TheVariants.{Open, Aborting};
+ghost use Rattle.mt_live.specs.declared.transactions.TxnState.TheVariants.{Open, Returning, Aborting};
+ghost use Rattle.mt_live.specs.Lives.{calls_of, member_of};
+ghost use Rattle.mt_live.specs.Members.{forward_count};
+ghost use Rattle.mt_core.specs.Runs.{is_open};
 ghost use Rattle.mt_txn.specs.Causes.{IsNamed, IsSized, abort_cause, call_cause, count_cause, name_cause, open_cause, size_cause};
-ghost use Rattle.mt_txn.specs.Words.{kernel_state, kernel_running, kernel_call_cause, kernel_commit_cause, kernel_open_cause, kernel_abort_cause};
+ghost use Rattle.mt_txn.specs.Words.{kernel_state, kernel_count, kernel_members, kernel_running, kernel_call_cause, kernel_commit_cause, kernel_open_cause, kernel_abort_begin_cause, kernel_abort_cause, kernel_back_cause, kernel_return_cause};
 ghost use Rattle.mt_core.specs.Seen.{core_last};
 
 use crate::kernel::Kernel;
@@ -89,6 +92,52 @@ impl<D: Device> Kernel<D> {
         None
     }
 
+    // Why the beginning of an abort is refused, if it is.
+    pub(crate) fn abort_begin_cause(&self, txn: TxnNo) -> Option<Refusal>
+        ensures cause { result ≡ kernel_abort_begin_cause self.now txn }
+        ensures at_work { IfNone result (is_open (member_of (kernel_members self.now) txn) ≡ true) }
+    {
+        if self.has_failed() {
+            return Some(Refusal::DeviceFailed);
+        }
+        match self.core.live().state(txn) {
+            Some(TxnState::Open) | Some(TxnState::Returning(_)) => None,
+            _ => Some(Refusal::Stranger),
+        }
+    }
+
+    // To how many of its operations a transaction goes back; or why a step of that is refused.
+    pub(crate) fn returning(&self, txn: TxnNo) -> Result<u16, Refusal>
+        ensures first { IfOk result (λ first. kernel_state self.now txn ≡ Some (Returning first)) }
+        ensures may { OnOk result (kernel_return_cause self.now txn ≡ None) }
+        ensures cause { IfErr result (λ why. kernel_return_cause self.now txn ≡ Some why) }
+    {
+        if self.has_failed() {
+            return Err(Refusal::DeviceFailed);
+        }
+        match self.core.live().state(txn) {
+            Some(TxnState::Returning(first)) => Ok(first),
+            _ => Err(Refusal::Stranger),
+        }
+    }
+
+    // Why a transaction cannot go back to so many of its operations, if it cannot.
+    pub(crate) fn back_cause(&self, txn: TxnNo, first: u16) -> Option<Refusal>
+        ensures cause { result ≡ kernel_back_cause self.now txn first }
+        ensures opened { IfNone result (kernel_state self.now txn ≡ Some Open) }
+        ensures idle { IfNone result (All (λ (r : OpScope). r.txn ≢ txn) (kernel_running self.now)) }
+        ensures few { IfNone result (IfSome (kernel_count self.now txn) (λ count. first ≤ count)) }
+    {
+        if let Some(why) = self.commit_cause(txn) {
+            return Some(why);
+        }
+        if usize::from(first) <= self.core.live().answered(txn) {
+            None
+        } else {
+            Some(Refusal::BadSavepoint)
+        }
+    }
+
     // Why a step of an abort is refused, if it is.
     pub(crate) fn abort_cause(&self, txn: TxnNo) -> Option<Refusal>
         ensures cause { result ≡ kernel_abort_cause self.now txn }
@@ -108,6 +157,8 @@ impl<D: Device> Kernel<D> {
         requires opened { kernel_state self.now txn ≡ Some Open }
         ensures cause { result ≡ count_cause self.now.core txn }
         ensures few { IfNone result (core_last self.now.core < MAX_BEGUN) }
+        ensures counted { IfNone result
+            (forward_count (calls_of (kernel_members self.now) txn) < MAX_OPERATIONS) }
     {
         if MAX_OPERATIONS <= self.core.live().count_ended(txn) || MAX_BEGUN <= self.core.last() {
             Some(Refusal::TooManyOperations)
@@ -122,6 +173,8 @@ impl<D: Device> Kernel<D> {
         ensures opened { IfNone result (kernel_state self.now txn ≡ Some Open) }
         ensures idle { IfNone result (All (λ (r : OpScope). r.txn ≢ txn) (kernel_running self.now)) }
         ensures few { IfNone result (core_last self.now.core < MAX_BEGUN) }
+        ensures counted { IfNone result
+            (forward_count (calls_of (kernel_members self.now) txn) < MAX_OPERATIONS) }
         ensures named { IfNone result (IsNamed self.now.relations self.now.counters op.now) }
         ensures sized { IfNone result (IsSized op.now) }
     {

@@ -17,6 +17,7 @@ mod kernel;
 mod kernel_rest;
 mod log_use;
 mod next_area;
+mod savepoints;
 mod steps;
 mod surveys;
 

@@ -20,7 +20,7 @@ use Rattle.mt_txn.specs.declared.answers.AbortStepped.TheVariants as abort
 use Rattle.mt_txn.specs.declared.answers.Stepped.{Stepped as StepOutcome}
 use Rattle.mt_txn.specs.declared.answers.Stepped.TheVariants as step
 use Rattle.mt_txn.specs.declared.kernel.Kernel.{Kernel}
-use Rattle.mt_txn.specs.Words.{kernel_book, kernel_commits, kernel_members, kernel_state, kernel_steps, kernel_undo_steps, kernel_begin_cause, kernel_call_cause, kernel_step_cause, kernel_commit_cause, kernel_open_cause, kernel_abort_cause, IsKernelFault, IsKernelFailure, StatesStay, StatesStayBut, UncommittedStay, StateIsSet, CommitsStay, FrameIsWanted}
+use Rattle.mt_txn.specs.Words.{kernel_book, kernel_commits, kernel_members, kernel_state, kernel_steps, kernel_undo_steps, kernel_begin_cause, kernel_call_cause, kernel_step_cause, kernel_commit_cause, kernel_abort_begin_cause, kernel_abort_cause, IsKernelFault, IsKernelFailure, StatesStay, StatesStayBut, UncommittedStay, StateIsSet, CommitsStay, FrameIsWanted}
 use Rattle.mt_world.specs.declared.events.Answer.{Answer}
 use Rattle.mt_world.specs.declared.events.Answer.TheVariants.{Begun, Called, Stepped, Committing, Aborting, Backed, Forced, Flushed, Rotated, Refused}
 use Rattle.mt_world.specs.declared.events.Event.{Event}
@@ -75,8 +75,8 @@ module _ {D : Type 0} {g : Ghosts D} where
   IsDue k (Commit t) (Committing place) n =
       (kernel_commit_cause k t ≡ None) × (place ≡ length (kernel_book k) + length (kernel_commits k) + 1)
   IsDue k (Commit t) answer n = ⊥
-  IsDue k (AbortBegin t) (Refused why) n = kernel_open_cause k t ≡ Some why
-  IsDue k (AbortBegin t) answer n = kernel_open_cause k t ≡ None
+  IsDue k (AbortBegin t) (Refused why) n = kernel_abort_begin_cause k t ≡ Some why
+  IsDue k (AbortBegin t) answer n = kernel_abort_begin_cause k t ≡ None
   IsDue k (AbortStep t) (Refused why) n = IsCaused (kernel_abort_cause k t) why ⊎ IsKernelFault k n why
   IsDue k (AbortStep t) (Backed outcome) n = IsBacked k t outcome n
   IsDue k (AbortStep t) answer n = ⊥

@@ -35,21 +35,23 @@ undone-requires g c = ∥∥₁_elim c.requires.ready (hlevel props) (λ (origin
 
 pub returns : goal.returns
 returns g c = record {
-  items = search rules;
-  locks = λ x is. let r = c.remove-scope.result in let k = c.args.self.now in
-      let here : r ≡ x = c.remove-scope.ensures.value ∙ sym (get_or_default k.running.items c.args.place x r c.requires.within) ∙ sym is in
-      c.end-inverse.ensures.locks ∙ ap (λ (z : OpScope). locks_without z.number k.operations.locks) here;
-  store = search rules;
-  states = λ u. states_kept taken_back c.args.self.now.live.members c.undone.new.self.members c.txn-txn.result taken_state c.undone.ensures.member u;
-  commits = search rules;
-  numbers = search rules;
+  outer = record {
+    items = search rules;
+    locks = λ x is. let r = c.remove-scope.result in let k = c.args.self.now in
+        let here : r ≡ x = c.remove-scope.ensures.value ∙ sym (get_or_default k.running.items c.args.place x r c.requires.within) ∙ sym is in
+        c.end-inverse.ensures.locks ∙ ap (λ (z : OpScope). locks_without z.number k.operations.locks) here;
+    store = search rules;
+    states = λ u. states_kept taken_back c.args.self.now.live.members c.undone.new.self.members c.txn-txn.result taken_state c.undone.ensures.member u;
+    commits = search rules;
+    numbers = search rules;
+  };
   ends = λ origin base reply ready x is.
       let r = c.remove-scope.result in let y = ready r c.remove-scope.ensures.value in let e = c.end-inverse.ensures in let f = c.undone.ensures in let k = c.args.self.now in
       let seen = g.D.Device.seen in
       let n : Core g.row.D.Denot = record k { operations = c.end-inverse.new.self; live = c.undone.new.self; running = c.remove-scope.new.self; escrow = c.let_inverted_go.new.escrow } in
       let here : r ≡ x = c.remove-scope.ensures.value ∙ sym (get_or_default k.running.items c.args.place x r y.alone.within) ∙ sym is in
       subst (λ (z : OpScope). UndoesIn g.D.Device origin base (state_of k base) n z.txn z.op) here
-      (undone_in g.D.Device origin base k n c.args.place r reply y (c.requires.back r c.remove-scope.ensures.value) c.remove-scope.ensures.items
+      (undone_in g.D.Device origin base k n c.args.place r reply y (c.requires.back r c.remove-scope.ensures.value) (λ first. c.requires.aborting r c.remove-scope.ensures.value first) c.remove-scope.ensures.items
       (record { right = e.right origin.pages origin.relations origin.counters y.fit.right y.alone.own; held = e.held origin.pages; others = λ u ku other. e.others origin.pages origin.relations origin.counters u ku other; locks = e.locks; store = e.store }) e.claimed
       (f.standing ∙ (λ i. cut_back (c.txn-txn.ensures i) k.live.standing))
       (subst (λ (X : Type 0). X) (λ i. IsChanged k.live.members c.undone.new.self.members (c.txn-txn.ensures i) taken_back) f.member) f.begun f.count

@@ -4,7 +4,7 @@ use Rattle.std.proofs.Common.{rules, ◌≡◌, ◌∙◌, ◌<◌, Ok, length, 
 use Rattle.std.proofs.lemmas.List.{get_or_default}
 use Rattle.mt_model.specs.Model.{reply_of}
 use Rattle.mt_op.specs.Moves.{SameOp}
-use Rattle.mt_core.specs.Consistent.{state_of, IsReady, UndoesIn, Advances}
+use Rattle.mt_core.specs.Consistent.{state_of, IsReady, InvertsIn, Advances}
 use Rattle.mt_op.specs.declared.scope.OpScope.{OpScope}
 use Rattle.std.proofs.Common.{◌≤◌, List}
 use Rattle.std.specs.List.{remove}
@@ -15,18 +15,17 @@ use Rattle.mt_base.specs.declared.refusal.Refusal.{Refusal}
 use Rattle.mt_core.specs.declared.steps.Stepping.{Stepping}
 use Rattle.std.specs.Prelude.{Result}
 use Rattle.std.proofs.lemmas.Result.{err_from_is_err_and}
-use Rattle.mt_live.specs.Undoing.{cut_back}
 use Rattle.mt_live.specs.Machine.{State}
 use Rattle.mt_pool.specs.Views.{pages}
 use Rattle.mt_core.specs.Runs.{IsOwned}
-use Rattle.mt_core.proofs.Undoing.{moved_of, total_at, inverse_moved, undo_removed, cut_left, abort_at, back_with}
+use Rattle.mt_core.proofs.Undoing.{moved_of, total_at, inverse_moved, undo_removed, inverted_left, abort_at, back_with}
 use Rattle.mt_core.proofs.Laboring.{steps_at, steps_removed, some_left, both_at}
 use Rattle.std.proofs.Common.{true, ◌≢◌, Some}
 use Rattle.mt_live.specs.Lives.{member_of}
 use Rattle.mt_core.specs.Runs.{is_open}
 use Rattle.mt_core.specs.Restartable.{StepAppends}
 use Rattle.mt_core.specs.Runs.{TakesBack}
-use Rattle.mt_core.proofs.Restarts.{area_then, at_place, end_then, goes_on, undone, undone_then}
+use Rattle.mt_core.proofs.Restarts.{area_then, at_place, end_then, goes_on, inverse_restarts, inverted_consistent}
 use Rattle.mt_op.specs.Holds.{IsNext, KeepsLocks}
 use Rattle.mt_plock.specs.Releasing.{locks_without}
 use Rattle.mt_core.specs.PageLocks.{KeepsPageLocks}
@@ -39,20 +38,20 @@ use Rattle.std.proofs.Common.{refl}
 use Rattle.mt_core.specs.PageLocks.{step_of}
 use Rattle.mt_core.specs.declared.steps.Going.TheVariants.{Flush}
 use Rattle.mt_core.proofs.GoingOn.{in_on, lowers_on, lowers_prop, other_on, quiet_on, same_going}
-use Rattle.mt_core.specs.Runs.{state_in}
-use Rattle.mt_live.specs.declared.transactions.TxnState.TheVariants.{Aborting}
+use Rattle.mt_core.specs.Runs.{goes_back, state_in}
+use Rattle.std.proofs.Common.{◌*◌}
 use Rattle.mt_core.proofs.parts.Core.undo_step.Goals as goal
 
-pub note_undone-requires-clause-back : goal.note_undone-requires-clause-back
-note_undone-requires-clause-back g c = λ q now is. let items = c.args.self.now.running.items in let place = c.args.place in
+pub note_inverse-requires-clause-back : goal.note_inverse-requires-clause-back
+note_inverse-requires-clause-back g c = λ q now is. let items = c.args.self.now.running.items in let place = c.args.place in
     let r : OpScope = get_or items place q in
     let at : r ≡ get_or items place r = get_or_default items place q r c.requires.within in
     ∥∥₁_elim c.requires.safe (hlevel props) (λ (origin, base, safe). c.requires.back r at (sym (c.advance.ensures.same origin base safe r q at now).undoes ∙ is))
 
-pub note_undone-requires-clause-ready : goal.note_undone-requires-clause-ready
-note_undone-requires-clause-ready g c = ∥∥₁_elim c.requires.safe (hlevel props) (λ (origin, base, safe).
+pub note_inverse-requires-clause-ready : goal.note_inverse-requires-clause-ready
+note_inverse-requires-clause-ready g c = ∥∥₁_elim c.requires.safe (hlevel props) (λ (origin, base, safe).
     let was = c.in_ok-stepped.was ∙ ap Ok c.in-Err.ensures.ready in
-    ∣ (origin, base, c.in-Err.reply, (subst (Advances g.D.Device origin base (state_of c.args.self.now base) c.advance.new.self c.args.place) was (c.advance.ensures.advances origin base safe)).0) ∣₁)
+    ∣ (origin, base, (subst (Advances g.D.Device origin base (state_of c.args.self.now base) c.advance.new.self c.args.place) was (c.advance.ensures.advances origin base safe)).0) ∣₁)
 
 pub returns-in-Err-clause-steps : goal.returns-in-Err-clause-steps
 returns-in-Err-clause-steps g c = λ origin base safe x at. let k = c.args.self.now in let place = c.args.place in let seen = g.D.Device.seen in let may_leave = g.D.Device.may_leave in
@@ -64,9 +63,9 @@ returns-in-Err-clause-steps g c = λ origin base safe x at. let k = c.args.self.
     let now : q ≡ get_or items place q = get_or_default items place x q inside in
     let same : SameOp x q = c.advance.ensures.same origin base safe x q at now in
     let ready : IsReady g.D.Device origin base c.advance.new.self place q c.in-Err.reply = made.0 q now in
-    let noted = c.note_undone.ensures.ends origin base c.in-Err.reply made.0 q now in (
+    let noted = c.note_inverse.ensures.ends origin base made.0 q now in (
       ap (reply_of base) (sym same.op) ∙ ready.replies ∙ sym made.1,
-      subst (λ (X : Type 0). X) (λ i. UndoesIn g.D.Device origin base (sym made.2 i) c.note_undone.new.self (same.txn i) (same.op i)) noted,
+      subst (λ (X : Type 0). X) (λ i. InvertsIn g.D.Device origin base (sym made.2 i) c.note_inverse.new.self (same.txn i) (same.op i) (state_in ((c.advance.ensures.live i).members) (same.txn i))) noted,
     )
 
 pub returns-in-Err-clause-stepped : goal.returns-in-Err-clause-stepped
@@ -82,7 +81,7 @@ returns-in-Err-clause-stepped g c = record {
       let same : SameOp x q = c.advance.ensures.same origin base safe x q at now in
       let less = subst (Works x q) was (c.advance.ensures.works x q at now) in
       let apart = (made.0 q now).fit.apart in
-      let gone : steps_in c.note_undone.new.self.running.items x.txn ≡ 0 = ap (λ (rs : List OpScope). steps_in rs x.txn) c.note_undone.ensures.items ∙ ap (steps_in (remove items place)) (sym same.txn) ∙ steps_removed items place q inside now apart in
+      let gone : steps_in c.note_inverse.new.self.running.items x.txn ≡ 0 = ap (λ (rs : List OpScope). steps_in rs x.txn) c.note_inverse.ensures.outer.items ∙ ap (steps_in (remove items place)) (sym same.txn) ∙ steps_removed items place q inside now apart in
       let before = steps_at k.running.items place x c.requires.within at safe.fit.apart in let some = some_left x (c.requires.stage x at) in (omega (arith, before, some), gone));
   others = λ x at u other. ∥∥₁_elim c.requires.safe (hlevel props) (λ (origin, base, safe).
       let place = c.args.place in
@@ -91,7 +90,7 @@ returns-in-Err-clause-stepped g c = record {
       let q : OpScope = get_or items place x in
       let now : q ≡ get_or items place q = get_or_default items place x q inside in
       let same : SameOp x q = c.advance.ensures.same origin base safe x q at now in
-      ap (λ (rs : List OpScope). steps_in rs u) c.note_undone.ensures.items ∙ steps_remove_other items place q inside now u (λ is. other (is ∙ same.txn)) ∙ c.advance.ensures.others x at u other);
+      ap (λ (rs : List OpScope). steps_in rs u) c.note_inverse.ensures.outer.items ∙ steps_remove_other items place q inside now u (λ is. other (is ∙ same.txn)) ∙ c.advance.ensures.others x at u other);
   states = search rules;
   commits = search rules;
   numbers = search rules;
@@ -104,10 +103,10 @@ returns-in-Err-clause-stepped g c = record {
       let q : OpScope = get_or items place x in
       let now : q ≡ get_or items place q = get_or_default items place x q inside in
       let same : SameOp x q = c.advance.ensures.same origin base safe x q at now in
-      c.note_undone.ensures.locks q now ∙ ap (λ n. locks_without n c.advance.new.self.operations.locks) same.number ∙ ap (locks_without x.number) kept);
+      c.note_inverse.ensures.outer.locks q now ∙ ap (λ n. locks_without n c.advance.new.self.operations.locks) same.number ∙ ap (locks_without x.number) kept);
   other = search rules;
   writes = let k = c.args.self.now in
-      subst (λ (s : Store g.row.D.Denot). length (appended s.log) ≤ length (appended k.operations.store.log) + 1) (sym c.note_undone.ensures.store)
+      subst (λ (s : Store g.row.D.Denot). length (appended s.log) ≤ length (appended k.operations.store.log) + 1) (sym c.note_inverse.ensures.outer.store)
       (subst (WritesOnce (appended k.operations.store.log) (appended c.advance.new.self.operations.store.log)) (c.in_ok-stepped.was ∙ ap Ok c.in-Err.ensures.ready) c.advance.ensures.writes);
   durable = search rules;
   full = search rules;
@@ -174,7 +173,7 @@ returns-in_err-stepped-clause-lowers g c = λ x at. let k = c.args.self.now in l
 
 pub returns-in-Err-clause-lowers : goal.returns-in-Err-clause-lowers
 returns-in-Err-clause-lowers g c = λ x at. ∥∥₁_elim c.requires.safe (hlevel props) (λ (origin, base, safe).
-    let k = c.args.self.now in let z = c.advance.new.self in let n = c.note_undone.new.self in let place = c.args.place in let seen = g.D.Device.seen in let may_leave = g.D.Device.may_leave in
+    let k = c.args.self.now in let z = c.advance.new.self in let n = c.note_inverse.new.self in let place = c.args.place in let seen = g.D.Device.seen in let may_leave = g.D.Device.may_leave in
     let was = c.in_ok-stepped.was ∙ ap Ok c.in-Err.ensures.ready in
     let made = subst (Advances g.D.Device origin base (state_of k base) z place) was (c.advance.ensures.advances origin base safe) in
     let items = z.running.items in
@@ -183,17 +182,15 @@ returns-in-Err-clause-lowers g c = λ x at. ∥∥₁_elim c.requires.safe (hlev
     let now : q ≡ get_or items place q = get_or_default items place x q inside in
     let same : SameOp x q = c.advance.ensures.same origin base safe x q at now in
     let ready : IsReady g.D.Device origin base z place q c.in-Err.reply = made.0 q now in
-    let noted = c.note_undone.ensures.ends origin base c.in-Err.reply made.0 q now in
+    let noted = c.note_inverse.ensures.ends origin base made.0 q now in
     let all = pages k.operations.store.pool in let t = x.txn in
-    let size : pages n.operations.store.pool ≡ all = ap (λ o. pages o.pool) c.note_undone.ensures.store ∙ sym ready.alone.own.total ∙ same.total ∙ total_at g.D.Device origin base k place x safe c.requires.within at in
-    let standing : n.live.standing ≡ cut_back t k.live.standing = sym (ap (λ (s : State). s.standing) noted.leads.state) ∙ (λ i. cut_back (same.txn i) ((c.advance.ensures.live i).standing)) in
-    let gone = undo_removed n items place t all q (cut_back t k.live.standing) inside now ready.fit.apart same.txn c.note_undone.ensures.items size standing in
-    let owned : IsOwned k.live.members k.live.standing x = subst (IsOwned k.live.members k.live.standing) (sym at) (safe.fit.owned place x c.requires.within) in
-    let back = c.requires.back x at in let takes = owned.inverse back in
-    let cut = cut_left all t k.live.standing takes.entry takes.last in
+    let size : pages n.operations.store.pool ≡ all = ap (λ o. pages o.pool) c.note_inverse.ensures.outer.store ∙ sym ready.alone.own.total ∙ same.total ∙ total_at g.D.Device origin base k place x safe c.requires.within at in
+    let gone = undo_removed n items place t all q n.live.standing inside now ready.fit.apart same.txn c.note_inverse.ensures.outer.items size refl in
+    let fewer : effects_left all n.live.standing t + (2 * all + 10) ≡ effects_left all k.live.standing t = subst (λ (X : Type 0). X) (λ i. effects_left all n.live.standing (same.txn i) + (2 * all + 10) ≡ effects_left all ((c.advance.ensures.live i).standing) (same.txn i)) (inverted_left g.D.Device origin base z n all q.txn q.op (state_in z.live.members q.txn) noted) in
+    let back = c.requires.back x at in
     let effects = effects_left all k.live.standing t in
     let before = abort_at all effects k.running.items place x c.requires.within at safe.fit.apart ∙ back_with all effects x back in
-    let some = some_left x (c.requires.stage x at) in omega (arith, before, some, gone, cut))
+    let some = some_left x (c.requires.stage x at) in omega (arith, before, some, gone, fewer))
 
 pub returns-in_err-stepped-clause-stepped : goal.returns-in_err-stepped-clause-stepped
 returns-in_err-stepped-clause-stepped g c = record {
@@ -236,7 +233,7 @@ returns-in_err-stepped-clause-stepped g c = record {
 
 pub returns-in-Err-clause-restartable : goal.returns-in-Err-clause-restartable
 returns-in-Err-clause-restartable g c = λ origin base later safe_k safe_n r.
-    let k = c.args.self.now in let m = c.advance.new.self in let n = c.note_undone.new.self in let place = c.args.place in let seen = g.D.Device.seen in let may_leave = g.D.Device.may_leave in
+    let k = c.args.self.now in let m = c.advance.new.self in let n = c.note_inverse.new.self in let place = c.args.place in let seen = g.D.Device.seen in let may_leave = g.D.Device.may_leave in
     let was = c.in_ok-stepped.was ∙ ap Ok c.in-Err.ensures.ready in
     let made = subst (Advances g.D.Device origin base (state_of k base) m place) was (c.advance.ensures.advances origin base safe_k) in
     let inside : place < length m.running.items = let same = c.advance.ensures.length in let within = c.requires.within in omega arith in
@@ -249,11 +246,12 @@ returns-in-Err-clause-restartable g c = λ origin base later safe_k safe_n r.
     let ends = subst (StepAppends origin k m q) was (c.advance.ensures.appends origin base safe_k q now) in
     let live = c.advance.ensures.live in
     let back : q.undoes ≢ 0 = λ is. c.requires.back x at (sym same.undoes ∙ is) in
-    let aborting : state_in k.live.members q.txn ≡ Some Aborting = ap (λ l. state_in l.members q.txn) (sym live) ∙ owned.aborts back in
+    let working : is_open (member_of k.live.members q.txn) ≡ true = ap (λ l. is_open (member_of l.members q.txn)) (sym live) ∙ owned.at_work in
     let takes : TakesBack k.live.members k.live.standing q = subst (λ l. TakesBack l.members l.standing q) live (owned.inverse back) in
-    let noted = (c.note_undone.ensures.ends origin base c.in-Err.reply made.0 q now).leads.consistent in
-    undone g.D.Device origin k n base q c.in-Err.reply safe_k noted (area_then g.D.Device origin k m n ends.area c.note_undone.ensures.store) (end_then g.D.Device origin k m n q c.in-Err.reply ends.appends c.note_undone.ensures.store)
-    (undone_then g.D.Device origin k m n q c.advance.ensures.book c.advance.ensures.commits live (c.note_undone.ensures.notes q now)) back aborting takes ready.replies r
+    let state = state_in m.live.members q.txn in
+    let noted = inverted_consistent g.D.Device origin base (state_of m base) n q.txn q.op state (c.note_inverse.ensures.ends origin base made.0 q now) in
+    inverse_restarts g.D.Device origin k m n base q c.in-Err.reply state (ap (λ l. state_in l.members q.txn) (sym live)) safe_k noted (area_then g.D.Device origin k m n ends.area c.note_inverse.ensures.outer.store) (end_then g.D.Device origin k m n q c.in-Err.reply ends.appends c.note_inverse.ensures.outer.store)
+    c.advance.ensures.book c.advance.ensures.commits live (c.note_inverse.ensures.notes q now) back (ap goes_back (ap (λ l. state_in l.members q.txn) (sym live)) ∙ owned.backwards back) working takes ready.replies r
 
 pub returns-in-Ok-clause-restartable : goal.returns-in-Ok-clause-restartable
 returns-in-Ok-clause-restartable g c = λ origin base later safe_k safe_n r. let k = c.args.self.now in let n = c.advance.new.self in let place = c.args.place in

@@ -1,9 +1,11 @@
-use Rattle.std.proofs.Common.{◌≡◌, ◌∙◌, Bool, true, Some, None, ap, refl, sym}
+use Rattle.std.proofs.Common.{◌≡◌, ◌∙◌, Bool, Option, true, Some, None, ap, refl, sym, subst}
+use Rattle.mt_live.specs.declared.transactions.TxnState.{TxnState}
+use Rattle.mt_txn.specs.Events.{InvertsTo}
 use Rattle.std.specs.Prelude.{◌||◌}
 use Rattle.mt_base.specs.declared.refusal.Refusal.TheVariants.{DeviceFailed}
 use Rattle.mt_log.specs.Words.{has_failed}
 use Rattle.mt_txn.specs.Causes.{abort_cause}
-use Rattle.mt_txn.specs.Shown.{is_failed}
+use Rattle.mt_txn.specs.Shown.{is_failed, Shows}
 use Rattle.mt_txn.proofs.Restarting.{no_call}
 use Rattle.mt_txn.proofs.kernel.Kernel.abort_step.Goals as goal
 
@@ -39,3 +41,7 @@ returns-else-is_inverse-clause-fails g c =
       c.go_back.ensures.steps.fails,
       c.go_back.ensures.marks,
     )
+
+pub returns-then-is_inverse-clause-aborted : goal.returns-then-is_inverse-clause-aborted
+returns-then-is_inverse-clause-aborted g c = λ first s shows. let k = c.args.self.now in let n = c.undo_step.new.self in
+    subst (λ (state : Option TxnState). InvertsTo (λ z. Shows first z n) s c.args.txn state c.undo_step.result) c.in_default.ensures.aborting (c.undo_step.ensures.steps.inverted first s shows)

@@ -1,3 +1,4 @@
+use Rattle.mt_core.specs.Runs.{state_in}
 use Rattle.std.proofs.Common.{rules, ◌∙◌, Ok, ap, subst}
 use Rattle.std.proofs.lemmas.Result.{err_from_is_err_and}
 use Rattle.std.specs.Prelude.{Result}
@@ -6,10 +7,10 @@ use Rattle.mt_base.specs.declared.refusal.Refusal.{Refusal}
 use Rattle.mt_core.specs.Consistent.{AtPlace}
 use Rattle.mt_core.specs.Steps.{UndoSteps, NamesOther}
 use Rattle.mt_core.specs.declared.steps.Stepping.{Stepping}
-use Rattle.mt_txn.proofs.Answering.{err_aborted, going_aborted, going_left}
+use Rattle.mt_txn.proofs.Answering.{err_inverted, going_inverted, going_left}
 use Rattle.mt_core.specs.PageLocks.{KeepsPageLocks}
 use Rattle.mt_txn.proofs.Barring.{abort_locks, abort_goes, abort_other}
-use Rattle.mt_txn.proofs.Showing.{sound_of, undo_shown, undo_well, inverse_stage, UndoShown}
+use Rattle.mt_txn.proofs.Showing.{ended_inverted, sound_of, undo_shown, undo_well, inverse_stage, UndoShown}
 use Rattle.std.proofs.Common.{◌≤◌, sym}
 use Rattle.mt_pool.specs.Views.{pages}
 use Rattle.mt_core.specs.Work.{LowersUndo, undo_steps}
@@ -58,7 +59,7 @@ returns-in_err-reply-clause-steps g c = record {
   durable = search rules;
   commits = search rules;
   err_states = search rules;
-  out = search rules;
+  goes = search rules;
   schema = search rules;
   restarts = λ first r. let D = g.D.Device in let k = c.args.self.now in
       restarts_on D k.relations k.counters first k.core c.undo_step-outcome.new.self (undo_goes D k.core c.undo_step-outcome.new.self c.args.place c.undo_step-outcome.result c.requires.within c.undo_step-outcome.ensures.steps) (c.undo_step-outcome.ensures.restartable) r;
@@ -66,8 +67,8 @@ returns-in_err-reply-clause-steps g c = record {
       meanwhile D k.relations k.counters first g.met.D.Device.only_now k.core _ c.undo_step-outcome.ensures.stepped.moments r schema;
   once = c.undo_step-outcome.ensures.stepped.once;
   others = others_of c.args.self.now.core.running.items c.undo_step-outcome.new.self.running.items c.args.place c.args.txn c.requires.within (λ r at. (c.requires.own r at).0) c.undo_step-outcome.ensures.stepped.others;
-  aborted = λ first s shows. let p = err_from_is_err_and c.from_residual.result c.from_residual.ensures.1 in
-      err_aborted _ s c.args.txn c.from_residual.result p.0 p.1 (subst (UndoShown g.D.Device c.args.self.now.relations c.args.self.now.counters c.undo_step-outcome.new.self first s c.args.txn) (c.in_err-reply.was) (undo_shown g.D.Device c.args.self.now.relations c.args.self.now.counters c.args.self.now.core c.undo_step-outcome.new.self first s c.args.txn c.args.place c.undo_step-outcome.result c.requires.within (λ r there. (c.requires.own r there).0) c.undo_step-outcome.ensures.steps shows));
+  inverted = λ first s shows. let p = err_from_is_err_and c.from_residual.result c.from_residual.ensures.1 in
+      err_inverted _ s c.args.txn (state_in c.args.self.now.core.live.members c.args.txn) c.from_residual.result p.0 p.1 (subst (UndoShown g.D.Device c.args.self.now.relations c.args.self.now.counters c.undo_step-outcome.new.self first s c.args.txn (state_in c.args.self.now.core.live.members c.args.txn)) (c.in_err-reply.was) (undo_shown g.D.Device c.args.self.now.relations c.args.self.now.counters c.args.self.now.core c.undo_step-outcome.new.self first s c.args.txn c.args.place c.undo_step-outcome.result c.requires.within (λ r there. (c.requires.own r there).0) c.undo_step-outcome.ensures.steps shows));
 }
 
 pub returns-in-Ended-clause-steps : goal.returns-in-Ended-clause-steps
@@ -85,7 +86,7 @@ returns-in-Ended-clause-steps g c = record {
   durable = search rules;
   commits = search rules;
   err_states = search rules;
-  out = search rules;
+  goes = search rules;
   schema = search rules;
   restarts = λ first r. let D = g.D.Device in let k = c.args.self.now in
       restarts_on D k.relations k.counters first k.core c.undo_step-outcome.new.self (undo_goes D k.core c.undo_step-outcome.new.self c.args.place c.undo_step-outcome.result c.requires.within c.undo_step-outcome.ensures.steps) (c.undo_step-outcome.ensures.restartable) r;
@@ -93,7 +94,7 @@ returns-in-Ended-clause-steps g c = record {
       meanwhile D k.relations k.counters first g.met.D.Device.only_now k.core _ c.undo_step-outcome.ensures.stepped.moments r schema;
   once = c.undo_step-outcome.ensures.stepped.once;
   others = others_of c.args.self.now.core.running.items c.undo_step-outcome.new.self.running.items c.args.place c.args.txn c.requires.within (λ r at. (c.requires.own r at).0) c.undo_step-outcome.ensures.stepped.others;
-  aborted = λ first s shows. subst (UndoShown g.D.Device c.args.self.now.relations c.args.self.now.counters c.undo_step-outcome.new.self first s c.args.txn) (c.in_ok-reply.was ∙ ap Ok c.in-Ended.is) (undo_shown g.D.Device c.args.self.now.relations c.args.self.now.counters c.args.self.now.core c.undo_step-outcome.new.self first s c.args.txn c.args.place c.undo_step-outcome.result c.requires.within (λ r there. (c.requires.own r there).0) c.undo_step-outcome.ensures.steps shows);
+  inverted = λ first s shows. ended_inverted g.D.Device c.args.self.now.relations c.args.self.now.counters c.undo_step-outcome.new.self first s c.args.txn (state_in c.args.self.now.core.live.members c.args.txn) (subst (UndoShown g.D.Device c.args.self.now.relations c.args.self.now.counters c.undo_step-outcome.new.self first s c.args.txn (state_in c.args.self.now.core.live.members c.args.txn)) (c.in_ok-reply.was ∙ ap Ok c.in-Ended.is) (undo_shown g.D.Device c.args.self.now.relations c.args.self.now.counters c.args.self.now.core c.undo_step-outcome.new.self first s c.args.txn c.args.place c.undo_step-outcome.result c.requires.within (λ r there. (c.requires.own r there).0) c.undo_step-outcome.ensures.steps shows));
 }
 
 pub returns-in-Going-clause-steps : goal.returns-in-Going-clause-steps
@@ -120,7 +121,7 @@ returns-in-Going-clause-steps g c = record {
   durable = search rules;
   commits = search rules;
   err_states = search rules;
-  out = search rules;
+  goes = search rules;
   schema = search rules;
   restarts = λ first r. let D = g.D.Device in let k = c.args.self.now in
       restarts_on D k.relations k.counters first k.core c.undo_step-outcome.new.self (undo_goes D k.core c.undo_step-outcome.new.self c.args.place c.undo_step-outcome.result c.requires.within c.undo_step-outcome.ensures.steps) (c.undo_step-outcome.ensures.restartable) r;
@@ -128,5 +129,5 @@ returns-in-Going-clause-steps g c = record {
       meanwhile D k.relations k.counters first g.met.D.Device.only_now k.core _ c.undo_step-outcome.ensures.stepped.moments r schema;
   once = c.undo_step-outcome.ensures.stepped.once;
   others = others_of c.args.self.now.core.running.items c.undo_step-outcome.new.self.running.items c.args.place c.args.txn c.requires.within (λ r at. (c.requires.own r at).0) c.undo_step-outcome.ensures.stepped.others;
-  aborted = λ first s shows. going_aborted _ s c.args.txn c.going.result (abort_goes _ _ _ c.going.ensures) (subst (UndoShown g.D.Device c.args.self.now.relations c.args.self.now.counters c.undo_step-outcome.new.self first s c.args.txn) (c.in_ok-reply.was ∙ ap Ok c.in-Going.is) (undo_shown g.D.Device c.args.self.now.relations c.args.self.now.counters c.args.self.now.core c.undo_step-outcome.new.self first s c.args.txn c.args.place c.undo_step-outcome.result c.requires.within (λ r there. (c.requires.own r there).0) c.undo_step-outcome.ensures.steps shows));
+  inverted = λ first s shows. going_inverted _ s c.args.txn (state_in c.args.self.now.core.live.members c.args.txn) c.going.result (abort_goes _ _ _ c.going.ensures) (subst (UndoShown g.D.Device c.args.self.now.relations c.args.self.now.counters c.undo_step-outcome.new.self first s c.args.txn (state_in c.args.self.now.core.live.members c.args.txn)) (c.in_ok-reply.was ∙ ap Ok c.in-Going.is) (undo_shown g.D.Device c.args.self.now.relations c.args.self.now.counters c.args.self.now.core c.undo_step-outcome.new.self first s c.args.txn c.args.place c.undo_step-outcome.result c.requires.within (λ r there. (c.requires.own r there).0) c.undo_step-outcome.ensures.steps shows));
 }

@@ -12,12 +12,12 @@ use Rattle.mt_op.specs.World.{IsFresh}
 use Rattle.mt_core.specs.Consistent.{IsWithinSchema}
 use Rattle.mt_core.specs.declared.parts.Core.{Core}
 use Rattle.mt_op.specs.declared.scope.OpScope.{OpScope}
-use Rattle.mt_core.proofs.Calling.{txn_named}
+use Rattle.mt_core.proofs.Calling.{above_all, txn_named}
 use Rattle.mt_core.proofs.Effects.{weighs_effect, inverse_bytes, inverse_writes, last_did}
 use Rattle.mt_core.specs.Runs.{undo_bytes, entry_bytes}
 use Rattle.mt_core.proofs.Enough.{undo_enough}
 use Rattle.mt_core.proofs.Inverse.{last_has, within_steps, inverse_within, undo_fresh}
-use Rattle.mt_core.proofs.Resting.{undoing_in, last_entry, aborting_open}
+use Rattle.mt_core.proofs.Resting.{undoing_in, last_entry, backwards_open}
 use Rattle.mt_core.proofs.Rooms.{rooms_in}
 use Rattle.mt_core.proofs.Sounds.{steady_of, few_of}
 use Rattle.mt_core.proofs.Refusing.{Steps-prop}
@@ -28,7 +28,7 @@ use Rattle.mt_core.proofs.Laboring.{steps_push_other}
 use Rattle.mt_core.proofs.Undoing.{undo_idle, undo_begun, cut_left}
 use Rattle.mt_core.proofs.Restarts.{store_same}
 use Rattle.std.proofs.Common.{refl}
-use Rattle.mt_core.proofs.parts.Core.undo_begin.Goals as goal
+use Rattle.mt_core.proofs.parts.Core.inverse_begin.Goals as goal
 
 pub inverse_of-requires : goal.inverse_of-requires
 inverse_of-requires g c = ∥∥₁_elim c.requires.safe (Steps-prop _) (λ (origin, base, safe). let k = c.args.self.now in
@@ -41,7 +41,7 @@ returns-in_err-reserve-clause-state g c = λ origin base safe. let k = c.args.se
 
 pub begin_op-requires-clause-numbers : goal.begin_op-requires-clause-numbers
 begin_op-requires-clause-numbers g c = ∥∥₁_elim c.requires.safe (hlevel props) (λ (origin, base, safe).
-    let named = txn_named g.D.Device origin base c.args.self.now c.args.txn safe.fit (aborting_open (member_of c.args.self.now.live.members c.args.txn) c.requires.aborting) in
+    let named = txn_named g.D.Device origin base c.args.self.now c.args.txn safe.fit (backwards_open (member_of c.args.self.now.live.members c.args.txn) c.requires.backwards) in
     let few = safe.fit.numbered.few_operations in let is = c.new.ensures in (named, (omega arith, omega arith)))
 
 pub returns-in-Err-clause-state : goal.returns-in-Err-clause-state
@@ -64,7 +64,7 @@ returns-in-Ok-clause-state g c = λ origin base safe.
     let small = last_has (IsWithinSchema origin) c.args.txn k.live.standing x.0 safe.fit.small x.1 in
     let within = inverse_within origin.relations origin.counters x.0.op x.0.reply c.in-Some-2.inverse small.op small.reply inverse in
     let number : last_operation (member_of k.live.members c.args.txn) ≡ Some c.in-Some.last.number = sym c.in-Some.ensures.number in
-    let due = undo_fresh g.D.Device origin base k c.args.txn (k.last + 1) c.in-Some.last.number safe (aborting_open (member_of c.args.self.now.live.members c.args.txn) c.requires.aborting) (omega arith) number in
+    let due = undo_fresh g.D.Device origin base k c.args.txn (k.last + 1) c.in-Some.last.number safe (backwards_open (member_of c.args.self.now.live.members c.args.txn) c.requires.backwards) (omega arith) number in
     let numbered : c.in-Some.last.number ≡ c.get-undoes.result = sym c.get-undoes.ensures in
     let fresh : IsFresh (world g.D.Device origin.pages k.operations) c.args.txn c.new.result c.get-undoes.result = subst (λ (X : Type 0). X) (λ i. IsFresh (world g.D.Device origin.pages k.operations) c.args.txn (sym c.new.ensures i) (numbered i)) due.0 in
     let back : s.undoes ≢ 0 = λ is. due.1 (numbered ∙ sym e.named.3 ∙ is) in
@@ -74,7 +74,9 @@ returns-in-Ok-clause-state g c = λ origin base safe.
     let n : Core g.row.D.Denot = record k { running = c.push_reserved.new.self; reserved = k.reserved - 106496 } in
     let writes : undo_bytes c.in-Some-2.inverse ≡ 106496 = inverse_writes x.0.op x.0.reply c.in-Some-2.inverse inverse in
     undoing_in g.D.Device origin base k n c.args.txn x.0 s
-    safe c.requires.aborting c.requires.idle x.1 (inverse ∙ ap Some (sym e.named.2)) (c.push_reserved.ensures.items ∙ ap (λ (rs : List OpScope). rs ++ s ∷ []) c.reserve.ensures.items)
+    safe c.requires.backwards
+    (λ first is. let noted = c.requires.noted first is in record { room = noted.0; newest = above_all (k.last + 1) (member_of k.live.members c.args.txn) (λ m at i d lt. let low = (safe.outcome c.args.txn m at).numbers i d lt in omega (arith, low)); after = noted.1 })
+    c.requires.idle x.1 (inverse ∙ ap Some (sym e.named.2)) (c.push_reserved.ensures.items ∙ ap (λ (rs : List OpScope). rs ++ s ∷ []) c.reserve.ensures.items)
     (number ∙ ap Some (numbered ∙ sym e.named.3)) (e.under origin.pages origin.relations origin.counters safe.fit.right within fresh) e.budget e.named.0 (e.named.1 ∙ c.new.ensures) back e.named.4 e.planning.0
     (e.left ∙ writes) (omega arith)
 
@@ -97,7 +99,7 @@ returns-in-Ok-clause-fewer g c = λ is. let k = c.args.self.now in let e = c.in-
     let r : OpScope = s in let all = pages k.operations.store.pool in
     let back : s.undoes ≢ 0 = ∥∥₁_elim c.requires.safe (hlevel props) (λ (origin, base, safe).
     let number : last_operation (member_of k.live.members t) ≡ Some c.in-Some.last.number = sym c.in-Some.ensures.number in
-    let due = undo_fresh g.D.Device origin base k t (k.last + 1) c.in-Some.last.number safe (aborting_open (member_of k.live.members t) c.requires.aborting) (omega arith) number in
+    let due = undo_fresh g.D.Device origin base k t (k.last + 1) c.in-Some.last.number safe (backwards_open (member_of k.live.members t) c.requires.backwards) (omega arith) number in
     λ zero. due.1 (sym c.get-undoes.ensures ∙ sym e.named.3 ∙ zero)) in
     let n : Core g.row.D.Denot = record k { running = c.push_reserved.new.self; reserved = k.reserved - 106496 } in
     let items = c.push_reserved.ensures.items ∙ ap (λ (rs : List OpScope). rs ++ r ∷ []) c.reserve.ensures.items in

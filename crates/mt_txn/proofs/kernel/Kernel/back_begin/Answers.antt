@@ -1,0 +1,28 @@
+use Rattle.std.proofs.Common.{refl, ap}
+use Rattle.mt_core.specs.declared.parts.Core.{Core}
+use mathlib.Core.Logic.{∥∥₁_elim, ∥∥₁_map}
+use Rattle.std.proofs.Props.{props}
+use Rattle.mt_txn.proofs.Showing.{led, well_led, stays_led}
+use Rattle.mt_txn.proofs.Restarting.{no_call, restarts_on, stays_goes}
+use Rattle.mt_txn.proofs.kernel.Kernel.back_begin.Goals as goal
+
+pub invariant_of-self : goal.invariant_of-self
+invariant_of-self g c = record { well = well_led g.D.Device c.args.self.now.relations c.args.self.now.counters c.args.self.now.core c.return_begin.new.self (λ z. z) (stays_led g.D.Device c.args.self.now.relations c.args.self.now.counters c.args.self.now.core c.return_begin.new.self c.return_begin.ensures.state) c.args.self.now.well; starts = ∥∥₁_map c.args.self.now.starts (λ (first, r). let D = g.D.Device in let k = c.args.self.now in (first, restarts_on D k.relations k.counters first k.core c.return_begin.new.self (stays_goes D k.core c.return_begin.new.self c.return_begin.ensures.state) (c.return_begin.ensures.restartable) r)); schema = c.args.self.now.schema }
+
+pub returns-clause-state : goal.returns-clause-state
+returns-clause-state g c = λ first s shows. led g.D.Device c.args.self.now.relations c.args.self.now.counters c.args.self.now.core c.return_begin.new.self (λ z. z) first s (stays_led g.D.Device c.args.self.now.relations c.args.self.now.counters c.args.self.now.core c.return_begin.new.self c.return_begin.ensures.state) shows
+
+pub returns-clause-work : goal.returns-clause-work
+returns-clause-work g c = ∥∥₁_elim c.args.self.now.well (hlevel props) (λ (origin, base, is, safe). c.return_begin.ensures.few_steps origin base safe)
+
+pub returns-clause-restarts : goal.returns-clause-restarts
+returns-clause-restarts g c = λ first r. let D = g.D.Device in let k = c.args.self.now in
+    restarts_on D k.relations k.counters first k.core c.return_begin.new.self (stays_goes D k.core c.return_begin.new.self c.return_begin.ensures.state) (c.return_begin.ensures.restartable) r
+
+pub returns-in-Some-clause-moments : goal.returns-in-Some-clause-moments
+returns-in-Some-clause-moments g c = λ first r schema. let D = g.D.Device in let k = c.args.self.now in
+    no_call D k.relations k.counters first g.met.D.Device.only_now k.core _ refl r schema
+
+pub returns-clause-moments : goal.returns-clause-moments
+returns-clause-moments g c = λ first r schema. let D = g.D.Device in let k = c.args.self.now in
+    no_call D k.relations k.counters first g.met.D.Device.only_now k.core _ (ap (λ (x : Core g.row.D.Denot). x.operations.store.device) c.return_begin.ensures.rest) r schema

@@ -97,12 +97,10 @@ impl<D: Device> Core<D> {
         requires { is_open (member_of self.old.live.members txn) ≡ true }
         ensures state { StaysIn D.Device self.old self.new }
         ensures aborts { SetsState self.old self.new txn (Some Aborting) }
-        ensures running { self.new.running ≡ self.old.running }
-        ensures numbers { self.new.last ≡ self.old.last }
+        ensures rest { self.new ≡ record self.old { live = self.new.live } }
         ensures same_commits { SameCommits self.old self.new }
         ensures few { (origin : Origin) (base : Base) → IsConsistent D.Device origin base self.old
             → undo_steps self.new txn ≤ most_steps self.old txn }
-        ensures device { core_device self.new ≡ core_device self.old }
         ensures restartable { StaysRestartable D.Device self.old self.new }
     {
         self.live.set_state(txn, TxnState::Aborting);

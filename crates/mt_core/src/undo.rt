@@ -102,6 +102,8 @@ impl<D: Device> Core<D> {
         ensures state { StaysIn D.Device self.old self.new }
         ensures after { result ≡ Ok true
             → is_some (last_effect txn (after_first txn first self.old.live.standing)) ≡ true }
+        ensures needed { OnErr result
+            (is_some (last_effect txn (after_first txn first self.old.live.standing)) ≡ true) }
         ensures nothing { result ≡ Ok false → NoneAfter self.old txn first }
         ensures same { result ≡ Ok false → self.new ≡ self.old }
         ensures fewer { result ≡ Ok true → undo_steps self.new txn < undo_steps self.old txn }

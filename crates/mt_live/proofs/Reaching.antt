@@ -1,5 +1,5 @@
 -- Whether an effect stands after the first so many that stand: of a transaction's calls, and of its entries.
-use Rattle.std.proofs.Common.{◌≡◌, ℕ, zero, suc, Bool, true, false, cond, ◌==◌, List, [], ◌∷◌, Option, Some, None, is_some, map, take, length, refl, ap, sym, ◌∙◌}
+use Rattle.std.proofs.Common.{◌≡◌, ℕ, zero, suc, Bool, true, false, cond, ◌==◌, List, [], ◌∷◌, Option, Some, None, is_some, filter, map, take, length, refl, ap, sym, ◌∙◌}
 use Rattle.std.proofs.Math.Dec.{leb, leb-zero, leb-suc-zero, leb-suc-suc}
 use Rattle.std.proofs.lemmas.Bool.{and_left}
 use Rattle.mt_live.specs.declared.places.Place.{Place}
@@ -105,6 +105,37 @@ pub effect_behind : (f : ℕ → List Noted) (t n : ℕ) (os : List Place) → n
 effect_behind f t n os placed =
     ap is_some (last_only t (after_first t n (standing_by f os))) ∙ (ap (λ es. is_some (last_effect t es)) (after_only t n (standing_by f os))
     ∙ (ap (λ es. is_some (last_effect t (after_first t n es))) (standing_own f t os 0 (length (f t)) (f t) placed refl refl) ∙ own_after t n (f t)))
+
+-- ---- how many stand
+
+counted_only : (t : ℕ) (es : List Entry) → filter (is_counted t) (kept (only t) es) ≡ filter (is_counted t) es
+counted_only t [] = refl
+counted_only t (e ∷ es) = go (e.txn == t) refl (counted_only t es)
+  where
+    go : (b : Bool) → (e.txn == t) ≡ b → filter (is_counted t) (kept (only t) es) ≡ filter (is_counted t) es
+        → filter (is_counted t) (cond b (e ∷ kept (only t) es) (kept (only t) es)) ≡ filter (is_counted t) (e ∷ es)
+    go true is rest = ap (λ w. cond (is_counted t e) (e ∷ w) w) rest
+    go false is rest =
+        let none : is_counted t e ≡ false = and_left (e.txn == t) (is_standing e.role) is in
+        rest ∙ ap (λ b. cond b (e ∷ filter (is_counted t) es) (filter (is_counted t) es)) (sym none)
+
+counted_calls : (t : ℕ) (cs : List Noted) → length (filter (is_counted t) (map (entry_by t) cs)) ≡ standing_count cs
+counted_calls t [] = refl
+counted_calls t (c ∷ cs) =
+    ap (λ b. length (cond b (entry_by t c ∷ filter (is_counted t) (map (entry_by t) cs)) (filter (is_counted t) (map (entry_by t) cs)))) (counted_own t c)
+    ∙ go (is_standing c.role) (counted_calls t cs)
+  where
+    go : (b : Bool) → length (filter (is_counted t) (map (entry_by t) cs)) ≡ standing_count cs
+        → length (cond b (entry_by t c ∷ filter (is_counted t) (map (entry_by t) cs)) (filter (is_counted t) (map (entry_by t) cs))) ≡ cond b (suc (standing_count cs)) (standing_count cs)
+    go true rest = ap suc rest
+    go false rest = rest
+
+-- as many of a transaction's entries as of its calls
+pub counted_standing : (f : ℕ → List Noted) (t : ℕ) (os : List Place) → numbers t os ≡ count_from 0 (length (f t))
+    → length (filter (is_counted t) (standing_by f os)) ≡ standing_count (f t)
+counted_standing f t os placed =
+    ap length (sym (counted_only t (standing_by f os)))
+    ∙ (ap (λ es. length (filter (is_counted t) es)) (standing_own f t os 0 (length (f t)) (f t) placed refl refl) ∙ counted_calls t (f t))
 
 -- the last effect among those after the first is the last of all
 pub last_after : (t n : ℕ) (es : List Entry) (e : Entry) → last_effect t (after_first t n es) ≡ Some e → last_effect t es ≡ Some e

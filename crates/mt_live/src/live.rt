@@ -1,6 +1,6 @@
 // The active transactions, and what of their operations counts. Each change is an event of the laws.
 // mt_core keeps one `Live`, and ties it to locks, escrow and pages, which are not known here.
-ghost use Rattle.std.specs.Prelude.{ℕ, [], ◌∷◌, ◌++◌, ◌≡◌, ◌≢◌, ◌==◌, ◌<◌, ◌≤◌, ◌+◌, ◌^◌, true, false, None, Some, IfOk, IfErr, OnOk, OnErr, MatchOption, is_some, length, map, slice_index_or};
+ghost use Rattle.std.specs.Prelude.{ℕ, [], ◌∷◌, ◌++◌, ◌≡◌, ◌≢◌, ◌==◌, ◌<◌, ◌≤◌, ◌+◌, ◌^◌, true, false, None, Some, IfOk, IfErr, OnOk, OnErr, MatchOption, filter, is_some, length, map, slice_index_or};
 ghost use Rattle.std.specs.List.{position};
 ghost use Rattle.std.specs.Option.{option_map};
 ghost use Rattle.mt_base.specs.declared.limits.TheConstants.{MAX_BEGUN};
@@ -8,7 +8,7 @@ ghost use Rattle.mt_base.specs.declared.refusal.Refusal.{Refusal};
 ghost use Rattle.mt_model.specs.History.{Call};
 ghost use Rattle.mt_live.specs.Entries.{Entry, calls, kept};
 ghost use Rattle.mt_live.specs.declared.transactions.Role.{Role};
-ghost use Rattle.mt_live.specs.Undoing.{only, others, last_effect, after_first, cut_back, mark_last, settle_after};
+ghost use Rattle.mt_live.specs.Undoing.{only, others, is_counted, last_effect, after_first, cut_back, mark_last, settle_after};
 ghost use Rattle.mt_live.specs.Machine.{put};
 ghost use Rattle.mt_live.specs.Members.{Member, fresh, with_room, with_call, with_state, with_back, with_mark, settled_at, last_place, standing_count, forward_count, noted_after, noted_calls, taken_back, committed_of, last_operation};
 ghost use Rattle.mt_live.specs.Lives.{entry_by, member_of, is_member, has_room, AreInOrder, AreNumbered, IsAbove, IsFirst, IsChanged};
@@ -271,7 +271,8 @@ impl Live {
     /// neither do their inverses.
     pub fn answered(&self, txn: TxnNo) -> usize
         requires { is_member self.now.members txn ≡ true }
-        ensures { Some result ≡ option_map (λ m. standing_count m.calls) (member_of self.now.members txn) }
+        ensures standing { result ≡ length (filter (is_counted txn) self.now.standing) }
+        ensures member { Some result ≡ option_map (λ m. standing_count m.calls) (member_of self.now.members txn) }
     {
         let at = place_in(&self.transactions, txn);
         self.transactions[at].count_standing()

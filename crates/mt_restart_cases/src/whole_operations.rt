@@ -25,7 +25,10 @@ pub enum Outcome {
     Rows(usize),
     OutOfBounds,
     Committed(u64),
-    Aborted,
+    /// Nothing is left to undo.
+    Ended,
+    /// The number of a transaction, or of those of its operations that count.
+    Number(u64),
     Refused(Refusal),
     /// It comes to no end.
     Stuck,
@@ -96,8 +99,8 @@ pub fn stepped<D: Device>(kernel: &mut Kernel<D>, txn: TxnNo) -> Outcome {
     }
 }
 
-// Writes a page into its slot, after the log's force if it waits for one. Answers `Went` if one was written.
-fn flushed<D: Device>(kernel: &mut Kernel<D>) -> Outcome {
+/// Writes a page into its slot, after the log's force if it waits for one. Answers `Went` if one was written.
+pub fn flushed<D: Device>(kernel: &mut Kernel<D>) -> Outcome {
     for _step in 0..16u8 {
         match kernel.flush_step() {
             Ok(Flushed::Page(_)) => return Outcome::Went,
@@ -120,9 +123,9 @@ fn stepped_or_flushed<D: Device>(kernel: &mut Kernel<D>, txn: TxnNo) -> Outcome 
     }
 }
 
-/// Makes an operation from its call to its reply, or to what is in its way.
-pub fn run<D: Device>(kernel: &mut Kernel<D>, txn: TxnNo, op: Op) -> Outcome {
-    let mut outcome = called(kernel, txn, &op);
+/// Makes an operation on from its call, which was answered so, to its reply or to what is in its way.
+pub fn finished<D: Device>(kernel: &mut Kernel<D>, txn: TxnNo, called: Outcome) -> Outcome {
+    let mut outcome = called;
     for _step in 0..1000u16 {
         match outcome {
             Outcome::Started | Outcome::Went | Outcome::Again => {}
@@ -131,6 +134,12 @@ pub fn run<D: Device>(kernel: &mut Kernel<D>, txn: TxnNo, op: Op) -> Outcome {
         outcome = stepped_or_flushed(kernel, txn);
     }
     Outcome::Stuck
+}
+
+/// Makes an operation from its call to its reply, or to what is in its way.
+pub fn run<D: Device>(kernel: &mut Kernel<D>, txn: TxnNo, op: Op) -> Outcome {
+    let called = called(kernel, txn, &op);
+    finished(kernel, txn, called)
 }
 
 /// Commits a transaction, and makes the commit durable.
@@ -153,13 +162,14 @@ pub fn committed<D: Device>(kernel: &mut Kernel<D>, txn: TxnNo) -> Outcome {
     Outcome::Stuck
 }
 
-fn reported_of_abort(stepped: AbortStepped) -> Outcome {
+/// What a step of an abort answered, or of going back.
+pub fn reported_of_abort(stepped: AbortStepped) -> Outcome {
     match stepped {
         AbortStepped::More => Outcome::Went,
         AbortStepped::Wait(other) => Outcome::Wait(other.get()),
         AbortStepped::Again => Outcome::Again,
         AbortStepped::Flush => Outcome::Flush,
-        AbortStepped::Ended => Outcome::Aborted,
+        AbortStepped::Ended => Outcome::Ended,
     }
 }
 

@@ -1,5 +1,5 @@
 -- What a call of a kernel did, and what it left: k before, and n after the call.
-use Rattle.std.specs.Prelude.{ℕ, ◌≡◌, ◌≢◌, ◌<◌, ◌+◌, ◌++◌, ◌∷◌, [], IfOk, None, Ok, OnErr, OnOk, Result, Some, false, length, true}
+use Rattle.std.specs.Prelude.{ℕ, ◌≡◌, ◌≢◌, ◌⊎◌, ◌<◌, ◌+◌, ◌++◌, ◌∷◌, [], IfOk, None, Ok, OnErr, OnOk, Result, Some, false, length, true}
 use Rattle.mt_disk.specs.declared.device.Device.{Ghosts}
 use Rattle.mt_base.specs.declared.refusal.Refusal.{Refusal}
 use Rattle.mt_core.specs.Work.{KeepsOthers}
@@ -11,10 +11,10 @@ use Rattle.mt_pool.specs.Views.{AreClean, Cleans, IsWaiting, SamePlaces, pages, 
 use Rattle.mt_pool.specs.declared.flushes.Flushed.{Flushed}
 use Rattle.mt_pool.specs.declared.flushes.Flushed.TheVariants as flushed
 use Rattle.mt_txn.specs.PageLocks.{AbortsLocks, OfRunning, StepsLocks}
-use Rattle.mt_txn.specs.Shown.{kernel_log, kernel_page_locks, kernel_pool, kernel_ruling}
-use Rattle.mt_txn.specs.Words.{CommitsStay, FrameIsWanted, NumbersStay, RunningStays, StateIsSet, StatesStay, StatesStayBut, UncommittedStay, UndoStays, kernel_abort_cause, kernel_commits, kernel_count, kernel_is_busy, kernel_last, kernel_members, kernel_return_cause, kernel_running, kernel_state, kernel_step_cause, kernel_steps, kernel_undo_steps}
+use Rattle.mt_txn.specs.Shown.{kernel_device, kernel_log, kernel_page_locks, kernel_pool, kernel_ruling}
+use Rattle.mt_txn.specs.Words.{CommitsStay, FrameIsWanted, NumbersStay, RunningStays, StateIsSet, StatesStay, StatesStayBut, UncommittedStay, UndoStays, kernel_abort_cause, kernel_commits, kernel_count, kernel_is_busy, kernel_last, kernel_members, kernel_return_cause, kernel_running, kernel_state, kernel_step_cause, kernel_steps, kernel_store, kernel_undo_steps}
 use Rattle.mt_txn.specs.Work.{IsAbortForOther, IsForOther, LowersAbort, LowersReturn, LowersSteps}
-use Rattle.mt_txn.specs.Writes.{WritesOnePage}
+use Rattle.mt_txn.specs.Writes.{InverseWrites, WritesOnePage}
 use Rattle.mt_txn.specs.declared.answers.AbortStepped.{AbortStepped}
 use Rattle.mt_txn.specs.declared.answers.AbortStepped.TheVariants as abort
 use Rattle.mt_txn.specs.declared.answers.KernelForced.{KernelForced}
@@ -45,7 +45,7 @@ module _ {D : Type 0} {g : Ghosts D} where
 
   -- ---- a step of the abort of t
 
-  -- It does the same, and takes no page lock if no operation of t is under way.
+  -- It does the same. If no operation of t is under way, it takes no page lock, calls no device, and does not wait.
   pub record MovesAbort (k : Kernel D g) (t : ℕ) (result : Result AbortStepped Refusal) (n : Kernel D g) : Type 0 where
     pub work : LowersAbort (pages (kernel_pool k)) result (kernel_undo_steps k t) (kernel_undo_steps n t)
     pub others : KeepsOthers t (kernel_running k) (kernel_running n)
@@ -54,6 +54,9 @@ module _ {D : Type 0} {g : Ghosts D} where
     pub locks : kernel_abort_cause k t ≡ None → kernel_is_busy k t ≡ true
         → OfRunning (kernel_running k) t (λ r. AbortsLocks k.core n.core r result)
     pub idle : kernel_is_busy k t ≡ false → kernel_page_locks n ≡ kernel_page_locks k
+    pub device : kernel_is_busy k t ≡ false → kernel_device n ≡ kernel_device k
+    pub goes : kernel_is_busy k t ≡ false
+        → IfOk result (λ stepped. (stepped ≡ abort.More) ⊎ (stepped ≡ abort.Ended))
 
   -- The transaction lives no more once its abort ends; the others, the commits and what is durable stay. It takes a
   -- number if it begins an inverse, and else none.
@@ -69,7 +72,7 @@ module _ {D : Type 0} {g : Ghosts D} where
 
   -- ---- a step of t's going back to its first so many operations
 
-  -- It does as one of an abort.
+  -- It does as one of an abort. If no operation of t is under way, the store stays.
   pub record MovesReturn (k : Kernel D g) (t : ℕ) (result : Result AbortStepped Refusal) (n : Kernel D g) : Type 0 where
     pub work : LowersReturn (pages (kernel_pool k)) result (kernel_undo_steps k t) (kernel_undo_steps n t)
     pub others : KeepsOthers t (kernel_running k) (kernel_running n)
@@ -78,6 +81,9 @@ module _ {D : Type 0} {g : Ghosts D} where
     pub locks : kernel_return_cause k t ≡ None → kernel_is_busy k t ≡ true
         → OfRunning (kernel_running k) t (λ r. AbortsLocks k.core n.core r result)
     pub idle : kernel_is_busy k t ≡ false → kernel_page_locks n ≡ kernel_page_locks k
+    pub store : kernel_is_busy k t ≡ false → kernel_store n ≡ kernel_store k
+    pub goes : kernel_is_busy k t ≡ false
+        → IfOk result (λ stepped. (stepped ≡ abort.More) ⊎ (stepped ≡ abort.Ended))
 
   -- The transaction is open once it ends, and those first operations count; it lives with its locks. The others, the
   -- commits and what is durable stay. It takes a number if it begins an inverse, and else none.
@@ -87,6 +93,7 @@ module _ {D : Type 0} {g : Ghosts D} where
     pub opened : (first : ℕ) → kernel_state k t ≡ Some (Returning first) → result ≡ Ok abort.Ended
         → StateIsSet k n t (Some Open) × (kernel_count n t ≡ Some first)
     pub err_states : OnErr result (StatesStay k n)
+    pub writes : InverseWrites (appended (kernel_log k)) (appended (kernel_log n)) result
     pub durable : durable (kernel_log n) ≡ durable (kernel_log k)
     pub commits : CommitsStay k n
     pub numbers : kernel_is_busy k t ≡ true → NumbersStay k n

@@ -132,7 +132,7 @@ UncommittedStay k n = SameUncommitted k.core n.core
 abbrev pub StateIsSet : {D : Type 0} → {g : Ghosts D} → Kernel D g → Kernel D g → ℕ → Option TxnState → Type 0
 StateIsSet k n t state = SetsState k.core n.core t state
 
--- the book and the commits under way; the operations under way; and what is to be undone
+-- the commits under way; the operations under way; and what is to be undone
 abbrev pub CommitsStay : {D : Type 0} → {g : Ghosts D} → Kernel D g → Kernel D g → Type 0
 CommitsStay k n = SameCommits k.core n.core
 

@@ -1,6 +1,6 @@
 // Aborts: an operation under way is taken back, and each effect is undone by its inverse, the last one first.
 // A call makes one step of it, by the core.
-ghost use Rattle.std.specs.Prelude.{◌≡◌, ◌≢◌, ◌⊎◌, ◌<◌, ◌≤◌, ◌+◌, length, All, IfErr, OnOk, OnErr, None, Some, Ok, Err, true};
+ghost use Rattle.std.specs.Prelude.{◌≡◌, ◌≢◌, ◌⊎◌, ◌<◌, ◌≤◌, ◌+◌, length, All, IfErr, IfOk, OnOk, OnErr, None, Some, Ok, Err, true};
 ghost use Rattle.mt_base.specs.declared.refusal.Refusal.{Refusal};
 ghost use Rattle.mt_live.specs.Machine.{State};
 ghost use Rattle.mt_model.specs.Model.{Base};
@@ -12,11 +12,13 @@ ghost use Rattle.mt_txn.specs.Causes.{IsRefusedAtOnce};
 ghost use Rattle.mt_txn.specs.Effects.{LeavesAbort, MovesAbort};
 ghost use Rattle.mt_txn.specs.Aborted.{StepsAbort, StepsInverse};
 ghost use Rattle.mt_txn.specs.Events.{HasAborted};
-ghost use Rattle.mt_txn.specs.Shown.{FailsForGood, SameSchema, Shows, Stays, StaysRestarting, TellsEachFault, kernel_device, kernel_page_locks};
+ghost use Rattle.mt_txn.specs.Shown.{FailsForGood, SameSchema, Shows, Stays, StaysRestarting, TellsEachFault, kernel_device, kernel_log, kernel_page_locks};
 ghost use Rattle.mt_txn.specs.Work.{IsAbortReportedAs};
 ghost use Rattle.mt_txn.specs.Shown.{CallsOnce, LeavesFound};
 ghost use Rattle.mt_txn.specs.PageLocks.{AbortsLocks};
 ghost use Rattle.mt_txn.specs.Words.{kernel_state, kernel_running, kernel_undo_steps, kernel_abort_begin_cause, kernel_abort_cause, kernel_last, IsKernelFault, StateIsSet, CommitsStay, NumbersStay, RunningStays};
+ghost use Rattle.mt_txn.specs.Writes.{InverseWrites};
+ghost use Rattle.mt_log.specs.Words.{appended};
 ghost use Rattle.mt_op.specs.World.{undoes_of};
 
 use crate::answers::AbortStepped;
@@ -88,6 +90,7 @@ impl<D: Device> Kernel<D> {
         ensures numbers { NumbersStay self.old self.new }
         ensures locks { AtPlace (kernel_running self.old) place
             (λ r. AbortsLocks self.old.core self.new.core r result) }
+        ensures writes { InverseWrites (appended (kernel_log self.old)) (appended (kernel_log self.new)) result }
     {
         let outcome = self.core.undo_step(self.alloc, place);
         self.failed = is_failure(&outcome);
@@ -124,6 +127,8 @@ impl<D: Device> Kernel<D> {
         ensures drawn { result ≡ Ok AbortStepped.More → kernel_last self.new ≡ kernel_last self.old + 1 }
         ensures undrawn { result ≢ Ok AbortStepped.More → NumbersStay self.old self.new }
         ensures locks { kernel_page_locks self.new ≡ kernel_page_locks self.old }
+        ensures device { kernel_device self.new ≡ kernel_device self.old }
+        ensures goes { IfOk result (λ stepped. (stepped ≡ AbortStepped.More) ⊎ (stepped ≡ AbortStepped.Ended)) }
     {
         if self.core.undo_begin(self.alloc, txn)? {
             return Ok(AbortStepped::More);

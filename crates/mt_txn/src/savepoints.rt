@@ -1,8 +1,9 @@
 // Going back to a savepoint: where the first so many operations of a transaction had ended. What it did since is undone
 // by inverses, as in an abort, but they and what they take back stand. The transaction goes on after that.
-ghost use Rattle.std.specs.Prelude.{ℕ, ◌≡◌, ◌≢◌, ◌⊎◌, ◌≤◌, ◌+◌, All, IfErr, IfOk, OnOk, OnErr, None, Some, Ok, Err, true};
+ghost use Rattle.std.specs.Prelude.{ℕ, ◌≡◌, ◌≢◌, ◌⊎◌, ◌≤◌, ◌+◌, All, IfErr, IfOk, OnOk, OnErr, None, Some, Ok, Err, filter, length, true};
 ghost use Rattle.mt_base.specs.declared.refusal.Refusal.{Refusal};
 ghost use Rattle.mt_live.specs.Machine.{State};
+ghost use Rattle.mt_live.specs.Undoing.{is_counted};
 ghost use Rattle.mt_live.specs.declared.transactions.TxnState.TheVariants.{Returning};
 ghost use Rattle.mt_model.specs.Model.{Base};
 ghost use Rattle.mt_core.specs.Work.{most_steps};
@@ -11,8 +12,8 @@ ghost use Rattle.mt_txn.specs.Aborted.{StepsReturn};
 ghost use Rattle.mt_txn.specs.Causes.{IsRefusedAtOnce};
 ghost use Rattle.mt_txn.specs.Effects.{LeavesReturn, MovesReturn};
 ghost use Rattle.mt_txn.specs.Events.{HasReturned};
-ghost use Rattle.mt_txn.specs.Shown.{CallsOnce, FailsForGood, LeavesFound, SameSchema, Shows, Stays, StaysRestarting, TellsEachFault, kernel_device, kernel_page_locks};
-ghost use Rattle.mt_txn.specs.Words.{kernel_back_cause, kernel_commit_cause, kernel_count, kernel_last, kernel_return_cause, kernel_running, kernel_state, kernel_undo_steps, CommitsStay, IsKernelFault, NumbersStay, RunningStays, StateIsSet};
+ghost use Rattle.mt_txn.specs.Shown.{CallsOnce, FailsForGood, LeavesFound, SameSchema, Shows, Stays, StaysRestarting, TellsEachFault, kernel_page_locks};
+ghost use Rattle.mt_txn.specs.Words.{kernel_back_cause, kernel_commit_cause, kernel_count, kernel_last, kernel_return_cause, kernel_running, kernel_state, kernel_store, kernel_undo_steps, CommitsStay, IsKernelFault, NumbersStay, RunningStays, StateIsSet};
 
 use crate::answers::AbortStepped;
 use crate::kernel::Kernel;
@@ -21,12 +22,15 @@ use mt_disk::Device;
 
 impl<D: Device> Kernel<D> {
     /// How many operations of an open transaction count: those that have ended and that it did not take back, with
-    /// effect or without. [`Kernel::back_begin`] goes back to that number.
+    /// effect or without. [`Kernel::back_begin`] goes back to that number. It names these operations only until the
+    /// transaction goes back to a lower one: after that, those called anew count.
     ///
     /// Refused, in this order: 2 if the device has failed, 15 if the transaction is not open, 16 if an operation of it
     /// is unfinished.
     pub fn save(&self, txn: TxnNo) -> Result<u16, Refusal>
         ensures count { IfOk result (λ count. kernel_count self.now txn ≡ Some count) }
+        ensures standing { (first : Base) (s : State) → Shows first s self.now
+            → IfOk result (λ count. count ≡ length (filter (is_counted txn) s.standing)) }
         ensures may { OnOk result (kernel_commit_cause self.now txn ≡ None) }
         ensures cause { IfErr result (λ why. kernel_commit_cause self.now txn ≡ Some why) }
     {
@@ -38,8 +42,8 @@ impl<D: Device> Kernel<D> {
 
     /// Begins to go back to where the first so many operations of an open transaction had ended, of those that count.
     /// Steps bring it there ([`Kernel::back_step`]); until then nothing else but an abort can be asked of it. If nobody
-    /// is in the way, over n pages, they are at most 2 n + 10 for each operation that counts, and the end. It takes no
-    /// memory, and makes no call of the device.
+    /// is in the way, over n pages, they are at most 2 n + 10 for each operation that counts, and for one more. It
+    /// takes no memory, and makes no call of the device.
     ///
     /// Refused, in this order: 2 if the device has failed, 15 if the transaction is not open, 16 if an operation of it
     /// is unfinished, 19 if fewer of its operations count. Nothing has changed then.
@@ -51,7 +55,9 @@ impl<D: Device> Kernel<D> {
         ensures running { RunningStays self.old self.new }
         ensures numbers { NumbersStay self.old self.new }
         ensures commits { CommitsStay self.old self.new }
-        ensures device { kernel_device self.new ≡ kernel_device self.old }
+        ensures counts { (t : ℕ) → kernel_count self.new t ≡ kernel_count self.old t }
+        ensures store { kernel_store self.new ≡ kernel_store self.old }
+        ensures locks { kernel_page_locks self.new ≡ kernel_page_locks self.old }
         ensures work { OnOk result (kernel_undo_steps self.new txn ≤ most_steps self.old.core txn) }
         ensures fails { FailsForGood self.old result self.new }
         ensures err { OnErr result (self.new ≡ self.old) }
@@ -75,6 +81,8 @@ impl<D: Device> Kernel<D> {
         ensures drawn { result ≡ Ok AbortStepped.More → kernel_last self.new ≡ kernel_last self.old + 1 }
         ensures undrawn { result ≢ Ok AbortStepped.More → NumbersStay self.old self.new }
         ensures locks { kernel_page_locks self.new ≡ kernel_page_locks self.old }
+        ensures store { kernel_store self.new ≡ kernel_store self.old }
+        ensures goes { IfOk result (λ stepped. (stepped ≡ AbortStepped.More) ⊎ (stepped ≡ AbortStepped.Ended)) }
     {
         if self.core.return_next(self.alloc, txn, first)? {
             return Ok(AbortStepped::More);

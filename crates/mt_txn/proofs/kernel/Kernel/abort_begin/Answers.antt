@@ -1,4 +1,5 @@
-use Rattle.std.proofs.Common.{refl}
+use Rattle.std.proofs.Common.{ap, refl}
+use Rattle.mt_core.specs.declared.parts.Core.{Core}
 use mathlib.Core.Logic.{∥∥₁_elim, ∥∥₁_map}
 use Rattle.std.proofs.Props.{props}
 use Rattle.mt_txn.proofs.Showing.{led, well_led, stays_led}
@@ -24,4 +25,4 @@ returns-in-Some-clause-moments g c = λ first r schema. let D = g.D.Device in le
 
 pub returns-clause-moments : goal.returns-clause-moments
 returns-clause-moments g c = λ first r schema. let D = g.D.Device in let k = c.args.self.now in
-    no_call D k.relations k.counters first g.met.D.Device.only_now k.core _ c.abort_begin.ensures.device r schema
+    no_call D k.relations k.counters first g.met.D.Device.only_now k.core _ (ap (λ (x : Core g.row.D.Denot). x.operations.store.device) c.abort_begin.ensures.rest) r schema

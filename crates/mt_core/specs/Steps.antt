@@ -27,7 +27,7 @@ Steps g origin base k n place (Ok (GoingOn going)) = IsIn g origin base (state_o
 Steps g origin base k n place (Err why) = IsIn g origin base (state_of k base) n
 
 -- It ends, with the model's reply. In an abort what it takes back stands no more; in a transaction that goes on both
--- stand. Or the base and all that stands are as before.
+-- stay. Or the base and all that stands are as before.
 abbrev pub UndoSteps : {D : Type 0} → Ghosts D → Origin → Base → Core D → Core D → ℕ → Result Stepping Refusal → Type 0
 UndoSteps g origin base k n place (Ok (Ended reply)) =
     (r : OpScope) → r ≡ slice_index_or k.running.items place r

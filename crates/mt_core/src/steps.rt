@@ -98,7 +98,7 @@ impl<D: Device> Core<D> {
 
     /// Makes a step of an inverse, at a place of those under way. It may end, with the model's reply on the base. If
     /// its transaction is to be undone, what it takes back stands no more then, nor what the transaction did after
-    /// that. Its add, if it is one, is pending no more. If the transaction goes on, both stand: what is taken back
+    /// that. Its add, if it is one, is pending no more. If the transaction goes on, both stay: what is taken back
     /// counts no more, and its add is set aside. It waits, or begins anew, only for an operation of another
     /// transaction.
     ///

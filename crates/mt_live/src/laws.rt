@@ -41,7 +41,7 @@ pub fn inverse_keeps()
     ensures { InverseKeeps }
 {}
 
-/// The inverse of a transaction's last effect, run by a transaction that goes on, keeps what is kept: both stand, and
+/// The inverse of a transaction's last effect, run by a transaction that goes on, keeps what is kept: both stay, and
 /// bounds suffice still for an add that it took back.
 pub fn return_keeps()
     ensures { ReturnKeeps }

@@ -230,7 +230,7 @@ impl Live {
         self.order.push_reserved(Place { txn, index });
     }
 
-    /// The inverse of [`Live::last_to_undo`] has ended with this reply, and the transaction goes on. Both stand: that
+    /// The inverse of [`Live::last_to_undo`] has ended with this reply, and the transaction goes on. Both stay: that
     /// operation as taken back, and its inverse after all others, under a number above those of the transaction's
     /// others. If there is nothing to undo, the inverse alone is noted. It takes the room that [`Live::room`]
     /// made, and no memory.

@@ -103,7 +103,7 @@ HasAborted first s t result n = AbortsTo (λ z. Shows first z n) s t result
 -- ---- a transaction that goes back to its first so many operations, and then on
 
 -- What a step of it may lead to: the state as it was; or the last effect of the transaction and the inverse of that,
--- which both stand. An add is set aside with it, if it was one, and no other.
+-- which both stay. An add is set aside with it, if it was one, and no other.
 pub data IsReturn (s : State) (t : ℕ) : State → Type 0 where
   stays : IsReturn s t s
   returns : (last : Entry) (inverse : Op) (ps : List Pending) → s.running t ≡ None

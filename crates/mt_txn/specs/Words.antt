@@ -89,6 +89,7 @@ kernel_step_cause k t = step_cause (is_failed k) k.core t
 abbrev pub kernel_commit_cause : {D : Type 0} → {g : Ghosts D} → Kernel D g → ℕ → Option Refusal
 kernel_commit_cause k t = commit_cause (is_failed k) k.core t
 
+-- of what only an open transaction may do
 abbrev pub kernel_open_cause : {D : Type 0} → {g : Ghosts D} → Kernel D g → ℕ → Option Refusal
 kernel_open_cause k t = open_cause (is_failed k) k.core t
 

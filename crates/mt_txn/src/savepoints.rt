@@ -1,5 +1,5 @@
 // Going back to a savepoint: where the first so many operations of a transaction had ended. What it did since is undone
-// by inverses, as in an abort, but they and what they take back stand. The transaction goes on after that.
+// by inverses, as in an abort, but they and what they take back stay. The transaction goes on after that.
 ghost use Rattle.std.specs.Prelude.{ℕ, ◌≡◌, ◌≢◌, ◌⊎◌, ◌≤◌, ◌+◌, All, IfErr, IfOk, OnOk, OnErr, None, Some, Ok, Err, filter, length, true};
 ghost use Rattle.mt_base.specs.declared.refusal.Refusal.{Refusal};
 ghost use Rattle.mt_live.specs.Machine.{State};
@@ -92,7 +92,7 @@ impl<D: Device> Kernel<D> {
     }
 
     /// Makes one step of going back. Each operation that did anything and came after those to go back to is undone by
-    /// its inverse, the last one first (Weikum 1991), a step of the inverse a step. Both stand then, and count no more;
+    /// its inverse, the last one first (Weikum 1991), a step of the inverse a step. Both stay then, and count no more;
     /// an add is set aside until the transaction ends. Then the transaction is open, with its locks. A step waits, or
     /// begins anew, only for another transaction that lives. It locks no page but one that the plan of an inverse asks
     /// for next, and gives no other operation's page locks back. It makes no record of the log durable.
@@ -121,10 +121,7 @@ impl<D: Device> Kernel<D> {
             → kernel_state self.old txn ≡ Some (Returning first)
             → HasReturned base s txn first result self.new }
     {
-        let first = match self.returning(txn) {
-            Ok(first) => first,
-            Err(why) => return Err(why),
-        };
+        let first = self.returning(txn)?;
         let Some(place) = self.core.place_of(txn) else {
             return self.return_next(txn, first);
         };

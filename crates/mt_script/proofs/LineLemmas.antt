@@ -14,7 +14,7 @@ use Rattle.mt_model.specs.declared.operations.Op.{Op}
 use Rattle.mt_model.specs.declared.operations.Op.TheVariants.{Get, Insert, Update, Delete, Add, Read, Scan}
 use Rattle.mt_script.specs.Whole.{decimal_digits, is_without}
 use Rattle.mt_script.specs.declared.lines.Line.{Line}
-use Rattle.mt_script.specs.declared.lines.Line.TheVariants.{Begin, Call, Commit, Abort}
+use Rattle.mt_script.specs.declared.lines.Line.TheVariants.{Begin, Call, Save, Back, Commit, Abort}
 use Rattle.mt_script.specs.Lines.{IsUnspaced, IsWord, IsPlace, IsWide, SpellsStep, SpellsKey, SpellsRow, SpellsOp, Spells, op_text}
 
 -- what stands before the first c, and what behind it
@@ -257,18 +257,48 @@ no_word word words h g i u d a r x (Scan t) s = x (same_words word words (Scan t
 pub no_bare_op : (bytes : List ℕ) (op : Op) → IsUnspaced bytes → SpellsOp bytes op → ⊥
 no_bare_op bytes op h s = cut_within 32 (word_of op) (rest_of op) (subst (λ x. IsUnspaced x) (s.0 ∙ op_words op) h)
 
-pub no_bare_line : (bytes : List ℕ) → IsUnspaced bytes → bytes ≢ codes "begin" → bytes ≢ codes "commit" → bytes ≢ codes "abort" → (line : Line) → Spells bytes line → ⊥
-no_bare_line bytes h b c a Begin s = b s.0
-no_bare_line bytes h b c a (Call op) s = no_bare_op bytes op h s
-no_bare_line bytes h b c a Commit s = c s.0
-no_bare_line bytes h b c a Abort s = a s.0
+pub no_bare_line : (bytes : List ℕ) → IsUnspaced bytes → bytes ≢ codes "begin" → bytes ≢ codes "save" → bytes ≢ codes "commit" → bytes ≢ codes "abort"
+    → (line : Line) → Spells bytes line → ⊥
+no_bare_line bytes h b v c a Begin s = b s.0
+no_bare_line bytes h b v c a (Call op) s = no_bare_op bytes op h s
+no_bare_line bytes h b v c a Save s = v s.0
+no_bare_line bytes h b v c a (Back n) s = cut_within 32 (codes "back") (decimal n) (subst (λ x. IsUnspaced x) s.0 h)
+no_bare_line bytes h b v c a Commit s = c s.0
+no_bare_line bytes h b v c a Abort s = a s.0
 
--- a line of several words is an operation
-pub no_spaced_line : (bytes word words : List ℕ) → bytes ≡ word ++ 32 ∷ words → ((op : Op) → SpellsOp (word ++ 32 ∷ words) op → ⊥) → (line : Line) → Spells bytes line → ⊥
-no_spaced_line bytes word words e none Begin s = cut_within 32 word words (subst (λ x. IsUnspaced x) (sym s.0 ∙ e) (is_without 32 (codes "begin") refl))
-no_spaced_line bytes word words e none (Call op) s = none op (sym e ∙ s.0, s.1)
-no_spaced_line bytes word words e none Commit s = cut_within 32 word words (subst (λ x. IsUnspaced x) (sym s.0 ∙ e) (is_without 32 (codes "commit") refl))
-no_spaced_line bytes word words e none Abort s = cut_within 32 word words (subst (λ x. IsUnspaced x) (sym s.0 ∙ e) (is_without 32 (codes "abort") refl))
+-- several words are not one
+several : (word words one : List ℕ) → word ++ 32 ∷ words ≡ one → IsUnspaced one → ⊥
+several word words one e h = cut_within 32 word words (subst (λ x. IsUnspaced x) (sym e) h)
+
+-- a line of several words is an operation, if its first word is not "back"
+pub no_spaced_line : (word words : List ℕ) → IsUnspaced word → word ≢ codes "back" → ((op : Op) → SpellsOp (word ++ 32 ∷ words) op → ⊥)
+    → (line : Line) → Spells (word ++ 32 ∷ words) line → ⊥
+no_spaced_line word words h other none Begin s = several word words (codes "begin") s.0 (is_without 32 (codes "begin") refl)
+no_spaced_line word words h other none (Call op) s = none op s
+no_spaced_line word words h other none Save s = several word words (codes "save") s.0 (is_without 32 (codes "save") refl)
+no_spaced_line word words h other none (Back n) s =
+    other (same_cut 32 word (codes "back") words (decimal n) h (is_without 32 (codes "back") refl) s.0).0
+no_spaced_line word words h other none Commit s = several word words (codes "commit") s.0 (is_without 32 (codes "commit") refl)
+no_spaced_line word words h other none Abort s = several word words (codes "abort") s.0 (is_without 32 (codes "abort") refl)
+
+-- no operation begins with "back"
+no_back_op : (words : List ℕ) (op : Op) → SpellsOp (codes "back" ++ 32 ∷ words) op → ⊥
+no_back_op words (Get r k) s = let e = first_of _ _ s.0 in let f : 98 ≡ 103 = e in omega (arith, f)
+no_back_op words (Insert r k v) s = let e = first_of _ _ s.0 in let f : 98 ≡ 105 = e in omega (arith, f)
+no_back_op words (Update r k v) s = let e = first_of _ _ s.0 in let f : 98 ≡ 117 = e in omega (arith, f)
+no_back_op words (Delete r k) s = let e = first_of _ _ s.0 in let f : 98 ≡ 100 = e in omega (arith, f)
+no_back_op words (Add c n) s = let e = first_of _ _ s.0 in let f : 98 ≡ 97 = e in omega (arith, f)
+no_back_op words (Read c) s = let e = first_of _ _ s.0 in let f : 98 ≡ 114 = e in omega (arith, f)
+no_back_op words (Scan r) s = let e = first_of _ _ s.0 in let f : 98 ≡ 115 = e in omega (arith, f)
+
+pub no_back : (words : List ℕ) → ((n : ℕ) → IsPlace n → words ≢ decimal n) → (line : Line) → Spells (codes "back" ++ 32 ∷ words) line → ⊥
+no_back words none Begin s = several (codes "back") words (codes "begin") s.0 (is_without 32 (codes "begin") refl)
+no_back words none (Call op) s = no_back_op words op s
+no_back words none Save s = several (codes "back") words (codes "save") s.0 (is_without 32 (codes "save") refl)
+no_back words none (Back n) s =
+    let back = is_without 32 (codes "back") refl in none n s.1 (same_cut 32 (codes "back") (codes "back") words (decimal n) back back s.0).1
+no_back words none Commit s = several (codes "back") words (codes "commit") s.0 (is_without 32 (codes "commit") refl)
+no_back words none Abort s = several (codes "back") words (codes "abort") s.0 (is_without 32 (codes "abort") refl)
 
 -- bytes that fail a test of what they are to be
 pub lacks : (P : List ℕ → Type 0) (bytes own : List ℕ) (r : Bool) → (IsTrue r ↔ P bytes) → r ≡ false → bytes ≡ own → P own → ⊥

@@ -9,7 +9,7 @@ use Rattle.mt_model.specs.declared.operations.Reply.{Reply}
 use Rattle.mt_model.specs.declared.operations.Reply.TheVariants.{Found, Missing, Exists, Done, Was, Value, Rows, OutOfBounds}
 use Rattle.mt_rows.specs.declared.rows.Row.{Row}
 use Rattle.mt_script.specs.declared.answers.Answer.{Answer}
-use Rattle.mt_script.specs.declared.answers.Answer.TheVariants.{Begun, Replied, Committed, Aborted, Refused}
+use Rattle.mt_script.specs.declared.answers.Answer.TheVariants.{Begun, Replied, Saved, Back, Committed, Aborted, Refused}
 
 -- known bytes grow by a beginning of these
 abbrev pub AppendsFront : Option (List ℕ) → Option (List ℕ) → List ℕ → Type 0
@@ -33,10 +33,16 @@ reply_text (Value n) = codes "value " ++ signed_decimal n
 reply_text (Rows xs) = codes "rows " ++ decimal (length xs) ++ pair_lines xs
 reply_text OutOfBounds = text_of refusal.Escrow
 
+-- a word, and a count after it
+abbrev pub count_text : List ℕ → ℕ → List ℕ
+count_text word count = word ++ 32 ∷ decimal count
+
 -- what an answer is written as, without the end of its line
 abbrev pub answer_text : Answer → List ℕ
 answer_text Begun = codes "begun"
 answer_text (Replied reply) = reply_text reply
+answer_text (Saved count) = count_text (codes "saved") count
+answer_text (Back first) = count_text (codes "back") first
 answer_text (Committed place) = codes "committed " ++ decimal place
 answer_text Aborted = codes "aborted"
 answer_text (Refused why) = text_of why

@@ -5,7 +5,7 @@ use Rattle.mt_base.specs.declared.limits.TheConstants.{MAX_LINES, MAX_LINE_BYTES
 use Rattle.mt_script.specs.declared.faults.LineFault.{LineFault}
 use Rattle.mt_script.specs.declared.faults.LineFault.TheVariants.{TooManyLines, TooLong, Unended, Blank, CarriageReturn, Tab, Unprintable, UnknownWord, WrongOperands}
 use Rattle.mt_script.specs.declared.words.ScriptWord.{ScriptWord}
-use Rattle.mt_script.specs.declared.words.ScriptWord.TheVariants.{Begin, Get, Insert, Update, Delete, Add, Read, Scan, Commit, Abort}
+use Rattle.mt_script.specs.declared.words.ScriptWord.TheVariants.{Begin, Get, Insert, Update, Delete, Add, Read, Scan, Save, Back, Commit, Abort}
 
 abbrev pub is_line_feed : ℕ → Bool
 is_line_feed byte = byte == 10
@@ -77,8 +77,9 @@ script_word bytes =
     (cond (bytes_eq bytes (codes "insert")) (Some Insert) (cond (bytes_eq bytes (codes "update")) (Some Update)
     (cond (bytes_eq bytes (codes "delete")) (Some Delete) (cond (bytes_eq bytes (codes "add")) (Some Add)
     (cond (bytes_eq bytes (codes "read")) (Some Read) (cond (bytes_eq bytes (codes "scan")) (Some Scan)
+    (cond (bytes_eq bytes (codes "save")) (Some Save) (cond (bytes_eq bytes (codes "back")) (Some Back)
     (cond (bytes_eq bytes (codes "commit")) (Some Commit) (cond (bytes_eq bytes (codes "abort")) (Some Abort)
-    None)))))))))
+    None)))))))))))
 
 -- how a line is written that begins with it
 abbrev pub script_form : ScriptWord → List ℕ
@@ -90,8 +91,10 @@ script_form Delete = codes "delete RELATION KEY"
 script_form Add = codes "add COUNTER AMOUNT"
 script_form Read = codes "read COUNTER"
 script_form Scan = codes "scan RELATION"
+script_form Save = codes "save"
+script_form Back = codes "back COUNT"
 script_form Commit = codes "commit"
 script_form Abort = codes "abort"
 
 abbrev pub script_words : List ℕ
-script_words = codes "begin, get, insert, update, delete, add, read, scan, commit, abort"
+script_words = codes "begin, get, insert, update, delete, add, read, scan, save, back, commit, abort"

@@ -5,7 +5,7 @@ use Rattle.mt_model.specs.declared.operations.Op.{Op}
 use Rattle.mt_model.specs.declared.operations.Op.TheVariants.{Get, Insert, Update, Delete, Add, Read, Scan}
 use Rattle.mt_script.specs.Grammars.{ReadsIn, SpellsIn}
 use Rattle.mt_script.specs.declared.lines.Line.{Line}
-use Rattle.mt_script.specs.declared.lines.Line.TheVariants.{Begin, Call, Commit, Abort}
+use Rattle.mt_script.specs.declared.lines.Line.TheVariants.{Begin, Call, Save, Back, Commit, Abort}
 
 -- bytes with no space among them
 abbrev pub IsUnspaced : List ℕ → Type 0
@@ -19,7 +19,7 @@ IsWord bytes = (1 ≤ length bytes) × All (λ b. (33 ≤ b) × (b ≤ 126)) byt
 abbrev pub IsText : List ℕ → Type 0
 IsText bytes = All (λ b. (32 ≤ b) × (b ≤ 126)) bytes
 
--- the number of a relation or a counter
+-- the number of a relation, a counter or a savepoint
 abbrev pub IsPlace : ℕ → Type 0
 IsPlace n = n < 2 ^ 16
 
@@ -71,12 +71,15 @@ ReadsOp bytes o = ReadsIn op_text IsSpelled bytes o
 abbrev pub line_text : Line → List ℕ
 line_text Begin = codes "begin"
 line_text (Call op) = op_text op
+line_text Save = codes "save"
+line_text (Back n) = codes "back" ++ 32 ∷ decimal n
 line_text Commit = codes "commit"
 line_text Abort = codes "abort"
 
 -- a line of the grammar
 abbrev pub IsInGrammar : Line → Type 0
 IsInGrammar (Call op) = IsSpelled op
+IsInGrammar (Back n) = IsPlace n
 IsInGrammar _ = ⊤
 
 -- the bytes spell the line

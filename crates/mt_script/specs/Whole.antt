@@ -11,7 +11,7 @@ use Rattle.std.proofs.lemmas.List.Elements.{All-nil, All-cons, All-push, All-app
 use Rattle.mt_model.specs.declared.operations.Op.{Op}
 use Rattle.mt_model.specs.declared.operations.Op.TheVariants.{Get, Insert, Update, Delete, Add, Read, Scan}
 use Rattle.mt_script.specs.declared.lines.Line.{Line}
-use Rattle.mt_script.specs.declared.lines.Line.TheVariants.{Begin, Call, Commit, Abort}
+use Rattle.mt_script.specs.declared.lines.Line.TheVariants.{Begin, Call, Save, Back, Commit, Abort}
 use Rattle.mt_script.specs.Lines.{IsWord, IsText, IsWide, IsSpelled, op_text, line_text, IsInGrammar}
 
 -- whether a byte is none of these; on bytes that are given it is computed
@@ -83,5 +83,8 @@ op_whole (Scan r) s =
 pub line_whole : (line : Line) → IsInGrammar line → IsWhole (line_text line)
 line_whole Begin s = is_without 10 (codes "begin") refl
 line_whole (Call op) s = op_whole op s
+line_whole Save s = is_without 10 (codes "save") refl
+line_whole (Back n) s =
+    spaced (codes "back") (decimal n) (is_without 10 (codes "back") refl) (decimal_whole n (omega (arith, s)))
 line_whole Commit s = is_without 10 (codes "commit") refl
 line_whole Abort s = is_without 10 (codes "abort") refl

@@ -5,7 +5,7 @@ ghost use Rattle.std.specs.List.{concat};
 ghost use Rattle.std.specs.Io.KnownBytes.{Appends};
 ghost use Rattle.mt_base.specs.Refusal.{text_of};
 ghost use Rattle.mt_model.specs.declared.operations.Reply.TheVariants.{Rows};
-ghost use Rattle.mt_script.specs.Answers.{AppendsFront, pair_lines, reply_text, answer_text};
+ghost use Rattle.mt_script.specs.Answers.{AppendsFront, pair_lines, reply_text, count_text, answer_text};
 
 use itoa::Buffer;
 use mt_base::Refusal;
@@ -19,6 +19,10 @@ pub enum Answer {
     Begun,
     /// The operation replied this.
     Replied(Reply),
+    /// So many operations of the transaction count.
+    Saved(u16),
+    /// The transaction is as it was after its first so many operations that count, and goes on.
+    Back(u16),
     /// The transaction is durable, as the commit of this position in the opening's order of commits,
     /// from 1.
     Committed(u64),
@@ -147,6 +151,18 @@ fn write_refusal<W: Write>(writer: &mut W, refusal: Refusal) -> Result<(), Unhea
     }
 }
 
+/// Writes a word, a space and a count as one line.
+fn write_count<W: Write>(writer: &mut W, word: &[u8], count: u16) -> Result<(), Unheard>
+    ensures all { OnOk result (Appends (W.contents writer.old) (W.contents writer.new)
+        (count_text word.now count ++ 10 ∷ [])) }
+    ensures front { OnErr result (AppendsFront (W.contents writer.old) (W.contents writer.new)
+        (count_text word.now count ++ 10 ∷ [])) }
+{
+    let mut digits = Buffer::new();
+    let digits = digits.format(count);
+    put_all(writer, &[word, b" ", digits.as_bytes(), b"\n"])
+}
+
 /// Writes an answer and the end of its last line. If the writer fails, it has written a beginning of them.
 pub fn write_answer<W: Write>(writer: &mut W, answer: &Answer) -> Result<(), Unheard>
     ensures all { OnOk result (Appends (W.contents writer.old) (W.contents writer.new)
@@ -157,6 +173,8 @@ pub fn write_answer<W: Write>(writer: &mut W, answer: &Answer) -> Result<(), Unh
     match answer {
         Answer::Begun => put(writer, b"begun\n"),
         Answer::Replied(reply) => write_reply(writer, reply),
+        Answer::Saved(count) => write_count(writer, b"saved", *count),
+        Answer::Back(first) => write_count(writer, b"back", *first),
         Answer::Committed(place) => {
             let mut digits = Buffer::new();
             let digits = digits.format(*place);

@@ -18,17 +18,23 @@ use std::alloc::{AllocError, Global};
 /// | `insert R K V`, `update R K V`, `delete R K` | a change of the row under that key |
 /// | `add C N`, `read C` | a step of counter C, or its number |
 /// | `scan R` | all rows of relation R |
+/// | `save` | how many operations of the transaction count |
+/// | `back N` | that the transaction goes back to its first N of those, and then on |
 /// | `commit`, `abort` | the end of the transaction |
 ///
-/// One space stands between two words. R and C are 0 to 65535 and N fits 64 bits with its sign. All are decimal
-/// without leading zeros and with `-` before a negative N only. K is one or more bytes 0x21 to 0x7E. V is the rest of
-/// the line, bytes 0x20 to 0x7E, and may be empty.
+/// One space stands between two words. R, C and the N of `back` are 0 to 65535, and the N of `add` fits 64 bits with
+/// its sign. All are decimal without leading zeros and with `-` before a negative N only. K is one or more bytes 0x21
+/// to 0x7E. V is the rest of the line, bytes 0x20 to 0x7E, and may be empty.
 #[derive(Debug, Drop)]
 pub enum Line {
     /// Begins a transaction.
     Begin,
     /// Makes an operation in the transaction.
     Call(Op),
+    /// Asks how many operations of the transaction count.
+    Save,
+    /// Takes back those after the first so many.
+    Back(u16),
     /// Commits the transaction.
     Commit,
     /// Aborts the transaction.
@@ -76,7 +82,7 @@ pub fn number_of(alloc: Global, word: &[u8]) -> Result<Option<u64>, AllocError>
     }
 }
 
-/// The number of a relation or a counter: 0 to 65535.
+/// The number of a relation, a counter or a savepoint: 0 to 65535.
 fn place_of(alloc: Global, word: &[u8]) -> Result<Option<u16>, AllocError>
     ensures { IfOk result (λ o. MatchOption o ((n : ℕ) → IsPlace n → word.now ≢ decimal n)
         (λ n. word.now ≡ decimal n)) }
@@ -290,6 +296,8 @@ fn bare_line_of(word: &[u8]) -> Option<Line>
 {
     if is_text_of(word, "begin") {
         Some(Line::Begin)
+    } else if is_text_of(word, "save") {
+        Some(Line::Save)
     } else if is_text_of(word, "commit") {
         Some(Line::Commit)
     } else if is_text_of(word, "abort") {
@@ -299,18 +307,39 @@ fn bare_line_of(word: &[u8]) -> Option<Line>
     }
 }
 
+/// `back N`, of the words after the first.
+fn back_of(alloc: Global, words: &[u8]) -> Result<Option<Line>, AllocError>
+    ensures { IfOk result (ReadsLine (codes "back" ++ 32 ∷ words.now)) }
+{
+    match place_of(alloc, words)? {
+        Some(first) => Ok(Some(Line::Back(first))),
+        None => Ok(None),
+    }
+}
+
+/// The line of its first word and the words after it.
+fn line_with(alloc: Global, word: &[u8], words: &[u8]) -> Result<Option<Line>, AllocError>
+    requires { IsUnspaced word.now }
+    ensures { IfOk result (ReadsLine (word.now ++ 32 ∷ words.now)) }
+{
+    if is_text_of(word, "back") {
+        return back_of(alloc, words);
+    }
+    match op_with(alloc, word, words)? {
+        Some(op) => Ok(Some(Line::Call(op))),
+        None => Ok(None),
+    }
+}
+
 /// The line that these bytes spell, without its end; `None` if they are not in the grammar. The
 /// only error is want of memory.
 pub fn line_of(alloc: Global, bytes: &[u8]) -> Result<Option<Line>, AllocError>
     ensures { IfOk result (ReadsLine bytes.now) }
 {
-    if let Some((word, words)) = split_at_space(bytes) {
-        return match op_with(alloc, word, words)? {
-            Some(op) => Ok(Some(Line::Call(op))),
-            None => Ok(None),
-        };
+    match split_at_space(bytes) {
+        Some((word, words)) => line_with(alloc, word, words),
+        None => Ok(bare_line_of(bytes)),
     }
-    Ok(bare_line_of(bytes))
 }
 
 /// The grammar of scripts.
@@ -350,6 +379,6 @@ impl Grammar for ScriptGrammar {
     }
 
     fn words() -> &'static str {
-        "begin, get, insert, update, delete, add, read, scan, commit, abort"
+        "begin, get, insert, update, delete, add, read, scan, save, back, commit, abort"
     }
 }

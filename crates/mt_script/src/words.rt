@@ -23,6 +23,10 @@ pub enum ScriptWord {
     Read,
     /// `scan`
     Scan,
+    /// `save`
+    Save,
+    /// `back`
+    Back,
     /// `commit`
     Commit,
     /// `abort`
@@ -49,6 +53,10 @@ pub(crate) fn script_word(bytes: &[u8]) -> Option<ScriptWord>
         Some(ScriptWord::Read)
     } else if is_text_of(bytes, "scan") {
         Some(ScriptWord::Scan)
+    } else if is_text_of(bytes, "save") {
+        Some(ScriptWord::Save)
+    } else if is_text_of(bytes, "back") {
+        Some(ScriptWord::Back)
     } else if is_text_of(bytes, "commit") {
         Some(ScriptWord::Commit)
     } else if is_text_of(bytes, "abort") {
@@ -71,6 +79,8 @@ pub(crate) fn script_form(word: ScriptWord) -> &'static str
         ScriptWord::Add => "add COUNTER AMOUNT",
         ScriptWord::Read => "read COUNTER",
         ScriptWord::Scan => "scan RELATION",
+        ScriptWord::Save => "save",
+        ScriptWord::Back => "back COUNT",
         ScriptWord::Commit => "commit",
         ScriptWord::Abort => "abort",
     }

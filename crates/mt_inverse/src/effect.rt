@@ -1,5 +1,6 @@
 // What an operation did, with what it is made of lent. The inverse is read off it.
 ghost use Rattle.std.specs.Prelude.{◌≡◌, ◌↔◌, None, Some, IfNone, IfOk, IfSome, IsTrue};
+ghost use Rattle.mt_model.specs.Backwards.{call_back};
 ghost use Rattle.mt_model.specs.Model.{inverse_of};
 
 use mt_base::{Bytes, CtrNo, RelNo};
@@ -143,6 +144,29 @@ impl<'a> Effect<'a> {
         ensures { IfOk result (λ op. inverse_of (op_with self.now) (reply_with self.now) ≡ Some op) }
     {
         self.reversed().op()
+    }
+
+    // What the operation that has this effect replied. The only error is want of memory.
+    fn reply(&self) -> Result<Reply, AllocError>
+        ensures { IfOk result (λ reply. reply ≡ reply_with self.now) }
+    {
+        match *self {
+            Effect::Inserted { .. } => Ok(Reply::Done),
+            Effect::Updated { old, .. } => Ok(Reply::Was(old.try_clone()?)),
+            Effect::Deleted { old, .. } => Ok(Reply::Was(old.try_clone()?)),
+            Effect::Added { .. } => Ok(Reply::Done),
+        }
+    }
+
+    /// The call that takes this effect back: its inverse, with what that replies if it finds what the effect left. The
+    /// only error is want of memory.
+    pub fn call_back(&self) -> Result<(Op, Reply), AllocError>
+        requires { IsWithinSteps (op_with self.now) }
+        ensures { IfOk result (λ back. call_back (op_with self.now, reply_with self.now) ≡ Some back) }
+    {
+        let back = self.reversed();
+        let op = back.op()?;
+        Ok((op, back.reply()?))
     }
 
     /// Whether the inverse of this effect, if it replied this, found what the effect had left.

@@ -9,12 +9,14 @@ mod effect;
 
 ghost use Rattle.std.specs.Prelude.{◌≡◌, IfOk, IfErr, is_some};
 ghost use Rattle.mt_base.specs.declared.refusal.Refusal.{Refusal};
+ghost use Rattle.mt_model.specs.Backwards.{call_back as back};
 ghost use Rattle.mt_model.specs.Model.{inverse_of as inverse};
 ghost use Rattle.mt_inverse.specs.Steps.{IsWithinSteps};
 
 pub use effect::Effect;
 use mt_base::Refusal;
 use mt_model::{Op, Reply};
+use std::alloc::AllocError;
 
 /// Whether an operation that replied this did anything: if and only if it has an inverse.
 pub fn has_effect(op: &Op, reply: &Reply) -> bool
@@ -35,6 +37,20 @@ pub fn inverse_of(op: &Op, reply: &Reply) -> Result<Option<Op>, Refusal>
 {
     match Effect::of(op, reply) {
         Some(effect) => Ok(Some(effect.inverse()?)),
+        None => Ok(None),
+    }
+}
+
+/// The call that takes this one back: its inverse, with what that replies if it finds what this one left. `None` if
+/// this one did nothing, as [`inverse_of`] says.
+///
+/// The only error is want of memory.
+pub fn call_back(op: &Op, reply: &Reply) -> Result<Option<(Op, Reply)>, AllocError>
+    requires { IsWithinSteps op.now }
+    ensures { IfOk result (λ call. call ≡ back (op.now, reply.now)) }
+{
+    match Effect::of(op, reply) {
+        Some(effect) => Ok(Some(effect.call_back()?)),
         None => Ok(None),
     }
 }

@@ -38,7 +38,7 @@ use Rattle.mt_script.specs.declared.lines.Line.TheVariants as line
 use Rattle.mt_alone.proofs.TurnLemmas.{answered_refused, left_of, opened_idle, opened_stays, open_is, turn_acts}
 use Rattle.mt_alone.proofs.UndoLemmas.{pages_few}
 use Rattle.mt_alone.specs.Driven.{HasBroken, IsCalling, IsDueTo, IsOpened, IsTested}
-use Rattle.mt_alone.specs.Plays.{Play, IsTurn, is_add, with_call, IsCallWant}
+use Rattle.mt_alone.specs.Plays.{Play, IsTurn, is_add, with_call, IsCallWant, OpenCalls, with_one}
 use Rattle.mt_alone.specs.Runs.{IsAnsweredOr, refused_as}
 
 -- ---- a fault is no failure of the device
@@ -129,7 +129,7 @@ steps_behind t r (q ∷ rs) none own = go (q.txn == t) refl (λ rest. steps_behi
 
 -- ---- a call
 
-module _ {D : Type 0} {g : Ghosts D} (p : Play) (k : Kernel D g) (t : ℕ) (calls : List Call) (op : Op) where
+module _ {D : Type 0} {g : Ghosts D} (p : Play) (k : Kernel D g) (t : ℕ) (calls : OpenCalls) (op : Op) where
   abbrev pub many_of : Bool
   many_of = nat_le 256 (forward_count (calls_of k.core.live.members t)) || nat_le (2 ^ 40) k.core.last
 
@@ -145,7 +145,7 @@ module _ {D : Type 0} {g : Ghosts D} (p : Play) (k : Kernel D g) (t : ℕ) (call
   opened_free o u bars = ∥∥₁_elim o.shown (hlevel props) (λ (first, s, shows, (played, alone)). ∥∥₁_elim (kept_of g k.relations k.counters k.core first s shows) (hlevel props) (λ kept.
       ∥∥₁_elim shows (hlevel props) (λ (origin, base, is, x).
       let same : held_of k.core.locks ≡ s.held = ap (λ (z : State). z.held) (sym x.state) in
-      alone_is_free first s t p.session calls kept alone (locks_of op) u (subst (λ (h : Held). BarsSome h t (locks_of op) u) same bars))))
+      alone_is_free first s t p.session calls.all calls.counted kept alone (locks_of op) u (subst (λ (h : Held). BarsSome h t (locks_of op) u) same bars))))
 
   -- where it was not refused at once, it has no fault
   answered_late : (r : Result Called Refusal) (x : Called) → r ≡ Ok x → ((why : Refusal) → call_cause k.relations k.counters (is_failed k) k.core t op ≡ Some why → r ≡ Err why) → call_cause k.relations k.counters (is_failed k) k.core t op ≡ None
@@ -177,13 +177,13 @@ module _ {D : Type 0} {g : Ghosts D} (p : Play) (k : Kernel D g) (t : ℕ) (call
         omega (arith, few, all, steps)),
   )
 
-  pub call_replied : (n : Kernel D g) (reply : Reply) → p.under_way ≡ Some calls → fault ≡ None → (reply ≡ reply_of (run p.base calls) op) × IsOpened p t (calls ++ (op, reply_of (run p.base calls) op) ∷ []) n
+  pub call_replied : (n : Kernel D g) (reply : Reply) → p.under_way ≡ Some calls → fault ≡ None → (reply ≡ reply_of (run p.base calls.all) op) × IsOpened p t (with_one calls (op, reply_of (run p.base calls.all) op)) n
       → IsAnsweredOr p k (Some t) (line.Call op) (Ok (Replied reply, Some t)) n
   call_replied n reply under none (is, opened) = (
     with_call p calls op,
     subst (λ (x : Reply). IsTurn k.relations k.counters (IsDueTo k (Some t)) p (line.Call op) (Replied x) (with_call p calls op)) (sym is) (turn_acts k.relations k.counters p (Some calls) (line.Call op) under none),
     (
-      calls ++ (op, reply_of (run p.base calls) op) ∷ [],
+      with_one calls (op, reply_of (run p.base calls.all) op),
       refl,
       record {
         shown = ∥∥₁_map opened.shown (λ (first, s, shows, plays). (first, s, shows, (record { first_is = plays.0.first_is; book = plays.0.book; base = plays.0.base }, plays.1)));

@@ -38,7 +38,7 @@ use Rattle.mt_txn.specs.declared.answers.AbortStepped.TheVariants as abort
 use Rattle.mt_txn.specs.declared.kernel.Kernel.{Kernel}
 use Rattle.mt_alone.proofs.ForceLemmas.{fails_for}
 use Rattle.mt_alone.specs.Driven.{Eases, Fails, IsCalling, IsGivenUp, IsGoing, IsMoved, IsBacked, IsOpened, IsPlayed, IsUndone, NobodyCommits, ShowsOne}
-use Rattle.mt_alone.specs.Plays.{Play}
+use Rattle.mt_alone.specs.Plays.{Play, OpenCalls, with_one}
 
 -- ---- who lives
 
@@ -87,7 +87,7 @@ own_is f t x = ap (λ (c : Bool). cond c x (f t)) (eq_self t)
 
 -- ---- a step of its operation
 
-module _ {D : Type 0} {g : Ghosts D} (p : Play) (t : ℕ) (calls : List Call) (op : Op) where
+module _ {D : Type 0} {g : Ghosts D} (p : Play) (t : ℕ) (calls : OpenCalls) (op : Op) where
   calling_stays : (k n : Kernel D g) → IsCalling p t calls op k → Stays k n → SameStates k.core n.core → IsCalling p t calls op n
   calling_stays k n c stays states = record {
     shown = ∥∥₁_map c.shown (λ (first, s, kept, plays, shows). (first, s, kept, plays, stays first (called s t op) shows));
@@ -110,11 +110,11 @@ module _ {D : Type 0} {g : Ghosts D} (p : Play) (t : ℕ) (calls : List Call) (o
       busy_of g k.relations k.counters k.core first (called s t op) shows t op (own_is s.running t (Some op)))
 
   calling_replied : (k n : Kernel D g) (reply : Reply) → IsCalling p t calls op k → ((first : Base) (s : State) → Shows first s k → HasStepped first s t (Ok (step.Replied reply)) n)
-      → SameStates k.core n.core → (reply ≡ reply_of (run p.base calls) op) × IsOpened p t (calls ++ (op, reply_of (run p.base calls) op) ∷ []) n
+      → SameStates k.core n.core → (reply ≡ reply_of (run p.base calls.all) op) × IsOpened p t (with_one calls (op, reply_of (run p.base calls.all) op)) n
   calling_replied k n reply c did states = (
     ∥∥₁_elim c.shown (hlevel props) (λ (first, s, kept, plays, shows).
         ∥∥₁_elim (did first (called s t op) shows op (own_is s.running t (Some op))).1 (hlevel props) (λ is.
-        sym is ∙ ap (λ (b : Base). reply_of b op) (alone_holds first s t p.session calls kept plays.1 ∙ ap (λ (b : Base). run b calls) (on first s plays.0)))),
+        sym is ∙ ap (λ (b : Base). reply_of b op) (alone_holds first s t p.session calls.all calls.counted kept plays.1 ∙ ap (λ (b : Base). run b calls.all) (on first s plays.0)))),
     record {
       shown = ∥∥₁_map c.shown (λ (first, s, kept, plays, shows). (
         first,
@@ -122,7 +122,7 @@ module _ {D : Type 0} {g : Ghosts D} (p : Play) (t : ℕ) (calls : List Call) (o
         (did first (called s t op) shows op (own_is s.running t (Some op))).0,
         (
           record { first_is = plays.0.first_is; book = plays.0.book; base = plays.0.base },
-          subst (λ (b : Base). IsAlone (ended (called s t op) t op) t p.session (calls ++ (op, reply_of (run b calls) op) ∷ [])) (on first s plays.0) (alone_acts first s t p.session calls op kept plays.1),
+          subst (λ (b : Base). IsAlone (ended (called s t op) t op) t p.session (calls.all ++ (op, reply_of (run b calls.all) op) ∷ []) (calls.counted ++ (op, reply_of (run b calls.all) op) ∷ [])) (on first s plays.0) (alone_acts first s t p.session calls.all calls.counted op kept plays.1),
         ),
       ));
       state = states t ∙ c.state;

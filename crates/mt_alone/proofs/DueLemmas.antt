@@ -22,7 +22,7 @@ use Rattle.mt_txn.specs.declared.answers.KernelForced.TheVariants as forced
 use Rattle.mt_txn.specs.declared.kernel.Kernel.{Kernel}
 use Rattle.mt_txn.proofs.Due.{due_none, due_more, due_settled, due_idle}
 use Rattle.mt_alone.specs.Driven.{IsEnding, IsForcing, IsGivenUp, IsResting}
-use Rattle.mt_alone.specs.Plays.{Play, committed}
+use Rattle.mt_alone.specs.Plays.{Play, committed, OpenCalls}
 
 -- ---- the commit's name
 
@@ -43,7 +43,7 @@ has_one c t names is own = ap (λ (ns : List ℕ). list_any (λ (y : ℕ). y == 
 
 -- ---- the steps
 
-module _ {D : Type 0} {g : Ghosts D} (p : Play) (t : ℕ) (calls : List Call) where
+module _ {D : Type 0} {g : Ghosts D} (p : Play) (t : ℕ) (calls : OpenCalls) where
   pub ending_none : (k : Kernel D g) → IsEnding p t calls 0 k → ⊥
   ending_none k e = due_none e.commit.place k.core.operations.store.log e.waits e.due
 
@@ -97,8 +97,8 @@ module _ {D : Type 0} {g : Ghosts D} (p : Play) (t : ℕ) (calls : List Call) wh
               shown = ∥∥₁_map e.shown (λ (first, s, shows, (played, alone)).
                   let session : session_at s t ≡ p.session = ap or_zero alone.lives in
                   let now : Shows first (booked s t p.session) n = subst (λ (i : ℕ). Shows first (booked s t i) n) session (subst (λ (ns : List ℕ). Shows first (booked_each s ns) n) its (f.forced first s shows)) in
-                  let leaves = alone_commits s t p.session calls alone in
-                  let last : Committed = record { session = p.session; calls = calls } in (
+                  let leaves = alone_commits s t p.session calls.all calls.counted alone in
+                  let last : Committed = record { session = p.session; calls = calls.all } in (
                     first,
                     booked s t p.session,
                     now,
@@ -106,7 +106,7 @@ module _ {D : Type 0} {g : Ghosts D} (p : Play) (t : ℕ) (calls : List Call) wh
                       record {
                         first_is = played.first_is;
                         book = leaves.0 ∙ ap (λ (cs : List Committed). cs ++ last ∷ []) played.book;
-                        base = after-append first p.book (last ∷ []) ∙ ap (λ (b : Base). run b calls) played.base;
+                        base = after-append first p.book (last ∷ []) ∙ ap (λ (b : Base). run b calls.all) played.base;
                       },
                       leaves.1,
                     ),

@@ -1,6 +1,7 @@
 pub mod ForceLemmas
 pub mod DueLemmas
 pub mod DriveLemmas
+pub mod ReturnLemmas
 pub mod UndoLemmas
 pub mod TurnLemmas
 pub mod CallLemmas

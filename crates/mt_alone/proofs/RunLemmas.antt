@@ -18,7 +18,7 @@ use Rattle.mt_alone.specs.declared.alone.RunFault.TheVariants as fault
 use Rattle.mt_script.specs.Answers.{AppendsFront, answer_text, transcript_text}
 use Rattle.mt_txn.specs.Shown.{SameSchema}
 use Rattle.mt_alone.specs.Driven.{IsBeside, IsDueTo, IsGivenUp, IsResting}
-use Rattle.mt_alone.specs.Plays.{Play, IsTurn, acts, refuses, Runs, starts, goes_on, after_at, put_off}
+use Rattle.mt_alone.specs.Plays.{Play, IsTurn, acts, refuses, Runs, starts, goes_on, after_at, put_off, OpenCalls}
 use Rattle.mt_alone.specs.Runs.{HasRun, HasRunLines, HasTurned, IsAnswered, IsCut, IsCutAtEnd, IsCutShort, IsEnded, IsEndedFor, nothing, aborted, failed, IsLeftFor, IsStopped, IsReportedFor, IsUnheard, failure_line, last_line}
 use Rattle.mt_alone.specs.Stops.{Ends}
 use Rattle.mt_script.proofs.TextLemmas.{front_then}
@@ -73,13 +73,17 @@ pub record StaysPut (p q : Play) : Type 0 where
   pub session : q.session ≡ p.session
   pub first : q.first ≡ p.first
 
-after_stays : (p : Play) (u : Option (List Call)) (l : Line) → StaysPut p (after_at p u l)
+after_stays : (p : Play) (u : Option OpenCalls) (l : Line) → StaysPut p (after_at p u l)
 after_stays p None line.Begin = record { session = refl; first = refl }
 after_stays p None (line.Call op) = record { session = refl; first = refl }
+after_stays p None line.Save = record { session = refl; first = refl }
+after_stays p None (line.Back n) = record { session = refl; first = refl }
 after_stays p None line.Commit = record { session = refl; first = refl }
 after_stays p None line.Abort = record { session = refl; first = refl }
 after_stays p (Some calls) line.Begin = record { session = refl; first = refl }
 after_stays p (Some calls) (line.Call op) = record { session = refl; first = refl }
+after_stays p (Some calls) line.Save = record { session = refl; first = refl }
+after_stays p (Some calls) (line.Back n) = record { session = refl; first = refl }
 after_stays p (Some calls) line.Commit = record { session = refl; first = refl }
 after_stays p (Some calls) line.Abort = record { session = refl; first = refl }
 
@@ -220,7 +224,7 @@ module _ {D : Type 0} {g : Ghosts D} (p : Play) (k : Kernel D g) where
     ran = ran.ran;
     ends = ran.ends;
     outcome =
-        let none : ran.answers ++ last_line ran.play.under_way ≡ ran.answers = ap (λ (u : Option (List Call)). ran.answers ++ last_line u) ran.beside.nothing ∙ append-nil ran.answers in
+        let none : ran.answers ++ last_line ran.play.under_way ≡ ran.answers = ap (λ (u : Option OpenCalls). ran.answers ++ last_line u) ran.beside.nothing ∙ append-nil ran.answers in
         subst (λ (t : List Answer). Appends a b (transcript_text t)) (sym none) ran.outcome;
     beside = record { shown = ∥∥₁_map ran.beside.shown (λ (first, s, shows, (played, nobody)). (first, s, shows, (record { first_is = played.first_is; book = played.book; base = played.base }, nobody))); nothing = refl };
   }
@@ -235,7 +239,7 @@ module _ {D : Type 0} {g : Ghosts D} (p : Play) (k : Kernel D g) where
         last = m;
         ran = ran.ran;
         ends = ran.ends;
-        outcome = subst (λ (u : Option (List Call)). Appends a c (transcript_text (ran.answers ++ last_line u))) (sym ran.beside.1) (appends_all a b c ran.answers (Aborted ∷ []) ran.outcome e.outcome);
+        outcome = subst (λ (u : Option OpenCalls). Appends a c (transcript_text (ran.answers ++ last_line u))) (sym ran.beside.1) (appends_all a b c ran.answers (Aborted ∷ []) ran.outcome e.outcome);
         beside = e.beside;
       }
 

@@ -14,6 +14,7 @@ use Rattle.mt_alone.specs.Sessions.{Close, Closes}
 use Rattle.mt_script.specs.Scripts.{lines_in}
 use Rattle.mt_alone.specs.Stops.{Ends, GoesOn, IsStopAmong, IsStopIn, lines_to, scripts_to, stop_of}
 use Rattle.mt_alone.specs.declared.stops.Stop.{Stop}
+use Rattle.mt_alone.specs.Plays.{OpenCalls}
 
 -- ---- an answer
 
@@ -70,7 +71,7 @@ ends_more true (Some why) xs ys before (heard, is, goes_on, stops) = (
 pub none_close : (stop : Bool) → Close stop None []
 none_close stop = All-nil (Closes stop None)
 
-pub one_closes : (stop : Bool) (why : Option Refusal) (answers : List Answer) (u : Option (List Call)) → Ends stop why answers → Closes stop why (answers ++ last_line u)
+pub one_closes : (stop : Bool) (why : Option Refusal) (answers : List Answer) (u : Option OpenCalls) → Ends stop why answers → Closes stop why (answers ++ last_line u)
 one_closes stop why answers u ends = (answers, u, refl, ends)
 
 pub more_close : (stop : Bool) (why : Option Refusal) (before : List (List Answer)) (outcome : List Answer) → Close stop None before → Closes stop why outcome → Close stop why (before ++ outcome ∷ [])

@@ -6,7 +6,7 @@ use Rattle.mt_base.specs.declared.refusal.Refusal.TheVariants as refusal
 use Rattle.mt_disk.specs.declared.device.Device.{Ghosts}
 use Rattle.mt_live.specs.Alone.{NobodyLives, IsAlone}
 use Rattle.mt_live.specs.Machine.{State, IsKept, called}
-use Rattle.mt_live.specs.declared.transactions.TxnState.TheVariants.{Open, Committing, Aborting}
+use Rattle.mt_live.specs.declared.transactions.TxnState.TheVariants.{Open, Committing, Returning, Aborting}
 use Rattle.mt_log.specs.Words.{appended, durable}
 use Rattle.mt_model.specs.History.{Call, run, after}
 use Rattle.mt_model.specs.Model.{Base, reply_of}
@@ -25,7 +25,7 @@ use Rattle.mt_txn.specs.declared.kernel.Kernel.{Kernel}
 use Rattle.mt_txn.specs.Words.{kernel_commits, kernel_state, kernel_steps, kernel_undo_steps, kernel_begin_cause, kernel_call_cause, StatesStay, UncommittedStay, CommitsStay, RunningStays, UndoStays}
 use Rattle.mt_script.specs.declared.lines.Line.{Line}
 use Rattle.mt_script.specs.declared.lines.Line.TheVariants as line
-use Rattle.mt_alone.specs.Plays.{Play, committed, put_off}
+use Rattle.mt_alone.specs.Plays.{OpenCalls, Play, back_to, committed, put_off, with_one}
 
 -- the book, the base that it begins on and what it leaves are the model's
 pub record IsPlayed (first : Base) (p : Play) (s : State) : Type 0 where
@@ -34,13 +34,20 @@ pub record IsPlayed (first : Base) (p : Play) (s : State) : Type 0 where
   pub base : after first p.book ≡ p.base
 
 -- A transaction is the only one that is active, and these are its calls.
-abbrev pub IsPlaying : Base → Play → ℕ → List Call → State → Type 0
-IsPlaying first p t calls s = IsPlayed first p s × IsAlone s t p.session calls
+abbrev pub IsPlaying : Base → Play → ℕ → OpenCalls → State → Type 0
+IsPlaying first p t calls s = IsPlayed first p s × IsAlone s t p.session calls.all calls.counted
 
 -- none but it is active
 pub record IsUndone (first : Base) (p : Play) (t : ℕ) (s : State) : Type 0 where
   pub played : IsPlayed first p s
   pub others : (u : ℕ) → u ≢ t → s.sessions u ≡ None
+
+-- It goes back to its first so many, from calls that it had. Its calls by now lead, with what is left to take back, to
+-- what those lead to.
+pub record IsPartWay (first : Base) (p : Play) (t n : ℕ) (had : OpenCalls) (s : State) : Type 0 where
+  pub calls : OpenCalls
+  pub playing : IsPlaying first p t calls s
+  pub leads : back_to p.base calls n ≡ back_to p.base had n
 
 -- no transaction commits
 abbrev pub NobodyCommits : {D : Type 0} {g : Ghosts D} → Kernel D g → Type 0
@@ -60,30 +67,35 @@ module _ {D : Type 0} {g : Ghosts D} where
     pub shown : ShowsOne (λ first s. IsPlayed first p s × NobodyLives s) k
     pub nothing : p.under_way ≡ None
 
-  pub record IsOpened (p : Play) (t : ℕ) (calls : List Call) (k : Kernel D g) : Type 0 where
+  pub record IsOpened (p : Play) (t : ℕ) (calls : OpenCalls) (k : Kernel D g) : Type 0 where
     pub shown : ShowsOne (λ first s. IsPlaying first p t calls s) k
     pub state : kernel_state k t ≡ Some Open
 
   abbrev pub IsBeside : Play → Option ℕ → Kernel D g → Type 0
   IsBeside p None k = IsResting p k
-  IsBeside p (Some t) k = (calls : List Call) × (p.under_way ≡ Some calls) × IsOpened p t calls k
+  IsBeside p (Some t) k = (calls : OpenCalls) × (p.under_way ≡ Some calls) × IsOpened p t calls k
 
   -- ---- within a line
 
   -- an operation of it is under way
-  pub record IsCalling (p : Play) (t : ℕ) (calls : List Call) (op : Op) (k : Kernel D g) : Type 0 where
+  pub record IsCalling (p : Play) (t : ℕ) (calls : OpenCalls) (op : Op) (k : Kernel D g) : Type 0 where
     pub shown : ∥ ((first : Base) × (s : State) × IsKept first s × IsPlaying first p t calls s
         × Shows first (called s t op) k) ∥₁
     pub state : kernel_state k t ≡ Some Open
 
   -- its commit is begun, and not durable
-  pub record IsEnding (p : Play) (t : ℕ) (calls : List Call) (steps : ℕ) (k : Kernel D g) : Type 0 where
+  pub record IsEnding (p : Play) (t : ℕ) (calls : OpenCalls) (steps : ℕ) (k : Kernel D g) : Type 0 where
     pub shown : ShowsOne (λ first s. IsPlaying first p t calls s) k
     pub commit : Commit
     pub queue : kernel_commits k ≡ commit ∷ []
     pub own : commit.txn ≡ t
     pub waits : length (durable (kernel_log k)) < commit.place
     pub due : IsDueIn steps commit.place (kernel_log k)
+
+  -- it goes back
+  pub record IsReturning (p : Play) (t n : ℕ) (had : OpenCalls) (k : Kernel D g) : Type 0 where
+    pub shown : ShowsOne (λ first s. IsPartWay first p t n had s) k
+    pub state : kernel_state k t ≡ Some (Returning n)
 
   -- it is being undone
   pub record IsGoing (p : Play) (t : ℕ) (k : Kernel D g) : Type 0 where
@@ -140,9 +152,9 @@ module _ {D : Type 0} {g : Ghosts D} where
   IsGivenUp p n why = IsLeft p n × Fails n why
 
   -- a step of the operation of one that is alone: it goes on, nearer to its end, or ends with the model's reply
-  abbrev pub IsMoved : Play → ℕ → List Call → Op → Kernel D g → Result Stepped Refusal → Kernel D g → Type 0
+  abbrev pub IsMoved : Play → ℕ → OpenCalls → Op → Kernel D g → Result Stepped Refusal → Kernel D g → Type 0
   IsMoved p t calls op k (Ok (step.Replied reply)) n =
-      (reply ≡ reply_of (run p.base calls) op) × IsOpened p t (calls ++ (op, reply_of (run p.base calls) op) ∷ []) n
+      (reply ≡ reply_of (run p.base calls.all) op) × IsOpened p t (with_one calls (op, reply_of (run p.base calls.all) op)) n
   IsMoved p t calls op k (Ok step.Went) n = IsCalling p t calls op n × (kernel_steps n t < kernel_steps k t)
   IsMoved p t calls op k (Ok (step.Wait other)) n = ⊥
   IsMoved p t calls op k (Ok step.Again) n = ⊥
@@ -151,25 +163,48 @@ module _ {D : Type 0} {g : Ghosts D} where
 
   abbrev pub HasMoved : Kernel D g → ℕ → Result Stepped Refusal → Kernel D g → Type 0
   HasMoved k t result n =
-      (p : Play) (calls : List Call) (op : Op) → IsCalling p t calls op k → IsMoved p t calls op k result n
+      (p : Play) (calls : OpenCalls) (op : Op) → IsCalling p t calls op k → IsMoved p t calls op k result n
 
   -- all of them
-  abbrev pub IsReplied : Play → ℕ → List Call → Op → Result Reply Refusal → Kernel D g → Type 0
+  abbrev pub IsReplied : Play → ℕ → OpenCalls → Op → Result Reply Refusal → Kernel D g → Type 0
   IsReplied p t calls op (Ok reply) n =
-      (reply ≡ reply_of (run p.base calls) op) × IsOpened p t (calls ++ (op, reply_of (run p.base calls) op) ∷ []) n
+      (reply ≡ reply_of (run p.base calls.all) op) × IsOpened p t (with_one calls (op, reply_of (run p.base calls.all) op)) n
   IsReplied p t calls op (Err why) n = IsGivenUp p n why
 
   abbrev pub HasReplied : Kernel D g → ℕ → Result Reply Refusal → Kernel D g → Type 0
-  HasReplied k t result n = (p : Play) (calls : List Call) (op : Op) → IsCalling p t calls op k
+  HasReplied k t result n = (p : Play) (calls : OpenCalls) (op : Op) → IsCalling p t calls op k
       → kernel_steps k t ≤ 2 * MAX_PAGES + 9 → IsReplied p t calls op result n
 
   -- the force steps of its commit, which is durable then
-  abbrev pub IsDurable : {U : Type 0} → Play → List Call → Result U Refusal → Kernel D g → Type 0
+  abbrev pub IsDurable : {U : Type 0} → Play → OpenCalls → Result U Refusal → Kernel D g → Type 0
   IsDurable p calls (Ok done) n = IsResting (committed p calls) n
   IsDurable p calls (Err why) n = IsGivenUp p n why
 
   abbrev pub HasCommitted : {U : Type 0} → Kernel D g → ℕ → Result U Refusal → Kernel D g → Type 0
-  HasCommitted k t result n = (p : Play) (calls : List Call) → IsEnding p t calls 8 k → IsDurable p calls result n
+  HasCommitted k t result n = (p : Play) (calls : OpenCalls) → IsEnding p t calls 8 k → IsDurable p calls result n
+
+  -- a step of its going back
+  abbrev pub IsNearer : Play → ℕ → ℕ → OpenCalls → Kernel D g → Result AbortStepped Refusal → Kernel D g → Type 0
+  IsNearer p t n had k (Ok abort.More) m =
+      IsReturning p t n had m × (kernel_undo_steps m t < kernel_undo_steps k t)
+  IsNearer p t n had k (Ok (abort.Wait other)) m = ⊥
+  IsNearer p t n had k (Ok abort.Again) m = ⊥
+  IsNearer p t n had k (Ok abort.Flush) m = ⊥
+  IsNearer p t n had k (Ok abort.Ended) m = IsOpened p t (back_to p.base had n) m
+  IsNearer p t n had k (Err why) m = IsGivenUp p m why
+
+  abbrev pub HasNeared : Kernel D g → ℕ → Result AbortStepped Refusal → Kernel D g → Type 0
+  HasNeared k t result m =
+      (p : Play) (n : ℕ) (had : OpenCalls) → IsReturning p t n had k → IsNearer p t n had k result m
+
+  -- all of them
+  abbrev pub IsReturned : {U : Type 0} → Play → ℕ → ℕ → OpenCalls → Result U Refusal → Kernel D g → Type 0
+  IsReturned p t n had (Ok done) m = IsOpened p t (back_to p.base had n) m
+  IsReturned p t n had (Err why) m = IsGivenUp p m why
+
+  abbrev pub HasReturned : {U : Type 0} → Kernel D g → ℕ → Result U Refusal → Kernel D g → Type 0
+  HasReturned k t result m = (p : Play) (n : ℕ) (had : OpenCalls) → IsReturning p t n had k
+      → kernel_undo_steps k t ≤ 631 * (2 * MAX_PAGES + 10) → IsReturned p t n had result m
 
   -- a step of its abort
   abbrev pub IsBacked : Play → ℕ → Kernel D g → Result AbortStepped Refusal → Kernel D g → Type 0
@@ -194,4 +229,4 @@ module _ {D : Type 0} {g : Ghosts D} where
 
   -- the abort of one that is open
   abbrev pub HasAborted : {U : Type 0} → Kernel D g → ℕ → Result U Refusal → Kernel D g → Type 0
-  HasAborted k t result n = (p : Play) (calls : List Call) → IsOpened p t calls k → IsTakenBack p result n
+  HasAborted k t result n = (p : Play) (calls : OpenCalls) → IsOpened p t calls k → IsTakenBack p result n

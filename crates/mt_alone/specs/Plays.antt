@@ -1,5 +1,5 @@
 -- A script run on the model: on a base alone, after the commits of a book, one operation after the other.
-use Rattle.std.specs.Prelude.{ℕ, ◌≡◌, ◌⊎◌, ◌+◌, Bool, true, false, List, [], ◌∷◌, ◌++◌, length, Option, Some, None, ⊤}
+use Rattle.std.specs.Prelude.{ℕ, ◌≡◌, ◌⊎◌, ◌+◌, Bool, true, false, nat_le, List, [], ◌∷◌, ◌++◌, length, take, drop, Option, Some, None, ⊤}
 use Rattle.mt_base.specs.declared.refusal.Refusal.{Refusal}
 use Rattle.mt_base.specs.declared.refusal.Refusal.TheVariants as refusal
 use Rattle.mt_model.specs.declared.history.Committed.{Committed}
@@ -7,11 +7,17 @@ use Rattle.mt_model.specs.declared.operations.Op.{Op}
 use Rattle.mt_model.specs.declared.operations.Op.TheVariants.{Get, Insert, Update, Delete, Add, Read, Scan}
 use Rattle.mt_model.specs.Model.{Base, reply_of}
 use Rattle.mt_model.specs.History.{Call, run}
-use Rattle.mt_txn.specs.Causes.{first_of, name_cause, size_cause}
+use Rattle.mt_live.specs.Inverses.{inverses_on}
+use Rattle.mt_txn.specs.Causes.{first_of, name_cause, size_cause, unless}
 use Rattle.mt_script.specs.declared.lines.Line.{Line}
 use Rattle.mt_script.specs.declared.lines.Line.TheVariants as line
 use Rattle.mt_script.specs.declared.answers.Answer.{Answer}
-use Rattle.mt_script.specs.declared.answers.Answer.TheVariants.{Begun, Replied, Committed as CommittedAt, Aborted, Refused}
+use Rattle.mt_script.specs.declared.answers.Answer.TheVariants.{Begun, Replied, Saved, Back as WentBack, Committed as CommittedAt, Aborted, Refused}
+
+-- the calls of a transaction that is open, in their order, and those of them that count
+pub record OpenCalls : Type 0 where
+  pub all : List Call
+  pub counted : List Call
 
 -- whose script it is, the base that the commits began on, what they leave, the commits, and the calls of the
 -- transaction that is open, if one is
@@ -20,29 +26,49 @@ pub record Play : Type 0 where
   pub first : Base
   pub base : Base
   pub book : List Committed
-  pub under_way : Option (List Call)
+  pub under_way : Option OpenCalls
 
 -- ---- a line
 
 -- the model's answer if no transaction is open, and if one with these calls is
-abbrev pub answer_at : Play → Option (List Call) → Line → Answer
+abbrev pub answer_at : Play → Option OpenCalls → Line → Answer
 answer_at p None line.Begin = Begun
 answer_at p None (line.Call op) = Refused refusal.Stranger
+answer_at p None line.Save = Refused refusal.Stranger
+answer_at p None (line.Back n) = Refused refusal.Stranger
 answer_at p None line.Commit = Refused refusal.Stranger
 answer_at p None line.Abort = Refused refusal.Stranger
 answer_at p (Some calls) line.Begin = Refused refusal.Busy
-answer_at p (Some calls) (line.Call op) = Replied (reply_of (run p.base calls) op)
+answer_at p (Some calls) (line.Call op) = Replied (reply_of (run p.base calls.all) op)
+answer_at p (Some calls) line.Save = Saved (length calls.counted)
+answer_at p (Some calls) (line.Back n) = WentBack n
 answer_at p (Some calls) line.Commit = CommittedAt (length p.book + 1)
 answer_at p (Some calls) line.Abort = Aborted
 
--- a call more; all of them committed; and none
-abbrev pub with_call : Play → List Call → Op → Play
-with_call p calls op = record p { under_way = Some (calls ++ (op, reply_of (run p.base calls) op) ∷ []) }
+-- no call yet; one more, which counts; and those that went back on a base to their first so many that count
+abbrev pub no_calls : OpenCalls
+no_calls = record { all = []; counted = [] }
 
-abbrev pub committed : Play → List Call → Play
+abbrev pub with_one : OpenCalls → Call → OpenCalls
+with_one calls c = record { all = calls.all ++ c ∷ []; counted = calls.counted ++ c ∷ [] }
+
+abbrev pub back_to : Base → OpenCalls → ℕ → OpenCalls
+back_to b calls n = record {
+  all = calls.all ++ inverses_on (run b calls.all) (drop n calls.counted);
+  counted = take n calls.counted;
+}
+
+-- a call more; back at the first so many; all of them committed; and none
+abbrev pub with_call : Play → OpenCalls → Op → Play
+with_call p calls op = record p { under_way = Some (with_one calls (op, reply_of (run p.base calls.all) op)) }
+
+abbrev pub gone_back : Play → OpenCalls → ℕ → Play
+gone_back p calls n = record p { under_way = Some (back_to p.base calls n) }
+
+abbrev pub committed : Play → OpenCalls → Play
 committed p calls = record p {
-  base = run p.base calls;
-  book = p.book ++ record { session = p.session; calls = calls } ∷ [];
+  base = run p.base calls.all;
+  book = p.book ++ record { session = p.session; calls = calls.all } ∷ [];
   under_way = None;
 }
 
@@ -50,21 +76,27 @@ abbrev pub put_off : Play → Play
 put_off p = record p { under_way = None }
 
 -- what it is after the line: a commit keeps what the calls left, an abort throws it away
-abbrev pub after_at : Play → Option (List Call) → Line → Play
-after_at p None line.Begin = record p { under_way = Some [] }
+abbrev pub after_at : Play → Option OpenCalls → Line → Play
+after_at p None line.Begin = record p { under_way = Some no_calls }
 after_at p None (line.Call op) = p
+after_at p None line.Save = p
+after_at p None (line.Back n) = p
 after_at p None line.Commit = p
 after_at p None line.Abort = p
 after_at p (Some calls) line.Begin = p
 after_at p (Some calls) (line.Call op) = with_call p calls op
+after_at p (Some calls) line.Save = p
+after_at p (Some calls) (line.Back n) = gone_back p calls n
 after_at p (Some calls) line.Commit = committed p calls
 after_at p (Some calls) line.Abort = put_off p
 
 -- ---- refusals
 
--- why an operation is refused whatever the pages hold, if it is: no such relation or counter, or past its limits
-abbrev pub fault_at : ℕ → ℕ → Option (List Call) → Line → Option Refusal
+-- Why a line is refused whatever the pages hold, if it is. An operation names no relation or counter, or is past its
+-- limits. More operations than count are to be gone back to.
+abbrev pub fault_at : ℕ → ℕ → Option OpenCalls → Line → Option Refusal
 fault_at relations counters (Some calls) (line.Call op) = first_of (name_cause relations counters op) (size_cause op)
+fault_at relations counters (Some calls) (line.Back n) = unless (nat_le n (length calls.counted)) refusal.BadSavepoint
 fault_at relations counters _ line = None
 
 abbrev pub is_add : Op → Bool
@@ -92,7 +124,7 @@ IsCallWant op refusal.NoRoom = ⊤
 IsCallWant op refusal.LogFull = ⊤
 IsCallWant op _ = ⊥
 
-abbrev pub IsWant : Option (List Call) → Line → Refusal → Type 0
+abbrev pub IsWant : Option OpenCalls → Line → Refusal → Type 0
 IsWant None line.Begin why = IsBeginWant why
 IsWant (Some calls) (line.Call op) why = IsCallWant op why
 IsWant (Some calls) line.Commit why = why ≡ refusal.NoMemory

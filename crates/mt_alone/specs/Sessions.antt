@@ -14,7 +14,7 @@ use Rattle.mt_alone.specs.declared.rotation.NotServed.{NotServed}
 use Rattle.mt_alone.specs.declared.alone.RunFault.TheVariants as fault
 use Rattle.mt_script.specs.Answers.{AppendsFront, transcript_text}
 use Rattle.mt_alone.specs.Driven.{IsBeside}
-use Rattle.mt_alone.specs.Plays.{Play, HasPlayed, Runs, put_off}
+use Rattle.mt_alone.specs.Plays.{Play, HasPlayed, Runs, put_off, OpenCalls}
 use Rattle.mt_alone.specs.Runs.{HasTurned, last_line}
 use Rattle.mt_alone.specs.Stops.{Ends, IsStopAmong, lines_to, scripts_to, why_stopped}
 use Rattle.mt_alone.specs.declared.stops.Stop.{Stop}
@@ -40,7 +40,7 @@ sessions_text transcripts = sessions_from 1 transcripts
 -- a transcript's answers end so, before the line that the open transaction was aborted
 abbrev pub Closes : Bool → Option Refusal → List Answer → Type 0
 Closes stop why outcome =
-    (answers : List Answer) × (open_then : Option (List Call)) × (outcome ≡ answers ++ last_line open_then)
+    (answers : List Answer) × (open_then : Option OpenCalls) × (outcome ≡ answers ++ last_line open_then)
     × Ends stop why answers
 
 -- so the last of transcripts, and nothing stops those before it

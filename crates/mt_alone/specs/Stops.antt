@@ -4,7 +4,7 @@ use Rattle.mt_base.specs.declared.refusal.Refusal.{Refusal}
 use Rattle.mt_base.specs.declared.refusal.Refusal.TheVariants as refusal
 use Rattle.mt_script.specs.declared.lines.Line.{Line}
 use Rattle.mt_script.specs.declared.answers.Answer.{Answer}
-use Rattle.mt_script.specs.declared.answers.Answer.TheVariants.{Begun, Replied, Committed, Aborted, Refused}
+use Rattle.mt_script.specs.declared.answers.Answer.TheVariants.{Begun, Replied, Saved, Back, Committed, Aborted, Refused}
 use Rattle.mt_alone.specs.declared.stops.Stop.{Stop}
 
 -- ---- answers
@@ -17,6 +17,8 @@ stop_of (Refused (refusal.Die holder)) = None
 stop_of (Refused why) = Some why
 stop_of Begun = None
 stop_of (Replied reply) = None
+stop_of (Saved count) = None
+stop_of (Back first) = None
 stop_of (Committed place) = None
 stop_of Aborted = None
 

@@ -10,6 +10,7 @@
 mod alone;
 mod forces;
 mod operation_steps;
+mod returns;
 mod rotation;
 mod script_run;
 mod sessions;

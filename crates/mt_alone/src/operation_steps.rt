@@ -14,7 +14,7 @@ use mt_txn::{AbortStepped, Kernel, Stepped};
 const OPERATION_STEPS: usize = 2 * MAX_PAGES as usize + 10;
 
 /// The most steps of an abort that is alone: as many for each effect that the log keeps bytes for, and its end.
-const ABORT_STEPS: usize = 631 * OPERATION_STEPS + 1;
+pub(crate) const ABORT_STEPS: usize = 631 * OPERATION_STEPS + 1;
 
 /// Whether a step wants a frame flushed first.
 fn wants_frame(answer: &Result<Stepped, Refusal>) -> bool
@@ -23,8 +23,8 @@ fn wants_frame(answer: &Result<Stepped, Refusal>) -> bool
     matches!(answer, Ok(Stepped::Flush))
 }
 
-/// Whether a step of an abort does.
-fn abort_wants_frame(answer: &Result<AbortStepped, Refusal>) -> bool
+/// Whether a step of an abort does, or of going back.
+pub(crate) fn abort_wants_frame(answer: &Result<AbortStepped, Refusal>) -> bool
     ensures { IsTrue result ↔ (answer.now ≡ Ok AbortStepped.Flush) }
 {
     matches!(answer, Ok(AbortStepped::Flush))

@@ -26,6 +26,8 @@ fn stop_of(answer: &Answer) -> Option<Refusal>
         Answer::Refused(why) => Some(*why),
         Answer::Begun => None,
         Answer::Replied(_) => None,
+        Answer::Saved(_) => None,
+        Answer::Back(_) => None,
         Answer::Committed(_) => None,
         Answer::Aborted => None,
     }

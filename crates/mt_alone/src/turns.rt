@@ -7,6 +7,7 @@ ghost use Rattle.mt_script.specs.declared.lines.Line.TheVariants as line;
 
 use crate::forces::force_commit;
 use crate::operation_steps::{step_to_reply, undo};
+use crate::returns::go_back;
 use mt_base::{Refusal, TxnNo};
 use mt_disk::Device;
 use mt_model::Op;
@@ -54,6 +55,33 @@ pub fn call<D: Device>(kernel: &mut Kernel<D>, txn: TxnNo, op: &Op) -> Turn
     }
 }
 
+/// Says how many operations of a transaction count.
+pub fn save<D: Device>(kernel: &mut Kernel<D>, txn: TxnNo) -> Turn
+    ensures answers { AnswersWithin kernel.old txn line.Save result kernel.new }
+    ensures schema { SameSchema kernel.old kernel.new }
+    ensures restarts { StaysRestarting kernel.old kernel.new }
+{
+    match kernel.save(txn) {
+        Ok(count) => Ok((Answer::Saved(count), Some(txn))),
+        Err(refusal) => refused(refusal, Some(txn)),
+    }
+}
+
+/// Goes back to where the first so many operations of a transaction had ended, of those that count.
+pub fn back<D: Device>(kernel: &mut Kernel<D>, txn: TxnNo, first: u16) -> Turn
+    ensures answers { AnswersWithin kernel.old txn (line.Back first) result kernel.new }
+    ensures schema { SameSchema kernel.old kernel.new }
+    ensures restarts { StaysRestarting kernel.old kernel.new }
+{
+    match kernel.back_begin(txn, first) {
+        Ok(()) => {
+            go_back(kernel, txn)?;
+            Ok((Answer::Back(first), Some(txn)))
+        }
+        Err(refusal) => refused(refusal, Some(txn)),
+    }
+}
+
 /// Commits a transaction.
 pub fn commit<D: Device>(kernel: &mut Kernel<D>, txn: TxnNo) -> Turn
     ensures answers { AnswersWithin kernel.old txn line.Commit result kernel.new }
@@ -97,7 +125,9 @@ fn answer_outside<D: Device>(kernel: &mut Kernel<D>, session: u32, line: &Line) 
 {
     match line {
         Line::Begin => begin(kernel, session),
-        Line::Call(_) | Line::Commit | Line::Abort => refused(Refusal::Stranger, None),
+        Line::Call(_) | Line::Save | Line::Back(_) | Line::Commit | Line::Abort => {
+            refused(Refusal::Stranger, None)
+        }
     }
 }
 
@@ -110,6 +140,8 @@ fn answer_within<D: Device>(kernel: &mut Kernel<D>, txn: TxnNo, line: &Line) -> 
     match line {
         Line::Begin => refused(Refusal::Busy, Some(txn)),
         Line::Call(op) => call(kernel, txn, op),
+        Line::Save => save(kernel, txn),
+        Line::Back(first) => back(kernel, txn, *first),
         Line::Commit => commit(kernel, txn),
         Line::Abort => abort(kernel, txn),
     }

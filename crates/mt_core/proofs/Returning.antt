@@ -1,5 +1,5 @@
 -- What the end of an inverse leaves of a transaction that goes on.
-use Rattle.std.proofs.Common.{◌≡◌, ◌≢◌, inl, inr, ℕ, ◌<◌, ◌≤◌, ◌+◌, ◌==◌, true, false, List, [], ◌∷◌, ◌++◌, length, get_or, take, Option, Some, None, refl, sym, ap, ◌∙◌, subst, arith}
+use Rattle.std.proofs.Common.{◌≡◌, ◌≢◌, inl, inr, ℕ, Bool, ◌<◌, ◌≤◌, ◌+◌, ◌==◌, true, false, List, [], ◌∷◌, ◌++◌, length, get_or, take, Option, Some, None, refl, sym, ap, ◌∙◌, subst, arith}
 use Rattle.std.specs.Prelude.{All, is_some, IfSome}
 use Rattle.std.specs.List.{sum_by, remove}
 use Rattle.std.specs.Option.{option_map}
@@ -17,7 +17,7 @@ use Rattle.mt_live.specs.Entries.{Entry}
 use Rattle.mt_live.specs.Lives.{member_of, IsAbove, IsChanged}
 use Rattle.mt_live.specs.Machine.{State, IsKept, returned}
 use Rattle.mt_live.specs.Members.{Member, Noted, noted, with_noted, with_mark, with_back, with_role_at, set_role, last_place, noted_after, last_operation, standing_count}
-use Rattle.mt_live.specs.Undoing.{mark_last}
+use Rattle.mt_live.specs.Undoing.{after_first, last_effect, mark_last}
 use Rattle.mt_live.specs.declared.transactions.Role.TheVariants.{TakenBack, Back}
 use Rattle.mt_live.specs.declared.transactions.TxnState.{TxnState}
 use Rattle.mt_live.specs.declared.transactions.TxnState.TheVariants.{Open, Committing, Returning, Aborting}
@@ -80,6 +80,11 @@ back_reported last was more t n undoes m c k named none below some low after = g
         let marked = reported_mark last was (was ++ more) t p m k at within (λ first is. first_stands first p m at (after first is)) (λ v apart due. due_more t v was more (none v (λ is. apart (sym is ∙ sym this))) due) in
         reported_call last (was ++ more) t n (with_role_at m p TakenBack) (noted Back c) marked below some low marked.few (λ has. absurd cc)
 
+-- of the entries as of the member's calls
+effect_first : (first : ℕ) (o : Option Member) {x : Bool} → Some x ≡ option_map (λ (m : Member). is_some (last_place (noted_after first m.calls))) o → did_after first o ≡ true → x ≡ true
+effect_first first None tied did = absurd cc
+effect_first first (Some m) tied did = let same = tied in cc
+
 module _ {D : Type 0} (g : Ghosts D) (origin : Origin) (base : Base) where
   back_owned : (ms new : List Member) (standing : List Entry) (r q : OpScope) (c : Call) (e : Entry) → e.txn ≡ r.txn → AreApart r q → IsChanged ms new r.txn (λ m. with_back m r.number c)
       → IsOwned ms standing q → IsOwned new (mark_last r.txn standing ++ e ∷ []) q
@@ -93,8 +98,9 @@ module _ {D : Type 0} (g : Ghosts D) (origin : Origin) (base : Base) where
       → IsChanged k.live.members n.live.members r.txn (λ m. with_back m r.number (r.op, reply)) → n.live.begun ≡ k.live.begun → length n.live.members ≡ length k.live.members
       → ((o : Op) (u : Reply) → inverse_of o u ≡ Some r.op → GivesBack r.txn o k.escrow.pending n.escrow.pending) → n.escrow.committed ≡ k.escrow.committed
       → ((o : Op) (u : Reply) → inverse_of o u ≡ Some r.op → (front : List Pending) → pending_of r.txn k.escrow.pending ≡ front ++ add_before r.txn o [] → n.escrow.aside ≡ k.escrow.aside ++ add_before r.txn o [])
-      → ReturnsIn g origin base (state_of k base) (record k { operations = n.operations; running = n.running; live = n.live; escrow = n.escrow }) r.txn r.op
-  returned_in k n place r reply y back first returning items h claims_now standing changed begun count given committed aside =
+      → ((v : ℕ) → Some (is_some (last_effect r.txn (after_first r.txn v k.live.standing))) ≡ option_map (λ (m : Member). is_some (last_place (noted_after v m.calls))) (member_of k.live.members r.txn))
+      → ReturnsIn g origin base (state_of k base) (record k { operations = n.operations; running = n.running; live = n.live; escrow = n.escrow }) r.txn first r.op
+  returned_in k n place r reply y back first returning items h claims_now standing changed begun count given committed aside tied =
       let fit = y.fit in let alone = y.alone in
       let z : Core D = record k { operations = n.operations; running = n.running; live = n.live; escrow = n.escrow } in
       let s : State = state_of k base in
@@ -149,6 +155,7 @@ module _ {D : Type 0} (g : Ghosts D) (origin : Origin) (base : Base) where
         last = t.entry;
         idle = idle;
         effect = t.last;
+        after = effect_first first (member_of k.live.members r.txn) (tied first) (owned.returns back first returning).after;
         inverts = t.inverse;
         given = given_entry;
         leads = record {

@@ -1,5 +1,5 @@
 -- What steps do that the public ones share.
-use Rattle.std.specs.Prelude.{ℕ, ◌≡◌, ◌⊎◌, ◌++◌, [], Bool, IfErr, List, Ok, Result, length, slice_index_or, ◌≤◌, ◌∷◌, ◌+◌, ◌*◌, OnErr, OnOk}
+use Rattle.std.specs.Prelude.{ℕ, ◌≡◌, ◌⊎◌, ◌++◌, [], Bool, IfErr, List, Ok, Result, length, slice_index_or, ◌≤◌, ◌∷◌, ◌+◌, ◌*◌, OnErr, OnOk, Some}
 use Rattle.mt_disk.specs.declared.device.Device.{Ghosts}
 use Rattle.mt_base.specs.declared.refusal.Refusal.{Refusal}
 use Rattle.mt_core.specs.Consistent.{Advances, AtPlace, GoesBack, IsConsistent, Origin, state_of, EndsIn, IsReadyAt, SameStates, UndoesIn, ReturnsIn, InvertsIn, state_in, DropsIn, IsClearedAt, BooksIn, SameUncommitted, IsCalled, MayRun, SameCommits, log_kept, CallsIn, IsAskedFor, IsGranted, IsRestored, without_call, IsLocked}
@@ -33,6 +33,7 @@ use Rattle.mt_live.specs.Adds.{add_before}
 use Rattle.mt_slock.specs.declared.holders.Holder.{Holder}
 use Rattle.mt_model.specs.declared.objects.Object.{Object}
 use Rattle.mt_core.specs.Seen.{core_device, core_log, core_page_locks, core_pool, core_store, core_rooms}
+use Rattle.mt_live.specs.declared.transactions.TxnState.TheVariants.{Returning}
 
 -- leave for an operation is asked, if it is an add; an add that may not be made is refused
 pub record AsksLeave {T : Type 0} (was now : Escrowed) (txn : ℕ) (op : Op) (r : Result T Refusal) : Type 0 where
@@ -124,11 +125,12 @@ pub record EndsUndone {D : Type 0} (g : Ghosts D) (k n : Core D) (place : ℕ) :
       → AtPlace k.running.items place (λ r. UndoesIn g origin base (state_of k base) n r.txn r.op)
   pub notes : AtPlace k.running.items place (NotesUndone k n)
 
--- It did, with this reply, in a transaction that goes on.
+-- It did, with this reply, in a transaction that goes back to its first so many and then on.
 pub record EndsReturned {D : Type 0} (g : Ghosts D) (k n : Core D) (place : ℕ) (reply : Reply) : Type 0 where
   pub outer : EndsAt k n place
   pub ends : (origin : Origin) (base : Base) → IsReadyAt g origin base k place reply
-      → AtPlace k.running.items place (λ r. ReturnsIn g origin base (state_of k base) n r.txn r.op)
+      → AtPlace k.running.items place (λ r. (first : ℕ) → state_in k.live.members r.txn ≡ Some (Returning first)
+      → ReturnsIn g origin base (state_of k base) n r.txn first r.op)
   pub notes : AtPlace k.running.items place (λ r. NotesBack k n r reply)
 
 -- It did in a transaction of either kind.

@@ -15,7 +15,7 @@ use Rattle.mt_live.specs.Adds.{add_before, GivesBack}
 use Rattle.mt_live.specs.Lives.{calls_of, member_of, has_room}
 use Rattle.mt_live.specs.Machine.{State, put, committed_base, IsKept, IsAdmitted, called, ended, undone, returned, dropped, booked}
 use Rattle.mt_live.specs.Entries.{Entry}
-use Rattle.mt_live.specs.Undoing.{last_effect}
+use Rattle.mt_live.specs.Undoing.{after_first, last_effect}
 use Rattle.mt_live.specs.Members.{Member, Noted, has_inverse, standing_count, forward_count}
 use Rattle.mt_live.specs.declared.transactions.TxnState.{TxnState}
 use Rattle.mt_live.specs.declared.transactions.TxnState.TheVariants.{Open, Committing, Returning, Aborting}
@@ -410,12 +410,14 @@ pub record UndoesIn {D : Type 0} (g : Ghosts D) (origin : Origin) (base : Base)
   pub given : GivesBack t last.op s.pending n.escrow.pending
   pub leads : IsIn g origin (base_after base inverse) (undone s t inverse n.escrow.pending) n
 
--- the inverse has, of the last effect of a transaction that goes on, whose add is set aside if it is one
+-- The inverse has, of the last effect of a transaction that goes back to its first so many and then on. That came
+-- after these, and its add is set aside if it is one.
 pub record ReturnsIn {D : Type 0} (g : Ghosts D) (origin : Origin) (base : Base)
-    (s : State) (n : Core D) (t : ℕ) (inverse : Op) : Type 0 where
+    (s : State) (n : Core D) (t first : ℕ) (inverse : Op) : Type 0 where
   pub last : Entry
   pub idle : s.running t ≡ None
   pub effect : last_effect t s.standing ≡ Some last
+  pub after : is_some (last_effect t (after_first t first s.standing)) ≡ true
   pub inverts : inverse_of last.op last.reply ≡ Some inverse
   pub given : GivesBack t last.op s.pending n.escrow.pending
   pub leads : IsIn g origin (base_after base inverse) (returned s t last inverse n.escrow.pending) n
@@ -425,7 +427,7 @@ abbrev pub InvertsIn : {D : Type 0} → Ghosts D → Origin → Base → State �
 InvertsIn g origin base s n t inverse None = UndoesIn g origin base s n t inverse
 InvertsIn g origin base s n t inverse (Some Open) = UndoesIn g origin base s n t inverse
 InvertsIn g origin base s n t inverse (Some Committing) = UndoesIn g origin base s n t inverse
-InvertsIn g origin base s n t inverse (Some (Returning first)) = ReturnsIn g origin base s n t inverse
+InvertsIn g origin base s n t inverse (Some (Returning first)) = ReturnsIn g origin base s n t first inverse
 InvertsIn g origin base s n t inverse (Some Aborting) = UndoesIn g origin base s n t inverse
 
 -- what the transaction runs is dropped, and its add is given back if it is one

@@ -13,6 +13,7 @@ pub mod Pending
 pub mod Cuts
 pub mod Locking
 pub mod AddLemmas
+pub mod Inverses
 pub mod Keeping
 pub mod Schedule
 pub mod Alone

@@ -4,8 +4,9 @@ use Rattle.std.proofs.Math.Dec.{leb, leb-zero, leb-suc-zero, leb-suc-suc}
 use Rattle.std.proofs.lemmas.Bool.{and_left}
 use Rattle.mt_live.specs.declared.places.Place.{Place}
 use Rattle.mt_live.specs.Entries.{Entry, is_standing, kept}
-use Rattle.mt_live.specs.Lives.{entry_by, standing_by, numbers, count_from}
-use Rattle.mt_live.specs.Members.{Noted, has_inverse, later, last_place, standing_count, noted_after}
+use Rattle.std.specs.Option.{option_map}
+use Rattle.mt_live.specs.Lives.{calls_in, calls_of, entry_by, is_member, member_of, standing_by, numbers, count_from}
+use Rattle.mt_live.specs.Members.{Member, Noted, has_inverse, later, last_place, standing_count, noted_after}
 use Rattle.mt_live.specs.Undoing.{only, is_counted, is_effect, last_of, last_effect, after_first}
 use Rattle.mt_live.proofs.Ends.{counted_own, own_effect, standing_own}
 
@@ -105,6 +106,15 @@ pub effect_behind : (f : ℕ → List Noted) (t n : ℕ) (os : List Place) → n
 effect_behind f t n os placed =
     ap is_some (last_only t (after_first t n (standing_by f os))) ∙ (ap (λ es. is_some (last_effect t es)) (after_only t n (standing_by f os))
     ∙ (ap (λ es. is_some (last_effect t (after_first t n es))) (standing_own f t os 0 (length (f t)) (f t) placed refl refl) ∙ own_after t n (f t)))
+
+-- of a member's
+pub effect_there : (ms : List Member) (t n : ℕ) (os : List Place) → numbers t os ≡ count_from 0 (length (calls_of ms t)) → is_member ms t ≡ true
+    → Some (is_some (last_effect t (after_first t n (standing_by (calls_of ms) os)))) ≡ option_map (λ (m : Member). is_some (last_place (noted_after n m.calls))) (member_of ms t)
+effect_there ms t n os placed there = ap Some (effect_behind (calls_of ms) t n os placed) ∙ go (member_of ms t) there
+  where
+    go : (o : Option Member) → is_some o ≡ true → Some (is_some (last_place (noted_after n (calls_in o)))) ≡ option_map (λ (m : Member). is_some (last_place (noted_after n m.calls))) o
+    go None h = absurd cc
+    go (Some m) h = refl
 
 -- ---- how many stand
 

@@ -4,6 +4,7 @@ pub mod Adds
 pub mod Taking
 pub mod Undoing
 pub mod Machine
+pub mod Inverses
 pub mod Laws
 pub mod Witness
 pub mod Counterexamples

@@ -1,7 +1,7 @@
 //! Laws of live transactions: why strict commuting locks, escrow and inverses explain every state.
 //! Each is a function with an empty body, whose contract is the law.
 ghost use Rattle.mt_live.specs.Laws.{BeginKeeps, CallKeeps, EndKeeps, DropKeeps, GivingBackKeeps, CommitKeeps, CommitMovesCounters, InverseKeeps, ReturnKeeps, SettleKeeps, AbortKeeps, AbortLeavesNoTrace, KeptIsExplained, SoundIsExplained, SetMovesInFront, TransactionsMoveInFront, StartIsKept, EventKeeps, EveryScheduleIsRight, EmptyHoldsBook, NobodyLeavesNothing};
-ghost use Rattle.mt_live.specs.Alone.{BeginsAlone, AloneHolds, AloneIsFree, AloneActs, AloneCommits, AloneLeaves};
+ghost use Rattle.mt_live.specs.Alone.{BeginsAlone, AloneHolds, AloneIsFree, AloneActs, AloneReturns, AloneSettles, AloneCommits, AloneLeaves};
 ghost use Rattle.mt_live.specs.Witness.{RunTakesPlace};
 
 /// A transaction that begins changes nothing of what is kept.
@@ -89,13 +89,16 @@ pub fn an_empty_kernel_holds_its_book()
 {}
 
 /// A transaction that lives alone acts as the model: nobody is in its way. Each of its operations replies as on the
-/// base that the book and its calls before leave. Its commit puts just these calls after the book, and when it is
+/// base that the book and its calls before leave. It goes back by the inverses of those that count past its first so
+/// many, the last one first, and the first count then. Its commit puts just its calls after the book, and when it is
 /// gone no transaction is active.
 pub fn one_alone_acts_as_the_model()
     ensures begins { BeginsAlone }
     ensures holds { AloneHolds }
     ensures free { AloneIsFree }
     ensures acts { AloneActs }
+    ensures returns { AloneReturns }
+    ensures settles { AloneSettles }
     ensures commits { AloneCommits }
     ensures leaves { AloneLeaves }
 {}

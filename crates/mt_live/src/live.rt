@@ -244,6 +244,9 @@ impl Live {
         ensures numbered { AreNumbered self.new.begun self.new.members }
         ensures count { length self.new.members ≡ length self.old.members }
         ensures begun { self.new.begun ≡ self.old.begun }
+        // An effect stands after the first so many of the list if one does of the transaction's own calls.
+        ensures after { (first : ℕ) → Some (is_some (last_effect txn (after_first txn first self.old.standing)))
+            ≡ option_map (λ m. is_some (last_place (noted_after first m.calls))) (member_of self.old.members txn) }
     {
         self.mark_last(txn);
         let place = place_in(&self.transactions, txn);
@@ -260,6 +263,8 @@ impl Live {
         ensures numbered { AreNumbered self.new.begun self.new.members }
         ensures count { length self.new.members ≡ length self.old.members }
         ensures begun { self.new.begun ≡ self.old.begun }
+        ensures after { (first : ℕ) → Some (is_some (last_effect txn (after_first txn first self.old.standing)))
+            ≡ option_map (λ m. is_some (last_place (noted_after first m.calls))) (member_of self.old.members txn) }
     {
         let place = place_in(&self.transactions, txn);
         if let Some(at) = self.transactions[place].last_place() {

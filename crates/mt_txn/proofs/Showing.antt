@@ -180,15 +180,15 @@ module _ {D : Type 0} (g : Ghosts D) (relations counters : ℕ) where
   pub back_stands : (n : Core D) (first : Base) (s : State) (t : ℕ) → ShowsIn g relations counters first s n → ShowsBack n first s t
   back_stands n first s t shows = ∣ (s, stands, shows) ∣₁
 
-  abbrev pub ShowsReturn : Core D → Base → State → ℕ → Type 0
-  ShowsReturn n first s t = ∥ ((z : State) × IsReturn s t z × ShowsIn g relations counters first z n) ∥₁
+  abbrev pub ShowsReturn : Core D → Base → State → ℕ → ℕ → Type 0
+  ShowsReturn n first s t many = ∥ ((z : State) × IsReturn s t many z × ShowsIn g relations counters first z n) ∥₁
 
   -- an inverse has ended, as its transaction is to be undone or goes on
   abbrev pub InvertedTo : Core D → Base → State → ℕ → Option TxnState → Type 0
   InvertedTo n first s t None = ShowsBack n first s t
   InvertedTo n first s t (Some Open) = ShowsBack n first s t
   InvertedTo n first s t (Some Committing) = ShowsBack n first s t
-  InvertedTo n first s t (Some (Returning many)) = ShowsReturn n first s t
+  InvertedTo n first s t (Some (Returning many)) = ShowsReturn n first s t many
   InvertedTo n first s t (Some Aborting) = ShowsBack n first s t
 
   abbrev pub UndoShown : Core D → Base → State → ℕ → Option TxnState → Result Stepping Refusal → Type 0
@@ -207,7 +207,7 @@ module _ {D : Type 0} (g : Ghosts D) (relations counters : ℕ) where
       go (Some Open) h = back h
       go (Some Committing) h = back h
       go (Some Aborting) h = back h
-      go (Some (Returning many)) h = ∥∥₁_map h (λ (origin, base, is, u). (returned s t u.last i n.escrow.pending, returns u.last i n.escrow.pending u.idle u.effect u.inverts u.given, ∣ (origin, base_after base i, is, u.leads) ∣₁))
+      go (Some (Returning many)) h = ∥∥₁_map h (λ (origin, base, is, u). (returned s t u.last i n.escrow.pending, returns u.last i n.escrow.pending u.idle u.effect u.after u.inverts u.given, ∣ (origin, base_after base i, is, u.leads) ∣₁))
 
   pub undo_shown : (k n : Core D) (first : Base) (s : State) (t place : ℕ) (res : Result Stepping Refusal) → place < length k.running.items → AtPlace k.running.items place (λ r. r.txn ≡ t)
       → ((origin : Origin) (base : Base) → IsConsistent g origin base k → UndoSteps g origin base k n place res) → ShowsIn g relations counters first s k → UndoShown n first s t (state_in k.live.members t) res

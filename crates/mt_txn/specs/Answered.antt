@@ -1,21 +1,22 @@
 -- What each call answers of a kernel that is lent, and what it leaves of it: k before, and n after the call.
-use Rattle.std.specs.Prelude.{ℕ, ◌≡◌, ◌≢◌, ◌⊎◌, Err, IfErr, IfOk, List, None, OnErr, OnOk, Option, Result, Ok, Some, ◌+◌, ◌++◌, ◌∷◌, [], length}
+use Rattle.std.specs.Prelude.{ℕ, ◌≡◌, ◌≢◌, ◌⊎◌, Err, IfErr, IfOk, List, None, OnErr, OnOk, Option, Result, Ok, Some, ◌+◌, ◌++◌, ◌∷◌, [], filter, length}
 use Rattle.mt_disk.specs.declared.device.Device.{Ghosts}
 use Rattle.mt_base.specs.declared.refusal.Refusal.{Refusal}
 use Rattle.mt_base.specs.declared.refusal.Refusal.TheVariants.{NoMemory}
 use Rattle.mt_core.specs.Consistent.{SameCommits, SameStates, SameStatesBut, SetsState}
-use Rattle.mt_core.specs.Runs.{state_in}
+use Rattle.mt_core.specs.Runs.{count_in, state_in}
 use Rattle.mt_core.specs.declared.calls.Called.{Called}
 use Rattle.mt_core.specs.declared.parts.Commit.{Commit}
 use Rattle.mt_frame.specs.declared.records.Record.TheVariants as record_of
 use Rattle.mt_live.specs.Machine.{State}
-use Rattle.mt_live.specs.declared.transactions.TxnState.TheVariants.{Aborting, Committing, Open}
+use Rattle.mt_live.specs.Undoing.{is_counted}
+use Rattle.mt_live.specs.declared.transactions.TxnState.TheVariants.{Aborting, Committing, Open, Returning}
 use Rattle.mt_log.specs.Words.{appended, waiting}
 use Rattle.mt_model.specs.Model.{Base}
 use Rattle.mt_model.specs.declared.operations.Op.{Op}
 use Rattle.mt_pool.specs.declared.flushes.Flushed.{Flushed}
-use Rattle.mt_txn.specs.Causes.{IsFailure, IsFault, IsRefusedAtOnce, abort_begin_cause, abort_cause, begin_cause, call_cause, commit_cause, step_cause}
-use Rattle.mt_txn.specs.Events.{AbortsTo, AnswersIn, IsForcedBy, StepsTo}
+use Rattle.mt_txn.specs.Causes.{IsFailure, IsFault, IsRefusedAtOnce, abort_begin_cause, abort_cause, back_cause, begin_cause, call_cause, commit_cause, return_cause, step_cause}
+use Rattle.mt_txn.specs.Events.{AbortsTo, AnswersIn, IsForcedBy, ReturnsTo, StepsTo}
 use Rattle.mt_txn.specs.Seen.{KernelSeen, ShowsSeen, has_failed_in}
 use Rattle.mt_txn.specs.declared.answers.AbortStepped.{AbortStepped}
 use Rattle.mt_txn.specs.declared.answers.AbortStepped.TheVariants.{Ended}
@@ -56,7 +57,23 @@ module _ {D : Type 0} where
     pub aborts : OnOk result (SetsState k.core n.core t (Some Aborting))
     pub err : OnErr result (n ≡ k)
 
+  -- the transaction goes back to its first so many operations then, or nothing has changed
+  pub record AnswersBack (k : KernelSeen D) (t first : ℕ) (result : Result (Unit {0}) Refusal)
+      (n : KernelSeen D) : Type 0 where
+    pub may : OnOk result (back_cause (has_failed_in k) k.core t first ≡ None)
+    pub why : IfErr result (λ why. back_cause (has_failed_in k) k.core t first ≡ Some why)
+    pub returns : OnOk result (SetsState k.core n.core t (Some (Returning first)))
+    pub err : OnErr result (n ≡ k)
+
 module _ {D : Type 0} (g : Ghosts D) where
+  -- so many operations count of an open transaction that runs nothing
+  pub record AnswersSave (k : KernelSeen D) (t : ℕ) (result : Result ℕ Refusal) : Type 0 where
+    pub may : OnOk result (commit_cause (has_failed_in k) k.core t ≡ None)
+    pub why : IfErr result (λ why. commit_cause (has_failed_in k) k.core t ≡ Some why)
+    pub count : IfOk result (λ count. count_in k.core.live.members t ≡ Some count)
+    pub standing : (first : Base) (s : State) → ShowsSeen g first s k
+        → IfOk result (λ count. count ≡ length (filter (is_counted t) s.standing))
+
   -- locks, escrow, pages and log are asked if nothing else forbids the call
   pub record AnswersCall (k : KernelSeen D) (t : ℕ) (op : Op) (result : Result Called Refusal)
       (n : KernelSeen D) : Type 0 where
@@ -83,6 +100,19 @@ module _ {D : Type 0} (g : Ghosts D) where
         → (abort_cause (has_failed_in k) k.core t ≡ Some why) ⊎ IsFault g k.core n.core why)
     pub out : result ≡ Ok Ended → (state_in n.core.live.members t ≡ None) × SameStatesBut k.core n.core t
     pub aborted : (first : Base) (s : State) → ShowsSeen g first s k → AbortsTo (λ z. ShowsSeen g first z n) s t result
+
+  -- the transaction is open once this answers its end, and its first so many operations count
+  pub record AnswersBackStep (k : KernelSeen D) (t : ℕ) (result : Result AbortStepped Refusal)
+      (n : KernelSeen D) : Type 0 where
+    pub may : OnOk result (return_cause (has_failed_in k) k.core t ≡ None)
+    pub early : IsRefusedAtOnce (return_cause (has_failed_in k) k.core t) k result n
+    pub why : IfErr result (λ why. why ≢ NoMemory
+        → (return_cause (has_failed_in k) k.core t ≡ Some why) ⊎ IsFault g k.core n.core why)
+    pub opened : (first : ℕ) → state_in k.core.live.members t ≡ Some (Returning first) → result ≡ Ok Ended
+        → SetsState k.core n.core t (Some Open) × (count_in n.core.live.members t ≡ Some first)
+    pub returned : (base : Base) (s : State) (first : ℕ) → ShowsSeen g base s k
+        → state_in k.core.live.members t ≡ Some (Returning first)
+        → ReturnsTo (λ z. ShowsSeen g base z n) s t first result
 
 module _ {D : Type 0} (g : Ghosts D) where
   -- the commits that are named are durable, and no record is appended

@@ -1,5 +1,5 @@
 -- Which calls a kernel refuses before it asks locks, escrow, pages and log.
-use Rattle.std.specs.Prelude.{ℕ, ℤ, ◌≡◌, ◌⊎◌, ◌<◌, ◌+◌, ◌||◌, ◌&&◌, ◌==◌, nat_lt, nat_le, nat_eq, if◌then◌else◌, Bool, true, false, List, length, Option, Some, None, Result, Err, int_le, pos, neg_ℤ, ⊤}
+use Rattle.std.specs.Prelude.{ℕ, ℤ, ◌≡◌, ◌⊎◌, ◌<◌, ◌+◌, ◌||◌, ◌&&◌, ◌==◌, nat_lt, nat_le, nat_eq, if◌then◌else◌, Bool, true, false, List, length, Option, Some, None, Result, Ok, Err, ◌≤◌, int_le, pos, neg_ℤ, ⊤}
 use Rattle.std.specs.List.{list_any}
 use Rattle.mt_disk.specs.declared.device.Device.{Ghosts}
 use Rattle.mt_base.specs.declared.limits.TheConstants.{MAX_BEGUN, MAX_COMMITS, MAX_KEY_BYTES, MAX_LIVE, MAX_OPERATIONS, MAX_STEP, MAX_VALUE_BYTES, TRANSACTION_LOG_BYTES}
@@ -100,6 +100,12 @@ commit_cause failed k t = first_of (open_cause failed k t) (busy_cause k t)
 -- fewer of its operations stand than it is to go back to
 abbrev pub savepoint_cause : {D : Type 0} → Core D → ℕ → ℕ → Option Refusal
 savepoint_cause k t first = unless (nat_le first (standing_count (calls_of k.live.members t))) refusal.BadSavepoint
+
+-- Of so many that count the first can be gone back to; or there are fewer, which is what 19 says.
+abbrev pub IsSavepoint : ℕ → ℕ → Result (Unit {0}) Refusal → Type 0
+IsSavepoint count first (Ok done) = first ≤ count
+IsSavepoint count first (Err refusal.BadSavepoint) = count < first
+IsSavepoint count first (Err why) = ⊤
 
 -- why it cannot go back to so many, if it cannot
 abbrev pub back_cause : {D : Type 0} → Bool → Core D → ℕ → ℕ → Option Refusal

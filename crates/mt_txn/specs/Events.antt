@@ -1,5 +1,5 @@
 -- What the calls do to the state that a kernel shows.
-use Rattle.std.specs.Prelude.{ℕ, ◌≡◌, true, drop, List, Option, Some, None, Result, Ok, Err}
+use Rattle.std.specs.Prelude.{ℕ, ◌≡◌, true, drop, is_some, List, Option, Some, None, Result, Ok, Err}
 use Rattle.mt_base.specs.declared.refusal.Refusal.{Refusal}
 use Rattle.mt_disk.specs.declared.device.Device.{Ghosts}
 use Rattle.mt_live.specs.Adds.{GivesBack}
@@ -103,16 +103,17 @@ HasAborted first s t result n = AbortsTo (λ z. Shows first z n) s t result
 -- ---- a transaction that goes back to its first so many operations, and then on
 
 -- What a step of it may lead to: the state as it was; or the last effect of the transaction and the inverse of that,
--- which both stay. An add is set aside with it, if it was one, and no other.
-pub data IsReturn (s : State) (t : ℕ) : State → Type 0 where
-  stays : IsReturn s t s
+-- which both stay. That effect came after the first so many. An add is set aside with it, if it was one, and no other.
+pub data IsReturn (s : State) (t first : ℕ) : State → Type 0 where
+  stays : IsReturn s t first s
   returns : (last : Entry) (inverse : Op) (ps : List Pending) → s.running t ≡ None
-      → last_effect t s.standing ≡ Some last → inverse_of last.op last.reply ≡ Some inverse
-      → GivesBack t last.op s.pending ps → IsReturn s t (returned s t last inverse ps)
+      → last_effect t s.standing ≡ Some last → is_some (last_effect t (after_first t first s.standing)) ≡ true
+      → inverse_of last.op last.reply ≡ Some inverse → GivesBack t last.op s.pending ps
+      → IsReturn s t first (returned s t last inverse ps)
 
 -- What a step of t's going back to its first so many did to what is in this state.
 abbrev pub ReturnsTo : (State → Type 0) → State → ℕ → ℕ → Result AbortStepped Refusal → Type 0
-ReturnsTo Is s t first (Ok abort.More) = ∥ ((z : State) × IsReturn s t z × Is z) ∥₁
+ReturnsTo Is s t first (Ok abort.More) = ∥ ((z : State) × IsReturn s t first z × Is z) ∥₁
 ReturnsTo Is s t first (Ok (abort.Wait other)) = Is s
 ReturnsTo Is s t first (Ok abort.Again) = Is s
 ReturnsTo Is s t first (Ok abort.Flush) = Is s

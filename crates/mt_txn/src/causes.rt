@@ -1,10 +1,15 @@
 // Why calls are refused before the core is asked for locks, adds, pages and log bytes. Nothing changes here.
-ghost use Rattle.std.specs.Prelude.{◌≡◌, ◌≢◌, ◌<◌, ◌≤◌, ◌^◌, All, IfErr, IfNone, IfOk, IfSome, OnOk, None, Some, false, true};
+ghost use Rattle.std.specs.Prelude.{◌≡◌, ◌≢◌, ◌<◌, ◌≤◌, ◌^◌, All, IfErr, IfNone, IfOk, IfSome, OnOk, None, Some, false, filter, length, true};
 ghost use Rattle.mt_base.specs.declared.limits.TheConstants.{MAX_BEGUN, MAX_OPERATIONS};
 ghost use Rattle.mt_op.specs.declared.scope.OpScope.{OpScope};
 ghost use Rattle.mt_live.specs.declared.transactions.TxnState.TheVariants.{Open, Returning, Aborting};
 ghost use Rattle.mt_live.specs.Lives.{calls_of, member_of};
+ghost use Rattle.mt_live.specs.Machine.{State};
 ghost use Rattle.mt_live.specs.Members.{forward_count};
+ghost use Rattle.mt_live.specs.Undoing.{is_counted};
+ghost use Rattle.mt_model.specs.Model.{Base};
+ghost use Rattle.mt_base.specs.declared.refusal.Refusal.TheVariants.{BadSavepoint};
+ghost use Rattle.mt_txn.specs.Shown.{Shows};
 ghost use Rattle.mt_core.specs.Runs.{is_open};
 ghost use Rattle.mt_txn.specs.Causes.{IsNamed, IsSized, abort_cause, call_cause, count_cause, name_cause, open_cause, size_cause};
 ghost use Rattle.mt_txn.specs.Words.{kernel_state, kernel_count, kernel_members, kernel_running, kernel_call_cause, kernel_commit_cause, kernel_open_cause, kernel_abort_begin_cause, kernel_abort_cause, kernel_back_cause, kernel_return_cause};
@@ -127,6 +132,10 @@ impl<D: Device> Kernel<D> {
         ensures opened { IfNone result (kernel_state self.now txn ≡ Some Open) }
         ensures idle { IfNone result (All (λ (r : OpScope). r.txn ≢ txn) (kernel_running self.now)) }
         ensures few { IfNone result (IfSome (kernel_count self.now txn) (λ count. first ≤ count)) }
+        ensures enough { (base : Base) (s : State) → Shows base s self.now
+            → IfNone result (first ≤ length (filter (is_counted txn) s.standing)) }
+        ensures fewer { (base : Base) (s : State) → Shows base s self.now → result ≡ Some BadSavepoint
+            → length (filter (is_counted txn) s.standing) < first }
     {
         if let Some(why) = self.commit_cause(txn) {
             return Some(why);

@@ -9,7 +9,7 @@ ghost use Rattle.mt_model.specs.Model.{Base};
 ghost use Rattle.mt_core.specs.Work.{most_steps};
 ghost use Rattle.mt_op.specs.declared.scope.OpScope.{OpScope};
 ghost use Rattle.mt_txn.specs.Aborted.{StepsReturn};
-ghost use Rattle.mt_txn.specs.Causes.{IsRefusedAtOnce};
+ghost use Rattle.mt_txn.specs.Causes.{IsRefusedAtOnce, IsSavepoint};
 ghost use Rattle.mt_txn.specs.Effects.{LeavesReturn, MovesReturn};
 ghost use Rattle.mt_txn.specs.Events.{HasReturned};
 ghost use Rattle.mt_txn.specs.Shown.{CallsOnce, FailsForGood, LeavesFound, SameSchema, Shows, Stays, StaysRestarting, TellsEachFault, kernel_page_locks};
@@ -50,6 +50,8 @@ impl<D: Device> Kernel<D> {
     pub fn back_begin(&mut self, txn: TxnNo, first: u16) -> Result<(), Refusal>
         ensures may { OnOk result (kernel_back_cause self.old txn first ≡ None) }
         ensures cause { IfErr result (λ why. kernel_back_cause self.old txn first ≡ Some why) }
+        ensures standing { (base : Base) (s : State) → Shows base s self.old
+            → IsSavepoint (length (filter (is_counted txn) s.standing)) first result }
         ensures state { Stays self.old self.new }
         ensures returns { OnOk result (StateIsSet self.old self.new txn (Some (Returning first))) }
         ensures running { RunningStays self.old self.new }

@@ -1,4 +1,4 @@
-use Rattle.std.proofs.Common.{Ok, ap, refl, sym}
+use Rattle.std.proofs.Common.{Ok, ap, refl}
 use Rattle.std.proofs.lemmas.Result.{err_from_is_err_and}
 use Rattle.mt_alone.proofs.CallLemmas.{call_faultless, call_refused, call_replied, call_started, call_waits}
 use Rattle.mt_alone.proofs.turns.call.Goals as goal

@@ -1,18 +1,19 @@
 use mathlib.Core.Logic.{∥∥₁_elim}
 use Rattle.std.proofs.Props.{props}
-use Rattle.std.proofs.Common.{rules, ◌≡◌, ◌∙◌, ◌++◌, ◌∷◌, [], List, Some, refl, sym, ap, subst}
+use Rattle.std.proofs.Common.{rules, ◌≡◌, ◌∙◌, ◌++◌, ◌∷◌, [], List, Some, is_some, refl, sym, ap, subst}
+use Rattle.std.specs.Option.{option_map}
 use Rattle.std.proofs.lemmas.List.{get_or_default}
 use Rattle.mt_inverse.specs.Steps.{IsWithinSteps}
 use Rattle.mt_live.specs.Adds.{GivesBack, add_before}
 use Rattle.mt_live.specs.Lives.{member_of, has_room, IsAbove, IsChanged}
-use Rattle.mt_live.specs.Members.{with_back}
-use Rattle.mt_live.specs.Undoing.{mark_last}
+use Rattle.mt_live.specs.Members.{Member, last_place, noted_after, with_back}
+use Rattle.mt_live.specs.Undoing.{after_first, last_effect, mark_last}
 use Rattle.mt_live.specs.declared.transactions.Role.TheVariants.{Back}
 use Rattle.mt_model.specs.Pending.{pending_of}
 use Rattle.mt_model.specs.declared.pending_add.Pending.{Pending}
 use Rattle.mt_op.specs.declared.scope.OpScope.{OpScope}
 use Rattle.mt_plock.specs.Releasing.{locks_without}
-use Rattle.mt_core.specs.Consistent.{state_of, ReturnsIn}
+use Rattle.mt_core.specs.Consistent.{state_in, state_of, ReturnsIn}
 use Rattle.mt_core.specs.Restartable.{NotesBack}
 use Rattle.mt_core.specs.Runs.{IsOwned}
 use Rattle.mt_core.specs.declared.parts.Core.{Core}
@@ -54,18 +55,19 @@ returns g c = record {
     commits = search rules;
     numbers = search rules;
   };
-  ends = λ origin base ready x is.
+  ends = λ origin base ready x is first at.
       let r = c.remove-scope.result in let y = ready r c.remove-scope.ensures.value in let e = c.end-inverse.ensures in let f = c.note_back.ensures in let k = c.args.self.now in let a = c.let_inverted_aside in
       let n : Core g.row.D.Denot = record k { operations = c.end-inverse.new.self; live = c.note_back.new.self; running = c.remove-scope.new.self; escrow = a.new.escrow } in
       let here : r ≡ x = c.remove-scope.ensures.value ∙ sym (get_or_default k.running.items c.args.place x r y.alone.within) ∙ sym is in
-      subst (λ (z : OpScope). ReturnsIn g.D.Device origin base (state_of k base) n z.txn z.op) here
-      (returned_in g.D.Device origin base k n c.args.place r c.args.reply y (c.requires.back r c.remove-scope.ensures.value) c.requires.returning.0 (c.requires.returning.1 r c.remove-scope.ensures.value) c.remove-scope.ensures.items
+      subst (λ (z : OpScope). ReturnsIn g.D.Device origin base (state_of k base) n z.txn first z.op) here
+      (returned_in g.D.Device origin base k n c.args.place r c.args.reply y (c.requires.back r c.remove-scope.ensures.value) first (ap (λ (z : OpScope). state_in k.live.members z.txn) here ∙ at) c.remove-scope.ensures.items
       (record { right = e.right origin.pages origin.relations origin.counters y.fit.right y.alone.own; held = e.held origin.pages; others = λ u ku other. e.others origin.pages origin.relations origin.counters u ku other; locks = e.locks; store = e.store }) e.claimed
       (f.standing ∙ (λ i. mark_last (c.txn-txn.ensures i) k.live.standing ++ record { txn = c.txn-txn.ensures i; op = e.op i; reply = c.args.reply; role = Back } ∷ []))
       (subst (λ (X : Type 0). X) (λ i. IsChanged k.live.members c.note_back.new.self.members (c.txn-txn.ensures i) (λ z. with_back z (c.number-number.ensures i) (e.op i, c.args.reply))) f.member) f.begun f.count
       (λ o u inverse. subst (λ (X : Type 0). X) (λ i. GivesBack (c.txn-txn.ensures i) o k.escrow.pending a.new.escrow.pending) (a.ensures.given o u (inverse ∙ ap Some (sym e.op)))) a.ensures.committed
       (λ o u inverse ps pends. subst (λ (X : Type 0). X) (λ i. a.new.escrow.aside ≡ k.escrow.aside ++ add_before (c.txn-txn.ensures i) o [])
-      (a.ensures.aside o u (inverse ∙ ap Some (sym e.op)) ps (subst (λ (X : Type 0). X) (λ i. pending_of (sym c.txn-txn.ensures i) k.escrow.pending ≡ ps ++ add_before (sym c.txn-txn.ensures i) o []) pends))));
+      (a.ensures.aside o u (inverse ∙ ap Some (sym e.op)) ps (subst (λ (X : Type 0). X) (λ i. pending_of (sym c.txn-txn.ensures i) k.escrow.pending ≡ ps ++ add_before (sym c.txn-txn.ensures i) o []) pends)))
+      (λ v. subst (λ t. Some (is_some (last_effect t (after_first t v k.live.standing))) ≡ option_map (λ (m : Member). is_some (last_place (noted_after v m.calls))) (member_of k.live.members t)) c.txn-txn.ensures (f.after v)));
   notes = λ x is.
       let r = c.remove-scope.result in let e = c.end-inverse.ensures in let f = c.note_back.ensures in let k = c.args.self.now in
       let n : Core g.row.D.Denot = record k { operations = c.end-inverse.new.self; live = c.note_back.new.self; running = c.remove-scope.new.self; escrow = c.let_inverted_aside.new.escrow } in

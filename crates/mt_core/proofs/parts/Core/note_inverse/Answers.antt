@@ -33,7 +33,7 @@ returns-in-Some g c = let k = c.args.self.now in let n = c.note_back.new.self in
     ap (λ (z : OpScope). state_in ms z.txn) (sym same) ∙ (ap (state_in ms) (sym c.txn.ensures) ∙ (sym c.state.ensures ∙ c.in-Some.ensures.some)) in
     record {
       outer = c.note_back.ensures.outer;
-      ends = λ origin base ready r at. subst (InvertsIn g.D.Device origin base (state_of k base) n r.txn r.op) (sym (at_state r at)) (c.note_back.ensures.ends origin base ready r at);
+      ends = λ origin base ready r at. subst (InvertsIn g.D.Device origin base (state_of k base) n r.txn r.op) (sym (at_state r at)) (c.note_back.ensures.ends origin base ready r at c.in-Some.field-0 (at_state r at));
       notes = λ r at. subst (NotesInverse k n r c.args.reply) (sym (at_state r at)) (c.note_back.ensures.notes r at);
     }
 

@@ -1,7 +1,9 @@
-use Rattle.std.proofs.Common.{◌≡◌, ◌∙◌, ap, subst, sym, set}
-use Rattle.mt_live.specs.Undoing.{mark_last}
-use Rattle.mt_live.specs.Lives.{Lives, AreNumbered, IsFirst, IsChanged}
-use Rattle.mt_live.specs.Members.{with_mark, last_place}
+use Rattle.std.proofs.Common.{◌≡◌, ◌∙◌, Some, is_some, true, ap, subst, sym, set}
+use Rattle.std.specs.Option.{option_map}
+use Rattle.mt_live.specs.Undoing.{after_first, last_effect, mark_last}
+use Rattle.mt_live.specs.Lives.{Lives, AreNumbered, IsFirst, IsChanged, is_member, member_of}
+use Rattle.mt_live.specs.Members.{Member, noted_after, with_mark, last_place}
+use Rattle.mt_live.proofs.Reaching.{effect_there}
 use Rattle.mt_live.proofs.Wells.{marked_well, numbered_of, marked_standing, marked_member, unmarked_member, unmarked_standing}
 use Rattle.mt_live.proofs.live.Live.mark_last.Goals as goal
 
@@ -53,3 +55,13 @@ returns-in_default-clause-member c =
 
 pub returns-in_default-clause-numbered : goal.returns-in_default-clause-numbered
 returns-in_default-clause-numbered c = subst (λ (x : Lives). AreNumbered x.begun x.members) c.self.view_is (numbered_of _ _ _ _ _ c.self.invariant)
+
+pub returns-in-Some-clause-after : goal.returns-in-Some-clause-after
+returns-in-Some-clause-after c = λ n. let t = c.args.txn in
+    subst (λ (l : Lives). Some (is_some (last_effect t (after_first t n l.standing))) ≡ option_map (λ (m : Member). is_some (last_place (noted_after n m.calls))) (member_of l.members t)) c.self.view_is
+    (effect_there c.self.inside.transactions.items t n c.self.inside.order.items (c.self.invariant.placed t) (subst (λ (l : Lives). is_member l.members t ≡ true) (sym c.self.view_is) c.requires))
+
+pub returns-in_default-clause-after : goal.returns-in_default-clause-after
+returns-in_default-clause-after c = λ n. let t = c.args.txn in
+    subst (λ (l : Lives). Some (is_some (last_effect t (after_first t n l.standing))) ≡ option_map (λ (m : Member). is_some (last_place (noted_after n m.calls))) (member_of l.members t)) c.self.view_is
+    (effect_there c.self.inside.transactions.items t n c.self.inside.order.items (c.self.invariant.placed t) (subst (λ (l : Lives). is_member l.members t ≡ true) (sym c.self.view_is) c.requires))

@@ -4,7 +4,7 @@ use Rattle.std.specs.Fmt.{decimal}
 use Rattle.mt_script.specs.Grammars.{AreLines, ReadsIn, SpellsIn}
 use Rattle.mt_script.specs.Lines.{IsSpelled, op_text}
 use Rattle.mt_world.specs.declared.events.Event.{Event}
-use Rattle.mt_world.specs.declared.events.Event.TheVariants.{Begin, Call, Step, Commit, AbortBegin, AbortStep, Force, Flush, Rotate}
+use Rattle.mt_world.specs.declared.events.Event.TheVariants.{Begin, Call, Step, Commit, AbortBegin, AbortStep, Back, BackStep, Force, Flush, Rotate}
 
 -- the number of a session, and of a transaction
 abbrev pub IsSession : ℕ → Type 0
@@ -12,6 +12,10 @@ IsSession n = n < 2 ^ 32
 
 abbrev pub IsTxnNumber : ℕ → Type 0
 IsTxnNumber n = n < 2 ^ 64
+
+-- how many operations are to count once a transaction has gone back
+abbrev pub IsFirst : ℕ → Type 0
+IsFirst n = n < 2 ^ 16
 
 -- how an event is spelled, without the end of its line
 abbrev pub event_text : Event → List ℕ
@@ -21,6 +25,8 @@ event_text (Step t) = codes "step" ++ 32 ∷ decimal t
 event_text (Commit t) = codes "commit" ++ 32 ∷ decimal t
 event_text (AbortBegin t) = codes "abort" ++ 32 ∷ decimal t
 event_text (AbortStep t) = codes "undo" ++ 32 ∷ decimal t
+event_text (Back t first) = codes "back" ++ 32 ∷ decimal t ++ 32 ∷ decimal first
+event_text (BackStep t) = codes "backstep" ++ 32 ∷ decimal t
 event_text Force = codes "force"
 event_text Flush = codes "flush"
 event_text Rotate = codes "rotate"
@@ -33,6 +39,8 @@ IsEvent (Step t) = IsTxnNumber t
 IsEvent (Commit t) = IsTxnNumber t
 IsEvent (AbortBegin t) = IsTxnNumber t
 IsEvent (AbortStep t) = IsTxnNumber t
+IsEvent (Back t first) = IsTxnNumber t × IsFirst first
+IsEvent (BackStep t) = IsTxnNumber t
 IsEvent Force = ⊤
 IsEvent Flush = ⊤
 IsEvent Rotate = ⊤

@@ -10,7 +10,7 @@ use Rattle.mt_txn.specs.declared.answers.AbortStepped.TheVariants as abort
 use Rattle.mt_txn.specs.declared.answers.KernelForced.TheVariants as forced
 use Rattle.mt_txn.specs.declared.answers.Stepped.TheVariants as step
 use Rattle.mt_world.specs.declared.events.Answer.{Answer}
-use Rattle.mt_world.specs.declared.events.Answer.TheVariants.{Begun, Called, Stepped, Committing, Aborting, Backed, Forced, Flushed, Rotated, Refused}
+use Rattle.mt_world.specs.declared.events.Answer.TheVariants.{Begun, Called, Stepped, Committing, Aborting, Backed, Returning, Returned, Forced, Flushed, Rotated, Refused}
 
 -- the names of transactions, each after a space
 abbrev pub name_text : ℕ → List ℕ
@@ -33,6 +33,12 @@ reported_text (Backed (abort.Wait t)) = codes "wait " ++ decimal t
 reported_text (Backed abort.Again) = codes "again"
 reported_text (Backed abort.Flush) = codes "flush"
 reported_text (Backed abort.Ended) = codes "ended"
+reported_text Returning = codes "returning"
+reported_text (Returned abort.More) = codes "more"
+reported_text (Returned (abort.Wait t)) = codes "wait " ++ decimal t
+reported_text (Returned abort.Again) = codes "again"
+reported_text (Returned abort.Flush) = codes "flush"
+reported_text (Returned abort.Ended) = codes "ended"
 reported_text (Forced forced.More) = codes "more"
 reported_text (Forced forced.Idle) = codes "idle"
 reported_text (Forced (forced.Durable names)) = codes "durable" ++ concat (map name_text names.items)

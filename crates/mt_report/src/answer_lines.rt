@@ -71,6 +71,22 @@ fn write_backed<W: Write>(writer: &mut W, backed: AbortStepped) -> Result<(), Un
     }
 }
 
+/// Writes what a step of going back came to.
+fn write_returned<W: Write>(writer: &mut W, returned: AbortStepped) -> Result<(), Unheard>
+    ensures all { OnOk result (Appends (W.contents writer.old) (W.contents writer.new)
+        (reported_line (answer.Returned returned))) }
+    ensures front { OnErr result (AppendsFront (W.contents writer.old) (W.contents writer.new)
+        (reported_line (answer.Returned returned))) }
+{
+    match returned {
+        AbortStepped::More => put(writer, b"more\n"),
+        AbortStepped::Wait(txn) => write_number(writer, "wait ", txn.get()),
+        AbortStepped::Again => put(writer, b"again\n"),
+        AbortStepped::Flush => put(writer, b"flush\n"),
+        AbortStepped::Ended => put(writer, b"ended\n"),
+    }
+}
+
 /// Writes the name of a transaction after a space.
 fn write_name<W: Write>(writer: &mut W, name: TxnNo) -> Result<(), Unheard>
     ensures all { OnOk result (Appends (W.contents writer.old) (W.contents writer.new) (name_text name)) }
@@ -149,6 +165,8 @@ fn write_reported<W: Write>(writer: &mut W, answer: &Answer) -> Result<(), Unhea
         Answer::Committing(place) => write_number(writer, "committing ", *place),
         Answer::Aborting => put(writer, b"aborting\n"),
         Answer::Backed(backed) => write_backed(writer, *backed),
+        Answer::Returning => put(writer, b"returning\n"),
+        Answer::Returned(returned) => write_returned(writer, *returned),
         Answer::Forced(forced) => write_forced(writer, forced),
         Answer::Flushed(flushed) => write_flushed(writer, *flushed),
         Answer::Rotated => put(writer, b"rotated\n"),

@@ -19,6 +19,10 @@ pub enum EventWord {
     Abort,
     /// `undo`
     Undo,
+    /// `back`
+    Back,
+    /// `backstep`
+    BackStep,
     /// `force`
     Force,
     /// `flush`
@@ -43,6 +47,10 @@ pub(crate) fn event_word(bytes: &[u8]) -> Option<EventWord>
         Some(EventWord::Abort)
     } else if is_text_of(bytes, "undo") {
         Some(EventWord::Undo)
+    } else if is_text_of(bytes, "back") {
+        Some(EventWord::Back)
+    } else if is_text_of(bytes, "backstep") {
+        Some(EventWord::BackStep)
     } else if is_text_of(bytes, "force") {
         Some(EventWord::Force)
     } else if is_text_of(bytes, "flush") {
@@ -65,6 +73,8 @@ pub(crate) fn event_form(word: EventWord) -> &'static str
         EventWord::Commit => "commit TRANSACTION",
         EventWord::Abort => "abort TRANSACTION",
         EventWord::Undo => "undo TRANSACTION",
+        EventWord::Back => "back TRANSACTION COUNT",
+        EventWord::BackStep => "backstep TRANSACTION",
         EventWord::Force => "force",
         EventWord::Flush => "flush",
         EventWord::Rotate => "rotate",

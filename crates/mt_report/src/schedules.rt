@@ -26,6 +26,25 @@ fn call_of(alloc: Global, words: &[u8]) -> Result<Option<Event>, AllocError>
     }
 }
 
+/// `back T N`, of the words after the first.
+fn back_of(alloc: Global, words: &[u8]) -> Result<Option<Event>, AllocError>
+    ensures { IfOk result (ReadsEvent (codes "back" ++ 32 ∷ words.now)) }
+{
+    let Some((word, rest)) = split_at_space(words) else {
+        return Ok(None);
+    };
+    let Some(txn) = number_of(alloc, word)? else {
+        return Ok(None);
+    };
+    let Some(count) = number_of(alloc, rest)? else {
+        return Ok(None);
+    };
+    match u16::try_from(count) {
+        Ok(first) => Ok(Some(Event::Back(TxnNo::new(txn), first))),
+        Err(_) => Ok(None),
+    }
+}
+
 /// `begin S`, if the number is one of a session.
 fn begin_of(number: u64) -> Option<Event>
     ensures { ReadsEvent (codes "begin" ++ 32 ∷ decimal number) result }
@@ -39,7 +58,8 @@ fn begin_of(number: u64) -> Option<Event>
 /// The event of a word and the number after it.
 fn numbered(word: &[u8], number: u64) -> Option<Event>
     requires unspaced { IsUnspaced word.now }
-    requires other { word.now ≢ codes "call" }
+    requires call { word.now ≢ codes "call" }
+    requires back { word.now ≢ codes "back" }
     ensures { ReadsEvent (word.now ++ 32 ∷ decimal number) result }
 {
     if is_text_of(word, "begin") {
@@ -52,6 +72,8 @@ fn numbered(word: &[u8], number: u64) -> Option<Event>
         Some(Event::AbortBegin(TxnNo::new(number)))
     } else if is_text_of(word, "undo") {
         Some(Event::AbortStep(TxnNo::new(number)))
+    } else if is_text_of(word, "backstep") {
+        Some(Event::BackStep(TxnNo::new(number)))
     } else {
         None
     }
@@ -64,6 +86,9 @@ fn event_with(alloc: Global, word: &[u8], words: &[u8]) -> Result<Option<Event>,
 {
     if is_text_of(word, "call") {
         return call_of(alloc, words);
+    }
+    if is_text_of(word, "back") {
+        return back_of(alloc, words);
     }
     match number_of(alloc, words)? {
         Some(number) => Ok(numbered(word, number)),
@@ -96,10 +121,12 @@ fn bare_event_of(word: &[u8]) -> Option<Event>
 /// | `step T` | the operation of transaction T makes a step |
 /// | `commit T`, `abort T` | the commit or the abort of transaction T begins |
 /// | `undo T` | the abort of transaction T makes a step |
+/// | `back T N` | transaction T begins to go back to its first N operations that count |
+/// | `backstep T` | transaction T makes a step of going back |
 /// | `force`, `flush` | the log is forced a step further; a frame is flushed |
 /// | `rotate` | the log is turned over |
 ///
-/// One space stands between two words. S fits 32 bits and T fits 64, in decimal without leading zeros.
+/// One space stands between two words. S fits 32 bits, T fits 64 and N fits 16, in decimal without leading zeros.
 pub struct ScheduleGrammar;
 
 impl Grammar for ScheduleGrammar {
@@ -139,6 +166,6 @@ impl Grammar for ScheduleGrammar {
     }
 
     fn words() -> &'static str {
-        "begin, call, step, commit, abort, undo, force, flush, rotate"
+        "begin, call, step, commit, abort, undo, back, backstep, force, flush, rotate"
     }
 }

@@ -22,6 +22,8 @@ pub enum Act {
     Add(u64, i64),
     /// It begins its commit, and the log is forced.
     Commit(u64),
+    /// It goes back to its first so many operations, in so many steps.
+    Back(u64, u16, u16),
     /// It is taken back, in so many steps.
     Abort(u64, u16),
     /// The log is forced, in four steps.
@@ -54,6 +56,26 @@ pub const AN_UNFINISHED_ABORT: [Act; 4] = [
     Act::Begin,
     Act::Add(1, 2),
     Act::Abort(1, 4),
+    Act::Force,
+];
+
+/// Two rows and an add between them. All but the first are taken back, and that commits.
+pub const A_SAVEPOINT: [Act; 6] = [
+    Act::Begin,
+    Act::Insert(1, b"a", b"x", 20),
+    Act::Add(1, 2),
+    Act::Insert(1, b"b", b"y", 20),
+    Act::Back(1, 1, 20),
+    Act::Commit(1),
+];
+
+/// The same, up to the end of the first inverse, which is that of the last row.
+pub const AN_UNFINISHED_RETURN: [Act; 6] = [
+    Act::Begin,
+    Act::Insert(1, b"a", b"x", 20),
+    Act::Add(1, 2),
+    Act::Insert(1, b"b", b"y", 20),
+    Act::Back(1, 1, 7),
     Act::Force,
 ];
 
@@ -149,6 +171,7 @@ fn repeat(events: &mut Vec<Event>, kind: &Act, txn: TxnNo, steps: u16) -> Result
     for _step in 0..steps {
         events.push(match kind {
             Act::Abort(_, _) => Event::AbortStep(txn),
+            Act::Back(_, _, _) => Event::BackStep(txn),
             Act::Commit(_) | Act::Force => Event::Force,
             _ => Event::Step(txn),
         })?;
@@ -176,6 +199,7 @@ fn rows(
 fn txn_and_steps(act: &Act) -> (TxnNo, u16) {
     let (txn, steps) = match act {
         Act::Insert(txn, _, _, steps) | Act::Abort(txn, steps) => (*txn, *steps),
+        Act::Back(txn, _, steps) => (*txn, *steps),
         Act::Update(txn, _, _) | Act::Delete(txn, _) => (*txn, 20),
         Act::Rows(txn, _, _) => (*txn, 0),
         Act::Add(txn, _) => (*txn, 6),
@@ -199,6 +223,7 @@ fn first(alloc: Global, act: &Act, txn: TxnNo) -> Result<Option<Event>, AllocErr
         Act::Add(_, step) => Event::Call(txn, Op::Add(CtrNo::new(0), *step)),
         Act::Commit(_) => Event::Commit(txn),
         Act::Abort(_, _) => Event::AbortBegin(txn),
+        Act::Back(_, first, _) => Event::Back(txn, *first),
         Act::Flush => Event::Flush,
         Act::Rotate => Event::Rotate,
         Act::Rows(_, _, _) | Act::Force => return Ok(None),

@@ -2,8 +2,8 @@
 // opened, and each opening is stopped at each of its own calls.
 use crate::devices::{FILLS, crashed, device_of, empty_device, inspected, recovered, row_schema};
 use crate::events::{
-    A_ROTATION, A_ROW, A_SPLIT_AND_AN_ABORT, AN_UNFINISHED_ABORT, AN_UNFINISHED_INSERT, Act,
-    TWO_ADDS, events_of,
+    A_ROTATION, A_ROW, A_SAVEPOINT, A_SPLIT_AND_AN_ABORT, AN_UNFINISHED_ABORT,
+    AN_UNFINISHED_INSERT, AN_UNFINISHED_RETURN, Act, TWO_ADDS, events_of,
 };
 use mt_base::Refusal;
 use mt_disk::{FaultDevice, Fill, MemDevice};
@@ -219,6 +219,30 @@ fn an_insert_under_way_leaves_nothing_wherever_it_stops(rt: HostRuntime) -> Resu
 fn an_abort_under_way_leaves_the_number_wherever_it_stops(rt: HostRuntime) -> Result<(), Fail> {
     let run = Run {
         acts: &AN_UNFINISHED_ABORT,
+        bases: &[b" 5"],
+        calls: 4,
+    };
+    let outcome = each_stop(rt.alloc(), &run)?;
+    assert!(rt; outcome == due(10, ROW_OPENINGS, 0));
+    Ok(())
+}
+
+#[test]
+fn what_counts_stands_wherever_its_run_stops(rt: HostRuntime) -> Result<(), Fail> {
+    let run = Run {
+        acts: &A_SAVEPOINT,
+        bases: &[b" 5", b"0 a=x; 5"],
+        calls: 4,
+    };
+    let outcome = each_stop(rt.alloc(), &run)?;
+    assert!(rt; outcome == due(10, ROW_OPENINGS, 1));
+    Ok(())
+}
+
+#[test]
+fn going_back_leaves_nothing_wherever_it_stops(rt: HostRuntime) -> Result<(), Fail> {
+    let run = Run {
+        acts: &AN_UNFINISHED_RETURN,
         bases: &[b" 5"],
         calls: 4,
     };

@@ -6,12 +6,12 @@ use Rattle.std.proofs.Props.{props}
 use Rattle.mt_base.specs.declared.refusal.Refusal.{Refusal}
 use Rattle.mt_base.specs.declared.refusal.Refusal.TheVariants as refusal
 use Rattle.mt_disk.specs.declared.device.Device.{Ghosts}
-use Rattle.mt_core.specs.Consistent.{OnlyOperations, SameCommits, SameStates, SameStatesBut}
-use Rattle.mt_core.specs.Runs.{state_in}
+use Rattle.mt_core.specs.Consistent.{OnlyOperations, SameCommits, SameStates, SameStatesBut, SetsState}
+use Rattle.mt_core.specs.Runs.{is_returning, state_in}
 use Rattle.mt_core.specs.declared.calls.Called.{Called}
 use Rattle.mt_core.specs.declared.calls.Called.TheVariants as call
 use Rattle.mt_core.specs.declared.parts.Core.{Core}
-use Rattle.mt_live.specs.Machine.{State, begun, called, ended, gone}
+use Rattle.mt_live.specs.Machine.{State, begun, called, ended, gone, settled}
 use Rattle.mt_live.specs.declared.transactions.TxnState.{TxnState}
 use Rattle.mt_live.specs.declared.transactions.TxnState.TheVariants.{Open, Committing as IsCommitting, Aborting as IsAborting, Returning}
 use Rattle.mt_model.specs.Model.{Base}
@@ -19,11 +19,14 @@ use Rattle.mt_model.specs.declared.operations.Op.{Op}
 use Rattle.mt_model.specs.declared.operations.Reply.{Reply}
 use Rattle.mt_pool.specs.declared.flushes.Flushed.{Flushed as FlushOutcome}
 use Rattle.mt_pool.specs.declared.flushes.Flushed.TheVariants as flush
+use Rattle.mt_pool.specs.declared.store.Store.{Store}
 use Rattle.mt_txn.proofs.Living.{idle_of}
-use Rattle.mt_txn.specs.Causes.{begin_cause, call_cause, first_of, is_busy, is_open, unless}
-use Rattle.mt_txn.specs.Events.{HasAborted, HasCalled, HasForced, HasStepped, IsAnsweredBy, IsBack}
+use Rattle.mt_txn.specs.Causes.{IsRefusedAtOnce, begin_cause, call_cause, first_of, is_busy, is_open, return_cause, unless}
+use Rattle.mt_txn.specs.Events.{HasAborted, HasCalled, HasForced, HasReturned, HasStepped, IsAnsweredBy, IsBack, IsReturn}
 use Rattle.mt_txn.specs.Events.IsBack.{stands, drops as drops_back, undoes as undoes_back}
-use Rattle.mt_txn.specs.Shown.{CallsOnce, FailsForGood, LeavesFound, SameSchema, Shows, Stays, StaysRestarting, is_failed}
+use Rattle.mt_txn.specs.Events.IsReturn.{stays as stays_back, returns as returns_back}
+use Rattle.mt_txn.specs.Shown.{CallsOnce, FailsForGood, LeavesFound, SameSchema, Shows, Stays, StaysRestarting, is_failed, kernel_device}
+use Rattle.mt_txn.specs.Words.{kernel_state, kernel_store}
 use Rattle.mt_txn.specs.declared.answers.AbortStepped.{AbortStepped}
 use Rattle.mt_txn.specs.declared.answers.AbortStepped.TheVariants as abort
 use Rattle.mt_txn.specs.declared.answers.KernelForced.{KernelForced}
@@ -33,14 +36,14 @@ use Rattle.mt_txn.specs.declared.answers.Stepped.TheVariants as step
 use Rattle.mt_txn.specs.declared.kernel.Kernel.{Kernel}
 use Rattle.mt_world.specs.Acts.{Act}
 use Rattle.mt_world.specs.Moves.{IsStill, Moves}
-use Rattle.mt_world.specs.Moves.IsStill.{is_refused, call_waits, step_went, step_waits, step_again, step_full, abort_went, abort_waits, abort_again, abort_full, force_went, force_idle}
-use Rattle.mt_world.specs.Moves.Moves.{stays, begins, calls, ends, drops, undoes, aborts, books}
-use Rattle.mt_world.specs.Due.{CallsAtEvent, FailsIn, IsBacked, IsBroken, IsCaused, IsDue, IsFlushed, IsStepped, SamePhases, SetsPhases}
+use Rattle.mt_world.specs.Moves.IsStill.{is_refused, call_waits, step_went, step_waits, step_again, step_full, abort_went, abort_waits, abort_again, abort_full, return_went, return_waits, return_again, return_full, force_went, force_idle}
+use Rattle.mt_world.specs.Moves.Moves.{stays, begins, calls, ends, drops, undoes, aborts, returns, settles, books}
+use Rattle.mt_world.specs.Due.{CallsAtEvent, FailsIn, IsBacked, IsBroken, IsCaused, IsDue, IsFlushed, IsReturned, IsStepped, SamePhases, SetsPhases}
 use Rattle.mt_world.specs.Schedules.{HasMade}
 use Rattle.mt_world.specs.declared.events.Answer.{Answer}
-use Rattle.mt_world.specs.declared.events.Answer.TheVariants.{Begun, Called as CalledAs, Stepped, Backed, Forced, Refused}
+use Rattle.mt_world.specs.declared.events.Answer.TheVariants.{Begun, Called as CalledAs, Stepped, Backed, Returned, Forced, Refused}
 use Rattle.mt_world.specs.declared.events.Event.{Event}
-use Rattle.mt_world.specs.declared.events.Event.TheVariants.{Begin, Call, Step, AbortStep, Force}
+use Rattle.mt_world.specs.declared.events.Event.TheVariants.{Begin, Call, Step, AbortStep, BackStep, Force}
 
 -- ---- causes
 
@@ -61,7 +64,7 @@ wanting_or refusal.NoMemory cause = inl refl
 wanting_or why cause = inr (cause (λ e. cc))
 
 -- a step is not refused only of an open transaction that runs an operation
-both_hold : (failed opened busy : Bool) → first_of (if failed then Some refusal.DeviceFailed else unless opened refusal.Stranger) (unless busy refusal.Stranger) ≡ None → (opened ≡ true) × (busy ≡ true)
+pub both_hold : (failed opened busy : Bool) → first_of (if failed then Some refusal.DeviceFailed else unless opened refusal.Stranger) (unless busy refusal.Stranger) ≡ None → (opened ≡ true) × (busy ≡ true)
 both_hold true opened busy none = absurd cc
 both_hold false false busy none = absurd cc
 both_hold false true false none = absurd cc
@@ -77,17 +80,31 @@ open_state (Some (Returning n)) is = absurd cc
 -- ---- events
 
 -- a step of an abort leads where its answer says
-back_moves : (t : ℕ) (s z : State) → IsBack s t z → (acts : List Act) × Moves s (AbortStep t) (Backed abort.More) acts z
-back_moves t s _ stands = ([], stays _ _ (abort_went t))
-back_moves t s _ (drops_back op ps runs given) = ([], drops t op ps runs given)
-back_moves t s _ (undoes_back last inverse ps idle effect inverts given) = (_, undoes t last inverse ps idle effect inverts given)
+back_moves : (state : ℕ → Option TxnState) (t : ℕ) (s z : State) → IsBack s t z → (acts : List Act) × Moves state s (AbortStep t) (Backed abort.More) acts z
+back_moves state t s _ stands = ([], stays _ _ (abort_went t))
+back_moves state t s _ (drops_back op ps runs given) = ([], drops t op ps runs given)
+back_moves state t s _ (undoes_back last inverse ps idle effect inverts given) = (_, undoes t last inverse ps idle effect inverts given)
+
+-- a step of going back does too
+return_moves : (state : ℕ → Option TxnState) (t first : ℕ) (s z : State) → state t ≡ Some (Returning first) → IsReturn s t first z → (acts : List Act) × Moves state s (BackStep t) (Returned abort.More) acts z
+return_moves state t first s _ goes stays_back = ([], stays _ _ (return_went t))
+return_moves state t first s _ goes (returns_back last inverse ps idle effect there inverts given) = (_, returns t first last inverse ps goes idle effect there inverts given)
+
+-- it goes back where a step may be made
+returning_to : (failed : Bool) (o : Option TxnState) → (if failed then Some refusal.DeviceFailed else unless (is_returning o) refusal.Stranger) ≡ None → (first : ℕ) × (o ≡ Some (Returning first))
+returning_to true o none = absurd cc
+returning_to false None none = absurd cc
+returning_to false (Some Open) none = absurd cc
+returning_to false (Some IsCommitting) none = absurd cc
+returning_to false (Some IsAborting) none = absurd cc
+returning_to false (Some (Returning first)) none = (first, refl)
 
 module _ {D : Type 0} {g : Ghosts D} (k n : Kernel D g) where
   abbrev Found : Type 0
   Found = LeavesFound k n
 
   abbrev Leads : Base → State → Event → Answer → Type 0
-  Leads first s event answer = ∥ ((acts : List Act) × (z : State) × Moves s event answer acts z × Shows first z n) ∥₁
+  Leads first s event answer = ∥ ((acts : List Act) × (z : State) × Moves (kernel_state k) s event answer acts z × Shows first z n) ∥₁
 
   pub still : (event : Event) (answer : Answer) (first : Base) (s : State) → IsStill event answer → Shows first s n → Leads first s event answer
   still event answer first s is shows = ∣ ([], s, stays event answer is, shows) ∣₁
@@ -110,7 +127,7 @@ module _ {D : Type 0} {g : Ghosts D} (k n : Kernel D g) where
       → CallsAtEvent k (Begin session) n → SetsPhases k (Begin session) (Begun txn) n → SameSchema k n → FailsIn k (Begun txn) n → StaysRestarting k n → Found
       → HasMade k (Begin session) (Begun txn) n
   begin_made session txn number may did device phases schema fails restarts found = record {
-    leads = λ first s starts shows. ∣ ([], begun s session, subst (λ (t : ℕ). Moves s (Begin session) (Begun t) [] (begun s session)) (next_is first s shows) (begins session), did first s shows) ∣₁;
+    leads = λ first s starts shows. ∣ ([], begun s session, subst (λ (t : ℕ). Moves (kernel_state k) s (Begin session) (Begun t) [] (begun s session)) (next_is first s shows) (begins session), did first s shows) ∣₁;
     due = may;
     device = device;
     phases = phases;
@@ -169,7 +186,7 @@ module _ {D : Type 0} {g : Ghosts D} (k n : Kernel D g) where
       ends_with reply first s shows (Some op) runs did =
           let ended_so = did op runs in
           ∥∥₁_map ended_so.1 (λ is.
-          subst (λ (r : Reply). (acts : List Act) × (z : State) × Moves s (Step t) (Stepped (step.Replied r)) acts z × Shows first z n) is (_, ended s t op, ends t op runs, ended_so.0))
+          subst (λ (r : Reply). (acts : List Act) × (z : State) × Moves (kernel_state k) s (Step t) (Stepped (step.Replied r)) acts z × Shows first z n) is (_, ended s t op, ends t op runs, ended_so.0))
 
       leads : (outcome : StepOutcome) (first : Base) (s : State) → Shows first s k → HasStepped first s t (Ok outcome) n → Leads first s (Step t) (Stepped outcome)
       leads (step.Replied reply) first s shows did = ends_with reply first s shows (s.running t) refl did
@@ -185,7 +202,7 @@ module _ {D : Type 0} {g : Ghosts D} (k n : Kernel D g) where
   back_made t outcome due once did phases schema fails restarts found = record { leads = λ first s starts shows. leads outcome first s (did first s shows); due = due; device = once; phases = phases; fails = fails; restarts = restarts; found = found; schema = schema }
     where
       leads : (outcome : AbortStepped) (first : Base) (s : State) → HasAborted first s t (Ok outcome) n → Leads first s (AbortStep t) (Backed outcome)
-      leads abort.More first s did = ∥∥₁_map did (λ (z, back, shows). let moves = back_moves t s z back in (moves.0, z, moves.1, shows))
+      leads abort.More first s did = ∥∥₁_map did (λ (z, back, shows). let moves = back_moves (kernel_state k) t s z back in (moves.0, z, moves.1, shows))
       leads (abort.Wait other) first s did = still (AbortStep t) (Backed (abort.Wait other)) first s (abort_waits t other) did
       leads abort.Again first s did = still (AbortStep t) (Backed abort.Again) first s (abort_again t) did
       leads abort.Flush first s did = still (AbortStep t) (Backed abort.Flush) first s (abort_full t) did
@@ -198,6 +215,53 @@ module _ {D : Type 0} {g : Ghosts D} (k n : Kernel D g) where
   back_phases t abort.Again same commits out = (same (λ e. cc), commits)
   back_phases t abort.Flush same commits out = (same (λ e. cc), commits)
   back_phases t abort.Ended same commits out = let gone = out refl in (gone.0, gone.1, commits)
+
+  -- ---- going back begins
+
+  -- the device is in the store
+  pub store_device : kernel_store n ≡ kernel_store k → kernel_device n ≡ kernel_device k
+  store_device same = ap (λ (s : Store D). s.device) same
+
+  -- ---- a step of going back
+
+  abbrev HasGoneBack : ℕ → Result AbortStepped Refusal → Type 0
+  HasGoneBack t result = (base : Base) (s : State) (first : ℕ) → Shows base s k → kernel_state k t ≡ Some (Returning first) → HasReturned base s t first result n
+
+  pub return_made : (t : ℕ) (outcome : AbortStepped) → IsReturned k t outcome n → CallsOnce k n → HasGoneBack t (Ok outcome) → SetsPhases k (BackStep t) (Returned outcome) n → SameSchema k n → FailsIn k (Returned outcome) n → StaysRestarting k n → Found
+      → HasMade k (BackStep t) (Returned outcome) n
+  return_made t outcome due once did phases schema fails restarts found = record {
+    leads = λ base s starts shows. let goes = returning_to (is_failed k) (kernel_state k t) due.may in leads outcome goes.0 goes.1 base s (did base s goes.0 shows goes.1);
+    due = due;
+    device = once;
+    phases = phases;
+    fails = fails;
+    restarts = restarts;
+    found = found;
+    schema = schema;
+  }
+    where
+      leads : (outcome : AbortStepped) (first : ℕ) → kernel_state k t ≡ Some (Returning first) → (base : Base) (s : State) → HasReturned base s t first (Ok outcome) n → Leads base s (BackStep t) (Returned outcome)
+      leads abort.More first goes base s did = ∥∥₁_map did (λ (z, back, shows). let moves = return_moves (kernel_state k) t first s z goes back in (moves.0, z, moves.1, shows))
+      leads (abort.Wait other) first goes base s did = still (BackStep t) (Returned (abort.Wait other)) base s (return_waits t other) did
+      leads abort.Again first goes base s did = still (BackStep t) (Returned abort.Again) base s (return_again t) did
+      leads abort.Flush first goes base s did = still (BackStep t) (Returned abort.Flush) base s (return_full t) did
+      leads abort.Ended first goes base s did = ∥∥₁_map did.1 (λ nothing. ([], settled s t first, settles t first goes nothing, did.0))
+
+  pub return_phases : (t : ℕ) (outcome : AbortStepped) → return_cause (is_failed k) k.core t ≡ None → (outcome ≢ abort.Ended → SameStates k.core n.core) → SameCommits k.core n.core
+      → ((first : ℕ) → kernel_state k t ≡ Some (Returning first) → outcome ≡ abort.Ended → SetsState k.core n.core t (Some Open)) → SetsPhases k (BackStep t) (Returned outcome) n
+  return_phases t abort.More may same commits opened = (same (λ e. cc), commits)
+  return_phases t (abort.Wait other) may same commits opened = (same (λ e. cc), commits)
+  return_phases t abort.Again may same commits opened = (same (λ e. cc), commits)
+  return_phases t abort.Flush may same commits opened = (same (λ e. cc), commits)
+  return_phases t abort.Ended may same commits opened = let goes = returning_to (is_failed k) (kernel_state k t) may in (opened goes.0 goes.1 refl, commits)
+
+  -- one that is refused leaves the state
+  pub return_stays : (t : ℕ) (why : Refusal) → IsRefusedAtOnce {T = AbortStepped} (return_cause (is_failed k) k.core t) k (Err why) n → HasGoneBack t (Err why) → Stays k n
+  return_stays t why early did base s shows = go (return_cause (is_failed k) k.core t) refl
+    where
+      go : (o : Option Refusal) → return_cause (is_failed k) k.core t ≡ o → Shows base s n
+      go None is = let goes = returning_to (is_failed k) (kernel_state k t) is in did base s goes.0 shows goes.1
+      go (Some cause) is = subst (λ (m : Kernel D g). Shows base s m) (sym (early cause is).1) shows
 
   -- ---- a step of a force, and a flush
 

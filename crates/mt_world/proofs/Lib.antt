@@ -1,5 +1,6 @@
 mod EventLemmas
 mod OrderLemmas
+mod ReturnLemmas
 mod ReportedLemmas
 mod RunLemmas
 mod CrashLemmas

@@ -1,6 +1,7 @@
 -- Events one after the other, and what follows of all that ended in them.
 use Rattle.std.proofs.Common.{◌≡◌, ◌≢◌, ◌+◌, ℕ, Bool, true, false, List, [], ◌∷◌, ◌++◌, length, map, take, drop, Option, Some, None, is_some, ⊎_elim, refl, ap, ap₂, sym, subst, ◌∙◌, append_assoc, append-nil, length-append, take-append-drop, arith}
-use Rattle.std.specs.Prelude.{All, AllPairs, if◌then◌else◌}
+use Rattle.std.specs.Prelude.{◌==◌, All, AllPairs, if◌then◌else◌}
+use Rattle.std.specs.List.{list_any}
 use Rattle.std.proofs.lemmas.Bool.{cases_eq}
 use Rattle.std.proofs.lemmas.List.{map-append, take_all}
 use Rattle.std.proofs.lemmas.List.Elements.{All-head}
@@ -21,7 +22,7 @@ use Rattle.mt_live.specs.Laws.{in_turn}
 use Rattle.mt_live.specs.Lives.{member_of}
 use Rattle.mt_live.specs.Members.{Member}
 use Rattle.mt_live.specs.Undoing.{only}
-use Rattle.mt_live.specs.Machine.{State, IsKept, begun, booked, called, dropped, ended, gone, put, start, undone}
+use Rattle.mt_live.specs.Machine.{State, IsKept, begun, booked, called, dropped, ended, gone, put, returned, settled, start, undone}
 use Rattle.mt_live.specs.Sound.{Each}
 use Rattle.mt_live.specs.declared.transactions.TxnState.{TxnState}
 use Rattle.mt_live.specs.declared.transactions.TxnState.TheVariants.{Open, Committing as IsCommitting, Aborting as IsAborting, Returning}
@@ -31,27 +32,28 @@ use Rattle.mt_model.specs.Model.{Base}
 use Rattle.mt_model.specs.declared.history.Committed.{Committed}
 use Rattle.mt_txn.proofs.Living.{lives_of}
 use Rattle.mt_txn.proofs.Showing.{kept_of}
-use Rattle.mt_txn.specs.Causes.{abort_cause, busy_cause, first_of, is_aborting, is_open, unless}
+use Rattle.mt_txn.specs.Causes.{abort_cause, busy_cause, first_of, is_aborting, is_busy, is_open, savepoint_cause, unless}
 use Rattle.mt_txn.specs.Restarted.{all_commits}
 use Rattle.mt_txn.specs.Shown.{Restarts, Shows, is_failed}
+use Rattle.mt_txn.specs.Words.{kernel_commit_cause, kernel_state}
 use Rattle.mt_txn.specs.declared.kernel.Kernel.{Kernel}
 use Rattle.mt_world.specs.Acts.{Act, calls_in}
-use Rattle.mt_world.proofs.EventLemmas.{open_state}
+use Rattle.mt_world.proofs.EventLemmas.{both_hold, open_state}
 use Rattle.mt_world.proofs.OrderLemmas.{acknowledged_more, committing_more, reported_more}
 use Rattle.mt_live.proofs.Cutting.{each_append}
 use Rattle.mt_live.proofs.Shapes.{each_map}
-use Rattle.mt_world.proofs.ReportedLemmas.{AreDistinct, AreReported, forward_before, is_forward, named_commit, named_distinct, reported_begun, reported_booked, reported_called, reported_dropped, reported_ended, reported_gone, reported_in_turn, reported_still, reported_undone}
+use Rattle.mt_world.proofs.ReportedLemmas.{AreDistinct, AreReported, commits_still, is_among, known_as, named_commit, named_distinct, no_more_forced, not_named, reported_back, reported_begun, reported_booked, reported_called, reported_dropped, reported_ended, reported_gone, reported_in_turn, reported_returned, reported_settled, reported_still, reported_undone}
 use Rattle.mt_world.specs.Due.{FailsIn, IsBroken, IsDue, SamePhases, SetsPhases, StayBroken}
 use Rattle.mt_world.specs.Moves.{IsStill, Moves}
-use Rattle.mt_world.specs.Moves.IsStill.{is_refused, call_waits, step_went, step_waits, step_again, step_full, commit_begun, abort_begun, abort_went, abort_waits, abort_again, abort_full, force_went, force_idle, flushed, rotated}
-use Rattle.mt_world.specs.Moves.Moves.{stays, begins, calls, ends, drops, undoes, aborts, books}
+use Rattle.mt_world.specs.Moves.IsStill.{is_refused, call_waits, step_went, step_waits, step_again, step_full, commit_begun, abort_begun, abort_went, abort_waits, abort_again, abort_full, back_begun, return_went, return_waits, return_again, return_full, force_went, force_idle, flushed, rotated}
+use Rattle.mt_world.specs.Moves.Moves.{stays, begins, calls, ends, drops, undoes, aborts, returns, settles, books}
 use Rattle.mt_world.specs.Schedules.{HasMade, HasRun, Makes}
 use Rattle.mt_world.specs.Schedules.Makes.{starts, goes_on}
 use Rattle.mt_world.specs.Reported.{Reported, acknowledged, commit_of, commit_order, committing, named, nothing_reported, started_by, tells, reported_of}
 use Rattle.mt_world.specs.declared.events.Answer.{Answer}
 use Rattle.mt_world.specs.declared.events.Answer.TheVariants.{Refused}
 use Rattle.mt_world.specs.declared.events.Event.{Event}
-use Rattle.mt_world.specs.declared.events.Event.TheVariants.{Begin, Call as CallOf, Step, Commit, AbortBegin, AbortStep, Force, Flush, Rotate}
+use Rattle.mt_world.specs.declared.events.Event.TheVariants.{Begin, Call as CallOf, Step, Commit, AbortBegin, AbortStep, Back, BackStep, Force, Flush, Rotate}
 
 -- ---- what ended
 
@@ -64,15 +66,17 @@ calls_joined [] ys = refl
 calls_joined (x ∷ xs) ys = ap (λ cs. (x.op, x.reply) ∷ cs) (calls_joined xs ys)
 
 -- an event has what ended in it act on the base, which it leads to the next
-moves_acted : (s z : State) (event : Event) (answer : Answer) (more : List Act) → Moves s event answer more z → IsActed s.base (calls_in more) × (run s.base (calls_in more) ≡ z.base)
-moves_acted s _ _ _ _ (stays event answer is) = (tt, refl)
-moves_acted s _ _ _ _ (begins session) = (tt, refl)
-moves_acted s _ _ _ _ (calls t op) = (tt, refl)
-moves_acted s _ _ _ _ (ends t op runs) = ((refl, tt), refl)
-moves_acted s _ _ _ _ (drops t op ps runs given) = (tt, refl)
-moves_acted s _ _ _ _ (undoes t last inverse ps idle effect inverts given) = ((refl, tt), refl)
-moves_acted s _ _ _ _ (aborts t nothing) = (tt, refl)
-moves_acted s _ _ _ _ (books names) = (tt, sym (booked_base s names.items))
+moves_acted : (state : ℕ → Option TxnState) (s z : State) (event : Event) (answer : Answer) (more : List Act) → Moves state s event answer more z → IsActed s.base (calls_in more) × (run s.base (calls_in more) ≡ z.base)
+moves_acted state s _ _ _ _ (stays event answer is) = (tt, refl)
+moves_acted state s _ _ _ _ (begins session) = (tt, refl)
+moves_acted state s _ _ _ _ (calls t op) = (tt, refl)
+moves_acted state s _ _ _ _ (ends t op runs) = ((refl, tt), refl)
+moves_acted state s _ _ _ _ (drops t op ps runs given) = (tt, refl)
+moves_acted state s _ _ _ _ (undoes t last inverse ps idle effect inverts given) = ((refl, tt), refl)
+moves_acted state s _ _ _ _ (aborts t nothing) = (tt, refl)
+moves_acted state s _ _ _ _ (returns t n last inverse ps goes idle effect after inverts given) = ((refl, tt), refl)
+moves_acted state s _ _ _ _ (settles t n goes none) = (tt, refl)
+moves_acted state s _ _ _ _ (books names) = (tt, sym (booked_base s names.items))
 
 -- ---- of transactions
 
@@ -81,7 +85,12 @@ not_refused true opened later none = absurd cc
 not_refused false true later none = refl
 not_refused false false later none = absurd cc
 
-aborting_back : (failed : Bool) (o : Option TxnState) → (if failed then Some refusal.DeviceFailed else unless (is_aborting o) refusal.Stranger) ≡ None → is_forward o ≡ false
+-- if the first cause or another is none, the first is
+first_none : (a b : Option Refusal) → first_of a b ≡ None → a ≡ None
+first_none None b none = refl
+first_none (Some why) b none = absurd cc
+
+aborting_back : (failed : Bool) (o : Option TxnState) → (if failed then Some refusal.DeviceFailed else unless (is_aborting o) refusal.Stranger) ≡ None → known_as o ≡ None
 aborting_back true o none = absurd cc
 aborting_back false None none = absurd cc
 aborting_back false (Some Open) none = absurd cc
@@ -89,7 +98,7 @@ aborting_back false (Some IsCommitting) none = absurd cc
 aborting_back false (Some IsAborting) none = refl
 aborting_back false (Some (Returning n)) none = absurd cc
 
-none_back : (o : Option TxnState) → is_some o ≡ false → is_forward o ≡ false
+none_back : (o : Option TxnState) → is_some o ≡ false → known_as o ≡ None
 none_back None none = refl
 none_back (Some x) none = absurd cc
 
@@ -127,7 +136,7 @@ module _ {D : Type 0} {g : Ghosts D} (first : Base) where
   makes_acted _ _ _ _ n (starts k shows) = (tt, refl)
   makes_acted _ _ _ z n (goes_on events answers acts more s _ k _ event answer before made) =
       let was = makes_acted events answers acts s k before in
-      let now = moves_acted s z event answer more made.moves in (
+      let now = moves_acted (kernel_state k) s z event answer more made.moves in (
         subst (IsActed first) (sym (calls_joined acts more)) (acted_append first (calls_in acts) (calls_in more) was.0 (subst (λ (b : Base). IsActed b (calls_in more)) (sym was.1) now.0)),
         ap (run first) (calls_joined acts more) ∙ run-append first (calls_in acts) (calls_in more) ∙ ap (λ (b : Base). run b (calls_in more)) was.1 ∙ now.1,
       )
@@ -145,18 +154,20 @@ module _ {D : Type 0} {g : Ghosts D} (first : Base) where
     no_names z phase x are = subst (AreReported z phase x) (sym (append-nil names)) are
 
     same_reported : SamePhases k n → AreReported s (Phase k) outcome names → AreReported s (Phase n) outcome (names ++ [])
-    same_reported same are = no_names s (Phase n) outcome (reported_still s (Phase k) (Phase n) outcome names (λ t forward. ap is_forward (sym (same.0 t)) ∙ forward) are)
+    same_reported same are = no_names s (Phase n) outcome (reported_still s (Phase k) (Phase n) outcome names (λ t x known. ap known_as (sym (same.0 t)) ∙ known) are)
 
-    forced_reported : SameUncommitted k.core n.core → AreReported s (Phase k) outcome names → AreReported s (Phase n) outcome (names ++ [])
-    forced_reported same are = no_names s (Phase n) outcome (reported_still s (Phase k) (Phase n) outcome names (λ t. forward_before (Phase k t) (Phase n t) (same t)) are)
+    -- those that commit do so still
+    forced_reported : ((t : ℕ) → Phase k t ≡ Some IsCommitting → Phase n t ≡ Some IsCommitting) → SameUncommitted k.core n.core → AreReported s (Phase k) outcome names → AreReported s (Phase n) outcome (names ++ [])
+    forced_reported commits same are = no_names s (Phase n) outcome (reported_still s (Phase k) (Phase n) outcome names
+        (λ t x known. no_more_forced (Phase k t) (Phase n t) (same t) (λ was. ap known_as (commits t was)) x known) are)
 
-    set_reported : (t : ℕ) (state : TxnState) → (is_forward (Some state) ≡ true → is_forward (Phase k t) ≡ true) → SetsState k.core n.core t (Some state) → AreReported s (Phase k) outcome names → AreReported s (Phase n) outcome (names ++ [])
+    set_reported : (t : ℕ) (state : TxnState) → ((x : Option ℕ) → known_as (Some state) ≡ Some x → known_as (Phase k t) ≡ Some x) → SetsState k.core n.core t (Some state) → AreReported s (Phase k) outcome names → AreReported s (Phase n) outcome (names ++ [])
     set_reported t state was sets are = no_names s (Phase n) outcome (reported_still s (Phase k) (Phase n) outcome names less are)
       where
-        less : (u : ℕ) → is_forward (Phase n u) ≡ true → is_forward (Phase k u) ≡ true
-        less u forward = ⊎_elim
-            (λ (own : u ≡ t). ap (λ (v : ℕ). is_forward (Phase k v)) own ∙ was (ap is_forward (sym (sets u ∙ ap (put (Phase k) t (Some state)) own ∙ put_own (Phase k) t (Some state))) ∙ forward))
-            (λ (other : u ≢ t). ap is_forward (sym (sets u ∙ put_other (Phase k) t (Some state) u other)) ∙ forward) (cases_eq u t)
+        less : (u : ℕ) (x : Option ℕ) → known_as (Phase n u) ≡ Some x → known_as (Phase k u) ≡ Some x
+        less u x known = ⊎_elim
+            (λ (own : u ≡ t). ap (λ (v : ℕ). known_as (Phase k v)) own ∙ was x (ap known_as (sym (sets u ∙ ap (put (Phase k) t (Some state)) own ∙ put_own (Phase k) t (Some state))) ∙ known))
+            (λ (other : u ≢ t). ap known_as (sym (sets u ∙ put_other (Phase k) t (Some state) u other)) ∙ known) (cases_eq u t)
 
     refused_reported : (event : Event) (why : Refusal) → SetsPhases k event (Refused why) n → AreReported s (Phase k) outcome names → TellsOn s event (Refused why)
     refused_reported (Begin session) why same are = same_reported same are
@@ -165,49 +176,72 @@ module _ {D : Type 0} {g : Ghosts D} (first : Base) where
     refused_reported (Commit t) why same are = same_reported same are
     refused_reported (AbortBegin t) why same are = same_reported same are
     refused_reported (AbortStep t) why same are = same_reported same are
+    refused_reported (Back t n) why same are = same_reported same are
+    refused_reported (BackStep t) why same are = same_reported same are
     refused_reported Force why same are = same_reported same are
     refused_reported Flush why same are = same_reported same are
     refused_reported Rotate why same are = same_reported same are
 
-    still_tells : (event : Event) (answer : Answer) → IsStill event answer → IsDue k event answer n → SetsPhases k event answer n → AreReported s (Phase k) outcome names → TellsOn s event answer
-    still_tells _ _ (is_refused event why) due same are = refused_reported event why same are
-    still_tells _ _ (call_waits t op holder) due same are = same_reported same are
-    still_tells _ _ (step_went t) due same are = same_reported same are
-    still_tells _ _ (step_waits t other) due same are = same_reported same are
-    still_tells _ _ (step_again t) due same are = same_reported same are
-    still_tells _ _ (step_full t) due same are = same_reported same are
-    still_tells _ _ (commit_begun t place) due sets are =
-        set_reported t IsCommitting (λ forward. ap is_forward (open_state (Phase k t) (not_refused (is_failed k) (is_open (Phase k t)) (busy_cause k.core t) due.0))) sets.0 are
-    still_tells _ _ (abort_begun t) due sets are = set_reported t IsAborting (λ forward. absurd cc) sets.0 are
-    still_tells _ _ (abort_went t) due same are = same_reported same are
-    still_tells _ _ (abort_waits t other) due same are = same_reported same are
-    still_tells _ _ (abort_again t) due same are = same_reported same are
-    still_tells _ _ (abort_full t) due same are = same_reported same are
-    still_tells _ _ force_went due same are = forced_reported same are
-    still_tells _ _ force_idle due same are = forced_reported same are
-    still_tells _ _ (flushed reported_so) due same are = same_reported same are
-    still_tells _ _ rotated due same are = same_reported same are
+    module _ (all : (t : ℕ) → Phase k t ≡ Some IsCommitting → list_any (λ (c : CommitUnderWay). c.txn == t) k.core.commits.items ≡ true) (later : All (λ (c : CommitUnderWay). Phase n c.txn ≡ Some IsCommitting) n.core.commits.items) where
+      commits_on : SameCommits k.core n.core → (t : ℕ) → Phase k t ≡ Some IsCommitting → Phase n t ≡ Some IsCommitting
+      commits_on same t commits = commits_still (Phase n) n.core.commits.items t (ap (λ (cs : List CommitUnderWay). list_any (λ (c : CommitUnderWay). c.txn == t) cs) same ∙ all t commits) later
 
-    undone_back : (t : ℕ) → abort_cause (is_failed k) k.core t ≡ None → SamePhases k n → is_forward (Phase n t) ≡ false
-    undone_back t may same = ap is_forward (same.0 t) ∙ aborting_back (is_failed k) (Phase k t) may
+      opened : (t : ℕ) → kernel_commit_cause k t ≡ None → Phase k t ≡ Some Open
+      opened t may = open_state (Phase k t) (not_refused (is_failed k) (is_open (Phase k t)) (busy_cause k.core t) may)
 
-    moves_reported : (z : State) (event : Event) (answer : Answer) (more : List Act) → Moves s event answer more z → IsDue k event answer n → SetsPhases k event answer n
-        → Shows first z n → IsKept first s → All (λ (c : CommitUnderWay). Phase k c.txn ≡ Some IsCommitting) k.core.commits.items → AllPairs (λ (a b : CommitUnderWay). a.txn ≢ b.txn) k.core.commits.items
-        → AreReported s (Phase k) outcome names → TellsOn z event answer
-    moves_reported _ _ _ _ (stays event answer is) due phases shows kept each apart are = still_tells event answer is due phases are
-    moves_reported z _ _ _ (begins session) due phases shows kept each apart are = no_names (begun s session) (Phase n) _ (reported_begun first s session (Phase k) (Phase n) outcome names kept phases.0 are)
-    moves_reported z _ _ _ (calls t op) due phases shows kept each apart are = no_names (called s t op) (Phase n) _ (reported_called s t op (Phase k) (Phase n) outcome names phases.0 are)
-    moves_reported z _ _ _ (ends t op runs) due phases shows kept each apart are = no_names (ended s t op) (Phase n) _ (reported_ended first s t op (Phase k) (Phase n) outcome names kept runs phases.0 are)
-    moves_reported z _ _ _ (drops t op ps runs given) due phases shows kept each apart are =
-        no_names (dropped s t ps) (Phase n) outcome (reported_dropped s t ps (Phase k) (Phase n) outcome names (undone_back t due.may phases) (λ u other. phases.0 u) are)
-    moves_reported z _ _ _ (undoes t last inverse ps idle effect inverts given) due phases shows kept each apart are =
-        no_names (undone s t inverse ps) (Phase n) outcome (reported_undone s t inverse ps (Phase k) (Phase n) outcome names (undone_back t due.may phases) (λ u other. phases.0 u) are)
-    moves_reported z _ _ _ (aborts t nothing) due phases shows kept each apart are = no_names (gone s t) (Phase n) outcome (reported_gone s t (Phase k) (Phase n) outcome names (ap is_forward phases.0) phases.1 are)
-    moves_reported z _ _ _ (books ts) due phases shows kept each apart are =
-        reported_booked first s ts.items (Phase k) (Phase n) outcome names kept
-        (subst AreDistinct (sym due.2) (named_distinct (durable_count k.core.commits.items due.0) k.core.commits.items apart))
-        (subst (Each (λ t. Phase k t ≡ Some IsCommitting)) (sym due.2) (named_commit (Phase k) (durable_count k.core.commits.items due.0) k.core.commits.items each))
-        phases (λ u dead. none_back (Phase n u) (sym (lives_of g n.relations n.counters n.core first (booked_each s ts.items) shows u) ∙ dead)) are
+      still_tells : (event : Event) (answer : Answer) → IsStill event answer → IsDue k event answer n → SetsPhases k event answer n → AreReported s (Phase k) outcome names → TellsOn s event answer
+      still_tells _ _ (is_refused event why) due same are = refused_reported event why same are
+      still_tells _ _ (call_waits t op holder) due same are = same_reported same are
+      still_tells _ _ (step_went t) due same are = same_reported same are
+      still_tells _ _ (step_waits t other) due same are = same_reported same are
+      still_tells _ _ (step_again t) due same are = same_reported same are
+      still_tells _ _ (step_full t) due same are = same_reported same are
+      still_tells _ _ (commit_begun t place) due sets are = set_reported t IsCommitting (λ x known. ap known_as (opened t due.0) ∙ known) sets.0 are
+      still_tells _ _ (abort_begun t) due sets are = set_reported t IsAborting (λ x known. absurd cc) sets.0 are
+      still_tells _ _ (abort_went t) due same are = same_reported same are
+      still_tells _ _ (abort_waits t other) due same are = same_reported same are
+      still_tells _ _ (abort_again t) due same are = same_reported same are
+      still_tells _ _ (abort_full t) due same are = same_reported same are
+      still_tells _ _ (back_begun t m) due sets are =
+          no_names s (Phase n) _ (reported_back s t m (Phase k) (Phase n) outcome names (opened t (first_none (kernel_commit_cause k t) (savepoint_cause k.core t m) due)) sets.0 are)
+      still_tells _ _ (return_went t) due same are = same_reported same are
+      still_tells _ _ (return_waits t other) due same are = same_reported same are
+      still_tells _ _ (return_again t) due same are = same_reported same are
+      still_tells _ _ (return_full t) due same are = same_reported same are
+      still_tells _ _ force_went due same are = forced_reported (commits_on due.1) same are
+      still_tells _ _ force_idle due same are = forced_reported (commits_on due.1) same are
+      still_tells _ _ (flushed reported_so) due same are = same_reported same are
+      still_tells _ _ rotated due same are = same_reported same are
+
+      undone_back : (t : ℕ) → abort_cause (is_failed k) k.core t ≡ None → SamePhases k n → known_as (Phase n t) ≡ None
+      undone_back t may same = ap known_as (same.0 t) ∙ aborting_back (is_failed k) (Phase k t) may
+
+      moves_reported : (z : State) (event : Event) (answer : Answer) (more : List Act) → Moves (Phase k) s event answer more z → IsDue k event answer n → SetsPhases k event answer n
+          → Shows first z n → IsKept first s → All (λ (c : CommitUnderWay). Phase k c.txn ≡ Some IsCommitting) k.core.commits.items → AllPairs (λ (a b : CommitUnderWay). a.txn ≢ b.txn) k.core.commits.items
+          → AreReported s (Phase k) outcome names → TellsOn z event answer
+      moves_reported _ _ _ _ (stays event answer is) due phases shows kept each apart are = still_tells event answer is due phases are
+      moves_reported z _ _ _ (begins session) due phases shows kept each apart are = no_names (begun s session) (Phase n) _ (reported_begun first s session (Phase k) (Phase n) outcome names kept phases.0 are)
+      moves_reported z _ _ _ (calls t op) due phases shows kept each apart are = no_names (called s t op) (Phase n) _ (reported_called s t op (Phase k) (Phase n) outcome names phases.0 are)
+      moves_reported z _ _ _ (ends t op runs) due phases shows kept each apart are =
+          no_names (ended s t op) (Phase n) _ (reported_ended first s t op (Phase k) (Phase n) outcome names kept runs (open_state (Phase k t) (both_hold (is_failed k) (is_open (Phase k t)) (is_busy k.core t) due.may).0) phases.0 are)
+      moves_reported z _ _ _ (drops t op ps runs given) due phases shows kept each apart are =
+          no_names (dropped s t ps) (Phase n) outcome (reported_dropped s t ps (Phase k) (Phase n) outcome names (undone_back t due.may phases) (λ u other. phases.0 u) are)
+      moves_reported z _ _ _ (undoes t last inverse ps idle effect inverts given) due phases shows kept each apart are =
+          no_names (undone s t inverse ps) (Phase n) outcome (reported_undone s t inverse ps (Phase k) (Phase n) outcome names (undone_back t due.may phases) (λ u other. phases.0 u) are)
+      moves_reported z _ _ _ (aborts t nothing) due phases shows kept each apart are = no_names (gone s t) (Phase n) outcome (reported_gone s t (Phase k) (Phase n) outcome names (ap known_as phases.0) phases.1 are)
+      moves_reported z _ _ _ (returns t m last inverse ps goes idle effect after inverts given) due phases shows kept each apart are =
+          no_names (returned s t last inverse ps) (Phase n) outcome (reported_returned first s t m last inverse ps (Phase k) (Phase n) outcome names kept goes effect after inverts phases.0 are)
+      moves_reported z _ _ _ (settles t m goes none) due phases shows kept each apart are =
+          no_names (settled s t m) (Phase n) _ (reported_settled s t m (Phase k) (Phase n) outcome names goes none phases.0 are)
+      moves_reported z _ _ _ (books ts) due phases shows kept each apart are =
+          let cs = k.core.commits.items in let count = durable_count cs due.0 in
+          reported_booked first s ts.items (Phase k) (Phase n) outcome names kept
+          (subst AreDistinct (sym due.2) (named_distinct count cs apart))
+          (subst (Each (λ t. Phase k t ≡ Some IsCommitting)) (sym due.2) (named_commit (Phase k) count cs each))
+          phases
+          (λ u commits among. commits_still (Phase n) n.core.commits.items u
+          (ap (λ (ds : List CommitUnderWay). list_any (λ (c : CommitUnderWay). c.txn == u) ds) due.3 ∙ not_named count cs u (all u commits) (ap (is_among u) (sym due.2) ∙ among)) later)
+          (λ u dead. none_back (Phase n u) (sym (lives_of g n.relations n.counters n.core first (booked_each s ts.items) shows u) ∙ dead)) are
 
   -- ---- the commits that have begun
 
@@ -225,6 +259,8 @@ module _ {D : Type 0} {g : Ghosts D} (first : Base) where
     refused_queues (Commit t) why same = same_queue same.1
     refused_queues (AbortBegin t) why same = same_queue same.1
     refused_queues (AbortStep t) why same = same_queue same.1
+    refused_queues (Back t m) why same = same_queue same.1
+    refused_queues (BackStep t) why same = same_queue same.1
     refused_queues Force why same = same_queue same.1
     refused_queues Flush why same = same_queue same.1
     refused_queues Rotate why same = same_queue same.1
@@ -242,12 +278,17 @@ module _ {D : Type 0} {g : Ghosts D} (first : Base) where
     still_queues _ _ (abort_waits t other) due same = same_queue same.1
     still_queues _ _ (abort_again t) due same = same_queue same.1
     still_queues _ _ (abort_full t) due same = same_queue same.1
+    still_queues _ _ (back_begun t m) due sets = same_queue sets.1
+    still_queues _ _ (return_went t) due same = same_queue same.1
+    still_queues _ _ (return_waits t other) due same = same_queue same.1
+    still_queues _ _ (return_again t) due same = same_queue same.1
+    still_queues _ _ (return_full t) due same = same_queue same.1
     still_queues _ _ force_went due same = same_queue due.1
     still_queues _ _ force_idle due same = same_queue due.1
     still_queues _ _ (flushed reported_so) due same = same_queue same.1
     still_queues _ _ rotated due same = same_queue same.1
 
-    moves_queue : (z : State) (event : Event) (answer : Answer) (more : List Act) → Moves s event answer more z → IsDue k event answer n → SetsPhases k event answer n → Queues event answer
+    moves_queue : (z : State) (event : Event) (answer : Answer) (more : List Act) → Moves (kernel_state k) s event answer more z → IsDue k event answer n → SetsPhases k event answer n → Queues event answer
     moves_queue _ _ _ _ (stays event answer is) due phases = still_queues event answer is due phases
     moves_queue z _ _ _ (begins session) due phases = same_queue phases.1
     moves_queue z _ _ _ (calls t op) due phases = same_queue phases.1
@@ -255,6 +296,8 @@ module _ {D : Type 0} {g : Ghosts D} (first : Base) where
     moves_queue z _ _ _ (drops t op ps runs given) due phases = same_queue phases.1
     moves_queue z _ _ _ (undoes t last inverse ps idle effect inverts given) due phases = same_queue phases.1
     moves_queue z _ _ _ (aborts t nothing) due phases = same_queue phases.2
+    moves_queue z _ _ _ (returns t m last inverse ps goes idle effect after inverts given) due phases = same_queue phases.1
+    moves_queue z _ _ _ (settles t m goes none) due phases = same_queue phases.1
     moves_queue z _ _ _ (books ts) due phases =
         first_leave k.core.commits.items n.core.commits.items ts.items (durable_count k.core.commits.items due.0) due.2 due.3 ∙ sym (append-nil (txns_of k.core.commits.items))
 
@@ -271,7 +314,7 @@ module _ {D : Type 0} {g : Ghosts D} (first : Base) where
   makes_reported : (events : List Event) (answers : List Answer) (acts : List Act) (s : State) (n : Kernel D g) → Makes first events answers acts s n
       → ∥ AreReported s (Phase n) (λ t. reported_of events answers t) (acknowledged answers) ∥₁
   makes_reported _ _ _ _ n (starts k shows) = ∣ record {
-    each = λ t forward. absurd (let back : is_forward (Phase k t) ≡ false = none_back (Phase k t) (sym (lives_of g k.relations k.counters k.core first (start first) shows t)) in let wrong : true ≡ false = sym forward ∙ back in cc);
+    each = λ t x known. absurd (let back : known_as (Phase k t) ≡ None = none_back (Phase k t) (sym (lives_of g k.relations k.counters k.core first (start first) shows t)) in let wrong : Some x ≡ None = sym known ∙ back in cc);
     book = refl;
     past = tt;
   } ∣₁
@@ -279,11 +322,12 @@ module _ {D : Type 0} {g : Ghosts D} (first : Base) where
       let shows = makes_shows events answers acts s k before in
       ∥∥₁_elim (makes_reported events answers acts s k before) (hlevel props) (λ are.
       ∥∥₁_elim (kept_of g k.relations k.counters k.core first s shows) (hlevel props) (λ kept.
+      ∥∥₁_elim made.shows (hlevel props) (λ (after_origin, after_base, after_is, y).
       ∥∥₁_map shows (λ (origin, base, is, x).
       let queued = x.consistent.fit.queued in
       subst (AreReported z (Phase n) (λ t. reported_of (events ++ event ∷ []) (answers ++ answer ∷ []) t)) (sym (acknowledged_more answers answer))
       (subst (λ (outcome : ℕ → Reported). AreReported z (Phase n) outcome (acknowledged answers ++ named answer)) (λ i t. sym (reported_more t nothing_reported events answers event answer (makes_same events answers acts s k before)) i)
-      (moves_reported s k n (λ t. reported_of events answers t) (acknowledged answers) z event answer more made.moves made.due made.phases made.shows kept queued.each queued.apart are)))))
+      (moves_reported s k n (λ t. reported_of events answers t) (acknowledged answers) queued.all y.consistent.fit.queued.each z event answer more made.moves made.due made.phases made.shows kept queued.each queued.apart are))))))
 
   -- the acknowledged ones, and those under way behind them, are all that have begun
   makes_queue : (events : List Event) (answers : List Answer) (acts : List Act) (s : State) (n : Kernel D g) → Makes first events answers acts s n
@@ -311,7 +355,7 @@ module _ {D : Type 0} {g : Ghosts D} (first : Base) where
       let distinct : AreDistinct (txns_of cs) = subst (λ (l : List CommitUnderWay). AreDistinct (txns_of l)) whole (named_distinct (length cs) cs queued.apart) in
       let commit : Each (λ t. Phase n t ≡ Some IsCommitting) (txns_of cs) = subst (λ (l : List CommitUnderWay). Each (λ t. Phase n t ≡ Some IsCommitting) (txns_of l)) whole (named_commit (Phase n) (length cs) cs queued.each) in
       let known : (t : ℕ) → Phase n t ≡ Some IsCommitting → (session_in ms t ≡ (outcome t).session) × (calls_of_entries (kept (only t) n.core.live.standing) ≡ (outcome t).calls) =
-      (λ t commits. let is_reported = are.each t (ap is_forward commits) in (
+      (λ t commits. let is_reported = are.each t None (ap known_as commits) in (
         session_known (member_of ms t) (outcome t).session (sym (ap (λ (y : State). y.sessions t) x.state) ∙ is_reported.session),
         sym (ap (λ (y : State). calls_of_entries (kept (only t) y.standing)) x.state) ∙ is_reported.calls,
       )) in

@@ -33,7 +33,7 @@ use Rattle.mt_world.specs.declared.crash.CrashRun.{CrashRun}
 use Rattle.mt_world.specs.declared.events.Answer.{Answer}
 use Rattle.mt_world.specs.declared.events.Answer.TheVariants.{Refused}
 use Rattle.mt_world.specs.declared.events.Event.{Event}
-use Rattle.mt_world.specs.declared.events.Event.TheVariants.{Begin, Call, Step, Commit, AbortBegin, AbortStep, Force, Flush, Rotate}
+use Rattle.mt_world.specs.declared.events.Event.TheVariants.{Begin, Call, Step, Commit, AbortBegin, AbortStep, Back, BackStep, Force, Flush, Rotate}
 use Rattle.mt_restart.specs.declared.standing.Standing.{Standing}
 use Rattle.mt_restart.specs.declared.standing.Standing.TheVariants.{Stands, Ended}
 use Rattle.mt_world.specs.declared.stopping_device.StoppingDevice.{StoppingDevice}
@@ -48,6 +48,8 @@ refused_tells t x (Step u) why = refl
 refused_tells t x (Commit u) why = refl
 refused_tells t x (AbortBegin u) why = refl
 refused_tells t x (AbortStep u) why = refl
+refused_tells t x (Back u first) why = refl
+refused_tells t x (BackStep u) why = refl
 refused_tells t x Force why = refl
 refused_tells t x Flush why = refl
 refused_tells t x Rotate why = refl
@@ -59,6 +61,8 @@ refused_starts (Step u) why = refl
 refused_starts (Commit u) why = refl
 refused_starts (AbortBegin u) why = refl
 refused_starts (AbortStep u) why = refl
+refused_starts (Back u first) why = refl
+refused_starts (BackStep u) why = refl
 refused_starts Force why = refl
 refused_starts Flush why = refl
 refused_starts Rotate why = refl

@@ -14,17 +14,17 @@ use Rattle.mt_pool.specs.declared.flushes.Flushed.TheVariants as flush
 use Rattle.mt_restart.specs.Rotated.{IsKeptCause, early_cause}
 use Rattle.mt_txn.specs.Events.{IsAnsweredBy, IsForcedBy}
 use Rattle.mt_txn.specs.Shown.{CallsOnce, is_failed, kernel_device, kernel_log, kernel_pool}
-use Rattle.mt_txn.specs.Work.{IsAbortForOther, IsForOther, LowersAbort, LowersSteps}
+use Rattle.mt_txn.specs.Work.{IsAbortForOther, IsForOther, LowersAbort, LowersReturn, LowersSteps}
 use Rattle.mt_txn.specs.declared.answers.AbortStepped.{AbortStepped}
 use Rattle.mt_txn.specs.declared.answers.AbortStepped.TheVariants as abort
 use Rattle.mt_txn.specs.declared.answers.Stepped.{Stepped as StepOutcome}
 use Rattle.mt_txn.specs.declared.answers.Stepped.TheVariants as step
 use Rattle.mt_txn.specs.declared.kernel.Kernel.{Kernel}
-use Rattle.mt_txn.specs.Words.{kernel_book, kernel_commits, kernel_members, kernel_state, kernel_steps, kernel_undo_steps, kernel_begin_cause, kernel_call_cause, kernel_step_cause, kernel_commit_cause, kernel_abort_begin_cause, kernel_abort_cause, IsKernelFault, IsKernelFailure, StatesStay, StatesStayBut, UncommittedStay, StateIsSet, CommitsStay, FrameIsWanted}
+use Rattle.mt_txn.specs.Words.{kernel_book, kernel_commits, kernel_count, kernel_members, kernel_state, kernel_steps, kernel_undo_steps, kernel_begin_cause, kernel_call_cause, kernel_step_cause, kernel_commit_cause, kernel_abort_begin_cause, kernel_abort_cause, kernel_back_cause, kernel_return_cause, IsKernelFault, IsKernelFailure, StatesStay, StatesStayBut, UncommittedStay, StateIsSet, CommitsStay, FrameIsWanted}
 use Rattle.mt_world.specs.declared.events.Answer.{Answer}
-use Rattle.mt_world.specs.declared.events.Answer.TheVariants.{Begun, Called, Stepped, Committing, Aborting, Backed, Forced, Flushed, Rotated, Refused}
+use Rattle.mt_world.specs.declared.events.Answer.TheVariants.{Begun, Called, Stepped, Committing, Aborting, Backed, Returning, Returned, Forced, Flushed, Rotated, Refused}
 use Rattle.mt_world.specs.declared.events.Event.{Event}
-use Rattle.mt_world.specs.declared.events.Event.TheVariants.{Begin, Call, Step, Commit, AbortBegin, AbortStep, Force, Flush, Rotate}
+use Rattle.mt_world.specs.declared.events.Event.TheVariants.{Begin, Call, Step, Commit, AbortBegin, AbortStep, Back, BackStep, Force, Flush, Rotate}
 
 -- ---- why
 
@@ -46,6 +46,15 @@ module _ {D : Type 0} {g : Ghosts D} where
     pub work : LowersAbort (pages (kernel_pool k)) (Ok outcome) (kernel_undo_steps k t) (kernel_undo_steps n t)
     pub other : IsAbortForOther (kernel_members k) t outcome
     pub full : outcome ≡ abort.Flush → FrameIsWanted k n
+
+  -- And so a step of going back. Once that ends, the operations count that it went back to.
+  pub record IsReturned (k : Kernel D g) (t : ℕ) (outcome : AbortStepped) (n : Kernel D g) : Type 0 where
+    pub may : kernel_return_cause k t ≡ None
+    pub work : LowersReturn (pages (kernel_pool k)) (Ok outcome) (kernel_undo_steps k t) (kernel_undo_steps n t)
+    pub other : IsAbortForOther (kernel_members k) t outcome
+    pub full : outcome ≡ abort.Flush → FrameIsWanted k n
+    pub count : (first : ℕ) → kernel_state k t ≡ Some (state.Returning first) → outcome ≡ abort.Ended
+        → kernel_count n t ≡ Some first
 
   -- a page was written, each page waits for the log, or there is none to be written
   abbrev pub IsFlushed : Kernel D g → FlushOutcome → Kernel D g → Type 0
@@ -80,6 +89,11 @@ module _ {D : Type 0} {g : Ghosts D} where
   IsDue k (AbortStep t) (Refused why) n = IsCaused (kernel_abort_cause k t) why ⊎ IsKernelFault k n why
   IsDue k (AbortStep t) (Backed outcome) n = IsBacked k t outcome n
   IsDue k (AbortStep t) answer n = ⊥
+  IsDue k (Back t first) (Refused why) n = kernel_back_cause k t first ≡ Some why
+  IsDue k (Back t first) answer n = kernel_back_cause k t first ≡ None
+  IsDue k (BackStep t) (Refused why) n = IsCaused (kernel_return_cause k t) why ⊎ IsKernelFault k n why
+  IsDue k (BackStep t) (Returned outcome) n = IsReturned k t outcome n
+  IsDue k (BackStep t) answer n = ⊥
   IsDue k Force (Refused why) n = (why ≡ refusal.NoMemory) ⊎ IsKernelFailure k n why
   IsDue k Force (Forced outcome) n =
       IsForcedBy (kernel_log k) (kernel_commits k) outcome (kernel_log n) (kernel_commits n)
@@ -98,12 +112,13 @@ module _ {D : Type 0} {g : Ghosts D} where
   abbrev pub CallsAtEvent : Kernel D g → Event → Kernel D g → Type 0
   CallsAtEvent k (Step t) n = CallsOnce k n
   CallsAtEvent k (AbortStep t) n = CallsOnce k n
+  CallsAtEvent k (BackStep t) n = CallsOnce k n
   CallsAtEvent k Force n = CallsOnce k n
   CallsAtEvent k Flush n = CallsOnce k n
   CallsAtEvent k Rotate n = ⊤
   CallsAtEvent k event n = kernel_device n ≡ kernel_device k
 
--- ---- which transactions are open, commit or are to be undone
+-- ---- which transactions are open, commit, go back or are to be undone
 
 module _ {D : Type 0} {g : Ghosts D} where
   -- each as before, and the same commits under way
@@ -120,6 +135,8 @@ module _ {D : Type 0} {g : Ghosts D} where
   SetsPhases k (Commit t) (Committing place) n = StateIsSet k n t (Some state.Committing) × IsQueued k t n
   SetsPhases k (AbortBegin t) Aborting n = StateIsSet k n t (Some state.Aborting) × CommitsStay k n
   SetsPhases k (AbortStep t) (Backed abort.Ended) n = (kernel_state n t ≡ None) × StatesStayBut k n t × CommitsStay k n
+  SetsPhases k (Back t first) Returning n = StateIsSet k n t (Some (state.Returning first)) × CommitsStay k n
+  SetsPhases k (BackStep t) (Returned abort.Ended) n = StateIsSet k n t (Some state.Open) × CommitsStay k n
   SetsPhases k Force (Forced outcome) n = UncommittedStay k n
   SetsPhases k event answer n = SamePhases k n
 

@@ -1,37 +1,61 @@
 -- What events and their answers say of a transaction, and which commits they acknowledge.
-use Rattle.std.specs.Prelude.{ℕ, ◌==◌, cond, List, [], ◌∷◌, ◌++◌, map, Option, Some, None}
+use Rattle.std.specs.Prelude.{ℕ, ◌==◌, cond, List, [], ◌∷◌, ◌++◌, drop, map, take, Option, Some, None}
 use Rattle.mt_core.specs.declared.calls.Called.TheVariants as call
+use Rattle.mt_model.specs.Backwards.{calls_back}
 use Rattle.mt_model.specs.History.{Call as Replied}
 use Rattle.mt_model.specs.declared.history.Committed.{Committed}
 use Rattle.mt_model.specs.declared.operations.Op.{Op}
 use Rattle.mt_model.specs.declared.operations.Reply.{Reply}
+use Rattle.mt_txn.specs.declared.answers.AbortStepped.TheVariants as abort
 use Rattle.mt_txn.specs.declared.answers.KernelForced.TheVariants as forced
 use Rattle.mt_txn.specs.declared.answers.Stepped.TheVariants as step
 use Rattle.mt_world.specs.declared.events.Answer.{Answer}
-use Rattle.mt_world.specs.declared.events.Answer.TheVariants.{Begun, Called, Stepped, Committing, Forced}
+use Rattle.mt_world.specs.declared.events.Answer.TheVariants.{Begun, Called, Stepped, Committing, Returning, Returned, Forced}
 use Rattle.mt_world.specs.declared.events.Event.{Event}
-use Rattle.mt_world.specs.declared.events.Event.TheVariants.{Begin, Call, Step, Commit}
+use Rattle.mt_world.specs.declared.events.Event.TheVariants.{Begin, Call, Step, Commit, Back, BackStep}
 
--- whose it is, what was last reported to it as started, and the operations that it had a reply to
+-- Whose it is, and what was last reported to it as started. The operations that it had a reply to, with the inverses
+-- of those that it took back; those of them that count; and how many it was last to go back to.
 pub record Reported : Type 0 where
   pub session : ℕ
   pub started : Option Op
   pub calls : List Replied
+  pub counting : List Replied
+  pub first : ℕ
+
+abbrev pub begun_by : ℕ → Reported
+begun_by session = record { session = session; started = None; calls = []; counting = []; first = 0 }
 
 abbrev pub nothing_reported : Reported
-nothing_reported = record { session = 0; started = None; calls = [] }
+nothing_reported = begun_by 0
 
 abbrev pub replied : Option Op → Reply → List Replied
 replied None reply = []
 replied (Some op) reply = (op, reply) ∷ []
 
+-- one more reply
+abbrev pub with_reply : Reported → Reply → Reported
+with_reply so_far reply = record so_far {
+  started = None;
+  calls = so_far.calls ++ replied so_far.started reply;
+  counting = so_far.counting ++ replied so_far.started reply;
+}
+
+-- It has gone back: what counted after the first so many was taken back, the last of it first. An inverse finds what
+-- its operation left, so its reply is known.
+abbrev pub gone_back : Reported → Reported
+gone_back so_far = record so_far {
+  calls = so_far.calls ++ calls_back (drop so_far.first so_far.counting);
+  counting = take so_far.first so_far.counting;
+}
+
 -- what one more event with its answer says of transaction t
 abbrev pub tells : ℕ → Reported → Event → Answer → Reported
-tells t so_far (Begin session) (Begun u) =
-    cond (t == u) (record { session = session; started = None; calls = [] }) so_far
+tells t so_far (Begin session) (Begun u) = cond (t == u) (begun_by session) so_far
 tells t so_far (Call u op) (Called call.Started) = cond (t == u) (record so_far { started = Some op }) so_far
-tells t so_far (Step u) (Stepped (step.Replied reply)) =
-    cond (t == u) (record so_far { started = None; calls = so_far.calls ++ replied so_far.started reply }) so_far
+tells t so_far (Step u) (Stepped (step.Replied reply)) = cond (t == u) (with_reply so_far reply) so_far
+tells t so_far (Back u first) Returning = cond (t == u) (record so_far { first = first }) so_far
+tells t so_far (BackStep u) (Returned abort.Ended) = cond (t == u) (gone_back so_far) so_far
 tells t so_far event answer = so_far
 
 -- and what all of them do, one after the other
@@ -44,7 +68,7 @@ reported_from t so_far (event ∷ events) (answer ∷ answers) =
 abbrev pub reported_of : List Event → List Answer → ℕ → Reported
 reported_of events answers t = reported_from t nothing_reported events answers
 
--- its session, with the operations that it had a reply to
+-- its session, with the operations that it had a reply to, and the inverses of those that it took back
 abbrev pub commit_of : Reported → Committed
 commit_of reported = record { session = reported.session; calls = reported.calls }
 
@@ -69,6 +93,6 @@ committing [] answers = []
 committing (event ∷ events) [] = []
 committing (event ∷ events) (answer ∷ answers) = started_by event answer ++ committing events answers
 
--- these commits: each session's, with the operations that it had a reply to
+-- these commits: each session's, with the operations that it had a reply to, and its inverses
 abbrev pub commit_order : List Event → List Answer → List Committed
 commit_order events answers = map (λ t. commit_of (reported_of events answers t)) (committing events answers)

@@ -10,7 +10,7 @@ use Rattle.mt_model.specs.Model.{Base}
 use Rattle.mt_restart.specs.Rotated.{IsEnded}
 use Rattle.mt_txn.specs.Shown.{LeavesFound, Restarts, SameSchema, Shows, StaysRestarting}
 use Rattle.mt_txn.specs.declared.kernel.Kernel.{Kernel}
-use Rattle.mt_txn.specs.Words.{kernel_commits, kernel_history, FindsUntil, kernel_relations, kernel_counters}
+use Rattle.mt_txn.specs.Words.{kernel_commits, kernel_history, kernel_state, FindsUntil, kernel_relations, kernel_counters}
 use Rattle.mt_world.specs.Acts.{Act, calls_in}
 use Rattle.mt_world.specs.Due.{CallsAtEvent, FailsIn, IsDue, SetsPhases, StayBroken}
 use Rattle.mt_world.specs.Moves.{Moves}
@@ -27,7 +27,7 @@ use Rattle.mt_restart.specs.declared.standing.Standing.TheVariants.{Stands, Ende
 pub record HasMade {D : Type 0} {g : Ghosts D} (k : Kernel D g) (event : Event) (answer : Answer)
     (n : Kernel D g) : Type 0 where
   pub leads : (first : Base) (s : State) → Restarts first k → Shows first s k
-      → ∥ ((acts : List Act) × (z : State) × Moves s event answer acts z × Shows first z n) ∥₁
+      → ∥ ((acts : List Act) × (z : State) × Moves (kernel_state k) s event answer acts z × Shows first z n) ∥₁
   pub due : IsDue k event answer n
   pub device : CallsAtEvent k event n
   pub phases : SetsPhases k event answer n
@@ -40,7 +40,7 @@ module _ {D : Type 0} {g : Ghosts D} where
   -- An event led a kernel in this state to another in that, with what ended in it.
   pub record IsMade (first : Base) (s : State) (k : Kernel D g) (event : Event) (answer : Answer) (acts : List Act)
       (z : State) (n : Kernel D g) : Type 0 where
-    pub moves : Moves s event answer acts z
+    pub moves : Moves (kernel_state k) s event answer acts z
     pub due : IsDue k event answer n
     pub device : CallsAtEvent k event n
     pub phases : SetsPhases k event answer n
@@ -58,11 +58,11 @@ module _ {D : Type 0} {g : Ghosts D} where
         → Makes first (events ++ event ∷ []) (answers ++ answer ∷ []) (acts ++ more) z n
 
   -- What ended replied as the model does, one operation after the other, and leads to the base that the pages hold.
-  -- The book has the acknowledged commits in their order, each with the replies that its session was given; and they
-  -- are what its transactions do alone, one after the other. What stands of the others is explained, whoever of them
-  -- is struck out. After the first refusal 2 each answer is that. The book, and after it the commits under way, are
-  -- all commits that have begun, in the order in which they did. And whatever a crash leaves of the kernel can be
-  -- restarted from.
+  -- The book has the acknowledged commits in their order, each with the replies that its session was given, and with
+  -- the inverses of what its transaction took back. They are what its transactions do alone, one after the other. What
+  -- stands of the others is explained, whoever of them is struck out. After the first refusal 2 each answer is that.
+  -- The book, and after it the commits under way, are all commits that have begun, in the order in which they did. And
+  -- whatever a crash leaves of the kernel can be restarted from.
   pub record HasRun (first : Base) (events : List Event) (answers : List Answer) (n : Kernel D g) : Type 0 where
     pub acts : List Act
     pub state : State

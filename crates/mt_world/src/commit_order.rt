@@ -1,13 +1,18 @@
 // The commits that events have begun, read off the events and their answers.
-ghost use Rattle.std.specs.Prelude.{◌≡◌, ◌∷◌, ◌++◌, [], Some, None, length, map, IfErr, IfOk, MatchOption, OnOk};
+ghost use Rattle.std.specs.Prelude.{◌≡◌, ◌∷◌, ◌++◌, [], Some, None, length, map, IfErr, IfOk, IsTrue, MatchOption, OnOk};
+ghost use Rattle.std.specs.Option.{option_to_list};
 ghost use Rattle.mt_base.specs.declared.refusal.Refusal.{Refusal};
+ghost use Rattle.mt_inverse.specs.Steps.{IsWithinSteps};
+ghost use Rattle.mt_model.specs.Backwards.{call_back as back, calls_back};
 ghost use Rattle.mt_world.specs.Heard.{reported_by};
-ghost use Rattle.mt_world.specs.Reported.{acknowledged, commit_of, commit_order, named, replied, started_by, tells, reported_of};
+ghost use Rattle.mt_world.specs.Reported.{acknowledged, begun_by, commit_of, commit_order, gone_back, named, started_by, tells, reported_of, with_reply};
 
 use crate::events::{Answer, Event};
+use mt_base::limits::step_fits;
 use mt_base::{Refusal, TxnNo};
+use mt_inverse::call_back;
 use mt_model::{Calls, Committed, Op, Reply};
-use mt_txn::{Called, KernelForced, Stepped};
+use mt_txn::{AbortStepped, Called, KernelForced, Stepped};
 use std::alloc::{AllocError, Global};
 
 // What a transaction was answered: whose it is, what it has called last, and the operations that it had a reply to.
@@ -15,17 +20,24 @@ use std::alloc::{AllocError, Global};
 struct Heard {
     session: u32,
     started: Option<Op>,
+    // with the inverses of those that it took back
     calls: Calls,
+    // those that count
+    counting: Vec<(Op, Reply)>,
+    // how many it was last to go back to
+    first: u16,
 }
 
 // A transaction of this session that was answered nothing yet.
 fn heard_nothing(alloc: Global, session: u32) -> Heard
-    ensures { reported_by result ≡ record { session = session; started = None; calls = [] } }
+    ensures { reported_by result ≡ begun_by session }
 {
     Heard {
         session,
         started: None,
         calls: Calls::new(Vec::new(alloc)),
+        counting: Vec::new(alloc),
+        first: 0,
     }
 }
 
@@ -40,18 +52,64 @@ fn hear_start(heard: &mut Heard, op: &Op) -> Result<(), AllocError>
 
 // Hears the reply to what has started.
 fn hear_reply(heard: &mut Heard, reply: &Reply) -> Result<(), AllocError>
-    ensures { OnOk result (reported_by heard.new ≡ record (reported_by heard.old) {
-      started = None;
-      calls = (reported_by heard.old).calls ++ replied (reported_by heard.old).started reply.now;
-    }) }
+    ensures { OnOk result (reported_by heard.new ≡ with_reply (reported_by heard.old) reply.now) }
 {
     match heard.started.take() {
         Some(op) => {
-            let copy = reply.try_clone()?;
-            heard.calls.push(op, copy)
+            let copy = (op.try_clone()?, reply.try_clone()?);
+            heard.counting.push(copy)?;
+            heard.calls.push(op, reply.try_clone()?)
         }
         None => Ok(()),
     }
+}
+
+// Whether the opposite of an add's step is a step too.
+fn is_within_steps(op: &Op) -> bool
+    ensures { IsTrue result → IsWithinSteps op.now }
+{
+    match op {
+        Op::Add(_, step) => step_fits(*step),
+        _ => true,
+    }
+}
+
+// Puts the inverse of a call after others, if it has one.
+fn push_back(calls: &mut Calls, op: &Op, reply: &Reply) -> Result<(), AllocError>
+    ensures { OnOk result (calls.new ≡ calls.old ++ option_to_list (back (op.now, reply.now))) }
+{
+    // No kernel starts an add of another step. These answers may be none of a kernel's, so it is looked at.
+    if !is_within_steps(op) {
+        return Err(AllocError);
+    }
+    match call_back(op, reply)? {
+        Some((inverse, found)) => calls.push(inverse, found),
+        None => Ok(()),
+    }
+}
+
+// Puts the inverses of these calls after others, that of the last call first.
+fn push_all_back(calls: &mut Calls, taken: &[(Op, Reply)]) -> Result<(), AllocError>
+    ensures { OnOk result (calls.new ≡ calls.old ++ calls_back taken.now) }
+{
+    let mut i = taken.len();
+    while i > 0 {
+        i -= 1;
+        push_back(calls, &taken[i].0, &taken[i].1)?;
+    }
+    Ok(())
+}
+
+// Hears that the transaction has gone back.
+fn hear_return(heard: &mut Heard) -> Result<(), AllocError>
+    ensures { OnOk result (reported_by heard.new ≡ gone_back (reported_by heard.old)) }
+{
+    let first = usize::from(heard.first);
+    if first < heard.counting.len() {
+        push_all_back(&mut heard.calls, &heard.counting[first..])?;
+        heard.counting.truncate(first);
+    }
+    Ok(())
 }
 
 // Hears what one more event with its answer says of a transaction.
@@ -83,6 +141,18 @@ fn hear(
             }
             Ok(())
         }
+        (Event::Back(own, first), Answer::Returning) => {
+            if txn == *own {
+                heard.first = *first;
+            }
+            Ok(())
+        }
+        (Event::BackStep(own), Answer::Returned(AbortStepped::Ended)) => {
+            if txn == *own {
+                return hear_return(heard);
+            }
+            Ok(())
+        }
         _ => Ok(()),
     }
 }
@@ -102,11 +172,7 @@ fn commit_reported(
     for i in 0..events.len() {
         hear(alloc, &mut heard, txn, &events[i], &answers[i])?;
     }
-    let Heard {
-        session,
-        started: _,
-        calls,
-    } = heard;
+    let Heard { session, calls, .. } = heard;
     Ok(Committed { session, calls })
 }
 
@@ -143,7 +209,7 @@ fn add_started(
 }
 
 /// The commits that have begun, in the order in which they did: each session's, with the operations that it had a
-/// reply to. The only refusal is want of memory.
+/// reply to, and the inverses of those that it took back. The only refusal is want of memory.
 pub(crate) fn commits_reported(
     alloc: Global,
     events: &[Event],

@@ -69,12 +69,34 @@ fn abort<D: Device>(kernel: &mut Kernel<D>, txn: TxnNo) -> Answer
 }
 
 // Makes a step of an abort.
-fn go_back<D: Device>(kernel: &mut Kernel<D>, txn: TxnNo) -> Answer
+fn undo<D: Device>(kernel: &mut Kernel<D>, txn: TxnNo) -> Answer
     ensures { HasMade kernel.old (event.AbortStep txn) result
         kernel.new }
 {
     match kernel.abort_step(txn) {
         Ok(stepped) => Answer::Backed(stepped),
+        Err(refusal) => Answer::Refused(refusal),
+    }
+}
+
+// Begins to go back.
+fn back<D: Device>(kernel: &mut Kernel<D>, txn: TxnNo, first: u16) -> Answer
+    ensures { HasMade kernel.old (event.Back txn first) result
+        kernel.new }
+{
+    match kernel.back_begin(txn, first) {
+        Ok(()) => Answer::Returning,
+        Err(refusal) => Answer::Refused(refusal),
+    }
+}
+
+// Makes a step of going back.
+fn return_step<D: Device>(kernel: &mut Kernel<D>, txn: TxnNo) -> Answer
+    ensures { HasMade kernel.old (event.BackStep txn) result
+        kernel.new }
+{
+    match kernel.back_step(txn) {
+        Ok(stepped) => Answer::Returned(stepped),
         Err(refusal) => Answer::Refused(refusal),
     }
 }
@@ -112,7 +134,9 @@ fn make_in_place<D: Device>(kernel: &mut Kernel<D>, event: &Event) -> Option<Ans
         Event::Step(txn) => Some(step(kernel, *txn)),
         Event::Commit(txn) => Some(commit(kernel, *txn)),
         Event::AbortBegin(txn) => Some(abort(kernel, *txn)),
-        Event::AbortStep(txn) => Some(go_back(kernel, *txn)),
+        Event::AbortStep(txn) => Some(undo(kernel, *txn)),
+        Event::Back(txn, first) => Some(back(kernel, *txn, *first)),
+        Event::BackStep(txn) => Some(return_step(kernel, *txn)),
         Event::Force => Some(force(kernel)),
         Event::Flush => Some(flush(kernel)),
         Event::Rotate => None,

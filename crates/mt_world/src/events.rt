@@ -18,6 +18,10 @@ pub enum Event {
     AbortBegin(TxnNo),
     /// An abort makes a step.
     AbortStep(TxnNo),
+    /// An open transaction begins to go back to where its first so many operations had ended, of those that count.
+    Back(TxnNo, u16),
+    /// A transaction that goes back makes a step.
+    BackStep(TxnNo),
     /// The log is forced a step further.
     Force,
     /// A frame is flushed.
@@ -41,6 +45,10 @@ pub enum Answer {
     Aborting,
     /// What the abort's step came to.
     Backed(AbortStepped),
+    /// The transaction is to go back.
+    Returning,
+    /// What the step of going back came to.
+    Returned(AbortStepped),
     /// What the force's step came to.
     Forced(KernelForced),
     /// What was flushed.

@@ -66,10 +66,11 @@ pub(crate) fn begin_on<D: Device + Drop>(
 ///
 /// Whatever the events, what ended acted once on the model, in the order of the ends. The committed transactions
 /// replied as they do alone, in the order of the commits. What stands of the others is explained, whoever of them is
-/// struck out (Weikum 1991, O'Neil 1986). An event of a transaction that is not there is answered with 15; once an
-/// event was refused with 2, each later one is. A rotation while a transaction is active is refused with 16. The kernel
-/// goes on after one that is refused with that, with 1 or with 11. If the device fails in one after its force, no
-/// kernel stands, and the device is to be opened again.
+/// struck out (Weikum 1991, O'Neil 1986). What a transaction took back stays among its operations, and so do the
+/// inverses. An event of a transaction that is not there is answered with 15; once an event was refused with 2, each
+/// later one is. A rotation while a transaction is active is refused with 16. The kernel goes on after one that is
+/// refused with that, with 1 or with 11. If the device fails in one after its force, no kernel stands, and the device
+/// is to be opened again.
 ///
 /// A crash while the device is formatted leaves what [`format`] says. Whatever a crash leaves from then on can be
 /// restarted from. A restart finds what some of the first commits lead to, with all that were acknowledged by then.

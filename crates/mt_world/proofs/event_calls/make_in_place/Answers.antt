@@ -17,7 +17,13 @@ pub returns-in-AbortBegin : goal.returns-in-AbortBegin
 returns-in-AbortBegin g c = rw c.in-AbortBegin.is c.abort.ensures
 
 pub returns-in-AbortStep : goal.returns-in-AbortStep
-returns-in-AbortStep g c = rw c.in-AbortStep.is c.go_back.ensures
+returns-in-AbortStep g c = rw c.in-AbortStep.is c.undo.ensures
+
+pub returns-in-Back : goal.returns-in-Back
+returns-in-Back g c = rw c.in-Back.is c.back.ensures
+
+pub returns-in-BackStep : goal.returns-in-BackStep
+returns-in-BackStep g c = rw c.in-BackStep.is c.return_step.ensures
 
 pub returns-in-Force : goal.returns-in-Force
 returns-in-Force g c = rw c.in-Force.is c.force.ensures

@@ -5,7 +5,7 @@ use Rattle.mt_world.specs.Moves.IsStill.{is_refused}
 use Rattle.mt_world.specs.declared.events.Answer.TheVariants.{Refused}
 use Rattle.mt_world.specs.declared.events.Event.TheVariants.{AbortStep}
 use Rattle.mt_world.proofs.EventLemmas.{fails_err, fails_ok, back_made, back_phases, caused_or, still_made}
-use Rattle.mt_world.proofs.event_calls.go_back.Goals as goal
+use Rattle.mt_world.proofs.event_calls.undo.Goals as goal
 
 pub returns-in-Ok : goal.returns-in-Ok
 returns-in-Ok g c =

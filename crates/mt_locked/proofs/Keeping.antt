@@ -1,5 +1,5 @@
 -- Each call of a kernel leaves it on the base that it began on, and only a force step makes its book grow.
-use Rattle.std.proofs.Common.{◌≡◌, ℕ, Bool, true, false, List, [], ◌∷◌, Option, Some, None, Result, Ok, Err, refl, sym, ◌∙◌, subst}
+use Rattle.std.proofs.Common.{◌≡◌, ℕ, Bool, true, false, List, [], ◌∷◌, Option, Some, None, Result, Ok, Err, refl, sym, ap, ◌∙◌, subst}
 use Rattle.std.proofs.Props.{props}
 use Rattle.std.specs.Prelude.{OnOk, OnErr, if◌then◌else◌}
 use mathlib.Core.List.{IsPrefix}
@@ -8,10 +8,10 @@ use Rattle.mt_base.specs.declared.refusal.Refusal.{Refusal}
 use Rattle.mt_base.specs.declared.refusal.Refusal.TheVariants as refusal
 use Rattle.mt_disk.specs.declared.device.Device.{Ghosts}
 use Rattle.mt_core.specs.Booked.{booked_each, session_at}
-use Rattle.mt_core.specs.Runs.{state_in}
+use Rattle.mt_core.specs.Runs.{is_returning, state_in}
 use Rattle.mt_core.specs.declared.calls.Called.{Called}
 use Rattle.mt_core.specs.declared.calls.Called.TheVariants as call
-use Rattle.mt_live.specs.Machine.{State, begun, called, ended, gone, booked}
+use Rattle.mt_live.specs.Machine.{State, begun, called, ended, gone, booked, settled}
 use Rattle.mt_live.specs.declared.transactions.TxnState.{TxnState}
 use Rattle.mt_live.specs.declared.transactions.TxnState.TheVariants.{Open, Committing, Aborting, Returning}
 use Rattle.mt_mark.proofs.Fronts.{prefix_self, prefix_trans}
@@ -23,9 +23,10 @@ use Rattle.mt_model.specs.declared.operations.Op.{Op}
 use Rattle.mt_model.specs.declared.tables.Base.{Base}
 use Rattle.mt_txn.proofs.Living.{idle_of}
 use Rattle.mt_txn.proofs.Showing.{legal_of, parts_stay}
-use Rattle.mt_txn.specs.Causes.{first_of, is_busy, is_open, step_cause, unless}
-use Rattle.mt_txn.specs.Events.{HasAborted, HasCalled, HasForced, HasStepped, IsBack}
+use Rattle.mt_txn.specs.Causes.{IsRefusedAtOnce, first_of, is_busy, is_open, return_cause, step_cause, unless}
+use Rattle.mt_txn.specs.Events.{HasAborted, HasCalled, HasForced, HasReturned, HasStepped, IsBack, IsReturn}
 use Rattle.mt_txn.specs.Events.IsBack.{stands, drops, undoes}
+use Rattle.mt_txn.specs.Events.IsReturn.{stays as stays_so, returns}
 use Rattle.mt_txn.specs.Shown.{Restarts, SameSchema, Shows, Stays, StaysRestarting, is_failed}
 use Rattle.mt_txn.specs.declared.answers.AbortStepped.{AbortStepped}
 use Rattle.mt_txn.specs.declared.answers.AbortStepped.TheVariants as abort
@@ -57,6 +58,15 @@ back_book : (t : ℕ) (s z : State) → IsBack s t z → z.book ≡ s.book
 back_book t s _ stands = refl
 back_book t s _ (drops op ps runs given) = refl
 back_book t s _ (undoes last inverse ps idle effect inverts given) = refl
+
+return_book : (t first : ℕ) (s z : State) → IsReturn s t first z → z.book ≡ s.book
+return_book t first s _ stays_so = refl
+return_book t first s _ (returns last inverse ps idle effect after inverts given) = refl
+
+-- a step of going back is refused at once, but of a transaction that goes back
+not_returning : (failed : Bool) (o : Option TxnState) → is_returning o ≡ false → (w : Refusal) × ((if failed then Some refusal.DeviceFailed else unless (is_returning o) refusal.Stranger) ≡ Some w)
+not_returning true o none = (refusal.DeviceFailed, refl)
+not_returning false o none = (refusal.Stranger, ap (λ (b : Bool). unless b refusal.Stranger) none)
 
 books_grow : (s : State) (ts : List ℕ) → IsPrefix s.book (booked_each s ts).book
 books_grow s [] = prefix_self s.book
@@ -137,6 +147,31 @@ module _ {D : Type 0} {g : Ghosts D} where
   aborts_one b n t (Ok abort.Flush) s has = ∣ (s, refl, has) ∣₁
   aborts_one b n t (Ok abort.Ended) s has = ∣ (gone s t, refl, has.0) ∣₁
   aborts_one b n t (Err why) s has = ∣ (s, refl, has) ∣₁
+
+  returns_to : (b : Base) (n : Kernel D g) (t first : ℕ) (r : Result AbortStepped Refusal) (s : State) → HasReturned (base_of b) s t first r n → Goes b s n
+  returns_to b n t first (Ok abort.More) s has = ∥∥₁_map has (λ (z, back, now). (z, return_book t first s z back, now))
+  returns_to b n t first (Ok (abort.Wait other)) s has = ∣ (s, refl, has) ∣₁
+  returns_to b n t first (Ok abort.Again) s has = ∣ (s, refl, has) ∣₁
+  returns_to b n t first (Ok abort.Flush) s has = ∣ (s, refl, has) ∣₁
+  returns_to b n t first (Ok abort.Ended) s has = ∣ (settled s t first, refl, has.0) ∣₁
+  returns_to b n t first (Err why) s has = ∣ (s, refl, has) ∣₁
+
+  pub returns_one : (b : Base) (k n : Kernel D g) (t : ℕ) (r : Result AbortStepped Refusal) → IsRefusedAtOnce (return_cause (is_failed k) k.core t) k r n
+      → ((s : State) (first : ℕ) → Shows (base_of b) s k → state_in k.core.live.members t ≡ Some (Returning first) → HasReturned (base_of b) s t first r n)
+      → (s : State) → Shows (base_of b) s k → Goes b s n
+  returns_one b k n t r early returned s shows = go (state_in k.core.live.members t) refl
+    where
+      still : (o : Option TxnState) → state_in k.core.live.members t ≡ o → is_returning o ≡ false → Goes b s n
+      still o is none =
+          let (w, cause) = not_returning (is_failed k) (state_in k.core.live.members t) (ap is_returning is ∙ none) in
+          ∣ (s, refl, subst (λ (x : Kernel D g). Shows (base_of b) s x) (sym (early w cause).1) shows) ∣₁
+
+      go : (o : Option TxnState) → state_in k.core.live.members t ≡ o → Goes b s n
+      go None is = still None is refl
+      go (Some Open) is = still (Some Open) is refl
+      go (Some Committing) is = still (Some Committing) is refl
+      go (Some Aborting) is = still (Some Aborting) is refl
+      go (Some (Returning first)) is = returns_to b n t first r s (returned s first shows is)
 
   -- ---- force steps
 

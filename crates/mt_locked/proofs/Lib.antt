@@ -8,4 +8,5 @@ pub mod Rooms
 pub mod Rotations
 pub mod Sets
 pub mod Standings
+pub mod Tokens
 pub mod Uses

@@ -1,23 +1,25 @@
 -- With what a kernel refuses a call.
-use Rattle.std.proofs.Common.{◌≡◌, ⊎_elim, ℕ, Bool, true, false, List, Option, Some, None, Result, Ok, Err, refl, sym, subst}
+use Rattle.std.proofs.Common.{◌≡◌, ⊎_elim, ℕ, Bool, true, false, List, Option, Some, None, Result, Ok, Err, refl, rules, sym, subst, ℤ}
 use Rattle.std.proofs.Props.{props}
 use Rattle.std.specs.Prelude.{◌≢◌, if◌then◌else◌, nat_lt}
 use mathlib.Core.Logic.{∥∥₁_elim}
 use Rattle.mt_disk.specs.declared.device.Device.{Ghosts}
+use Rattle.mt_base.specs.Limits.{IsStep}
 use Rattle.mt_base.specs.declared.refusal.Refusal.{Refusal}
 use Rattle.mt_base.specs.declared.refusal.Refusal.TheVariants as refusal
-use Rattle.mt_core.specs.Runs.{state_in}
+use Rattle.mt_core.specs.Runs.{is_returning, state_in}
 use Rattle.mt_core.specs.declared.calls.Called.{Called}
 use Rattle.mt_core.specs.declared.parts.Core.{Core}
+use Rattle.mt_inverse.specs.Steps.{IsWithinSteps}
 use Rattle.mt_model.specs.declared.operations.Op.{Op}
 use Rattle.mt_model.specs.declared.operations.Op.TheVariants.{Get, Insert, Update, Delete, Add, Read, Scan}
-use Rattle.mt_txn.specs.Causes.{IsCallRefusal, IsFault, abort_begin_cause, abort_cause, busy_cause, call_cause, commit_cause, count_cause, first_of, is_aborting, is_busy, is_open, may_abort, name_cause, open_cause, size_cause, step_cause, unless}
+use Rattle.mt_txn.specs.Causes.{IsCallRefusal, IsFault, abort_begin_cause, abort_cause, back_cause, busy_cause, call_cause, commit_cause, count_cause, first_of, is_aborting, is_busy, is_open, is_step, may_abort, name_cause, open_cause, return_cause, savepoint_cause, size_cause, step_cause, unless}
 use Rattle.mt_txn.specs.Events.{AnswersIn}
 use Rattle.mt_txn.specs.Seen.{KernelSeen, has_failed_in}
 use Rattle.mt_txn.specs.declared.answers.AbortStepped.{AbortStepped}
 use Rattle.mt_txn.specs.declared.answers.Stepped.{Stepped}
-use Rattle.mt_locked.specs.Asked.{DidAbort, DidAbortStep, DidBegin, DidCall, DidCommit, DidStep}
-use Rattle.mt_locked.specs.Refusals.{IsAbortRefusal, IsBeginRefusal, IsCloseRefusal, IsCommitRefusal, IsRoomRefusal}
+use Rattle.mt_locked.specs.Asked.{DidAbort, DidAbortStep, DidBack, DidBackStep, DidBegin, DidCall, DidCommit, DidStep}
+use Rattle.mt_locked.specs.Refusals.{IsAbortRefusal, IsBackRefusal, IsBeginRefusal, IsCloseRefusal, IsCommitRefusal, IsRoomRefusal}
 use Rattle.mt_locked.specs.Seen.{IsAskedOf, LockedSeen, PassSeen}
 use Rattle.mt_locked.specs.Whole.{IsCloseCause}
 
@@ -56,6 +58,12 @@ module _ {D : Type 0} (P : Refusal → Type 0) (failed : Bool) (k : Core D) (t :
 
   commit_is : P refusal.Busy → commit_cause failed k t ≡ Some w → P w
   commit_is busy = first_is P (open_cause failed k t) (busy_cause k t) w open_is (busy_is busy)
+
+  returning_is : return_cause failed k t ≡ Some w → P w
+  returning_is = if_is P failed refusal.DeviceFailed w (unless (is_returning (state_in k.live.members t)) refusal.Stranger) device (unless_is P (is_returning (state_in k.live.members t)) refusal.Stranger w stranger)
+
+  back_is : P refusal.Busy → P refusal.BadSavepoint → (first : ℕ) → back_cause failed k t first ≡ Some w → P w
+  back_is busy savepoint first = first_is P (commit_cause failed k t) (savepoint_cause k t first) w (commit_is busy) (unless_is P _ refusal.BadSavepoint w savepoint)
 
 -- ---- an operation
 
@@ -161,11 +169,25 @@ module _ {D : Type 0} (w : Refusal) (o n : Option (KernelSeen D)) where
     undo_refused t other = let P : Refusal → Type 0 = IsAbortRefusal in
         asked_is _ P o n w _ tt (λ k m a. ⊎_elim (abort_is P (has_failed_in k) k.core t w tt tt) (fault_is P g k.core m.core w tt) (a.answers.why other))
 
+    pub back_refused : (t first : ℕ) → IsAskedOf {T = Unit {0}} o (Err w) n (λ k m. DidBack g k t first (Err w) m) → IsBackRefusal w
+    back_refused t first = let P : Refusal → Type 0 = IsBackRefusal in
+        asked_is _ P o n w _ tt (λ k m a. back_is P (has_failed_in k) k.core t w tt tt tt tt first a.answers.why)
+
+    pub return_refused : (t : ℕ) → w ≢ refusal.NoMemory → IsAskedOf {T = AbortStepped} o (Err w) n (λ k m. DidBackStep g k t (Err w) m) → IsAbortRefusal w
+    return_refused t other = let P : Refusal → Type 0 = IsAbortRefusal in
+        asked_is _ P o n w _ tt (λ k m a. ⊎_elim (returning_is P (has_failed_in k) k.core t w tt tt) (fault_is P g k.core m.core w tt) (a.answers.why other))
+
 -- a step refuses its operation
 pub step_calls : (op : Op) (w : Refusal) → IsAbortRefusal w → IsCallRefusal op w
 step_calls op refusal.DeviceFailed is = tt
 step_calls op refusal.Stranger is = tt
 step_calls op _ is = absurd is
+
+-- and a way back
+pub step_returns : (w : Refusal) → IsAbortRefusal w → IsBackRefusal w
+step_returns refusal.DeviceFailed is = tt
+step_returns refusal.Stranger is = tt
+step_returns _ is = absurd is
 
 -- what makes no room is a cause of each step that asks for it, but for want of memory
 pub room_undoes : (w : Refusal) → w ≢ refusal.NoMemory → IsRoomRefusal w → IsAbortRefusal w
@@ -181,6 +203,18 @@ close_refused l passes refusal.Busy is = tt
 close_refused l passes _ is = absurd is
 
 -- ---- what was started
+
+unless_none : (b : Bool) (why : Refusal) → unless b why ≡ None → b ≡ true
+unless_none true why none = refl
+unless_none false why none = absurd (cc)
+
+step_within : (d : ℤ) → is_step d ≡ true → IsStep d
+step_within d is = search (rules, is)
+
+-- an inverse of an operation within its limits can be named
+pub sized_steps : (op : Op) → size_cause op ≡ None → IsWithinSteps op
+sized_steps (Add c d) sized = step_within d (unless_none (is_step d) refusal.BadStep sized)
+sized_steps _ sized = tt
 
 ok_is : {T : Type 0} (x : T) (w : Refusal) → ◌≡◌ {A = Result T Refusal} (Ok x) (Err w) → ⊥
 ok_is x w is = cc

@@ -1,8 +1,9 @@
 -- What a call did to the kernel under the lock: what was answered, and what stays of it. k before, n after the call.
-use Rattle.std.specs.Prelude.{ℕ, ◌≡◌, ◌≢◌, ◌+◌, ◌*◌, ◌≤◌, true, false, IfOk, None, OnErr, OnOk, Result, Ok, Err, length, ⊤}
+use Rattle.std.specs.Prelude.{ℕ, ◌≡◌, ◌≢◌, ◌⊎◌, ◌+◌, ◌*◌, ◌≤◌, true, false, IfOk, None, OnErr, OnOk, Option, Some, Result, Ok, Err, filter, length, ⊤}
 use Rattle.mt_base.specs.declared.refusal.Refusal.{Refusal}
 use Rattle.mt_base.specs.declared.refusal.Refusal.TheVariants.{DeviceFailed, NoMemory}
 use Rattle.mt_core.specs.Consistent.{OnlyOperations, SameCommits, SameRunning, SameStates, SameUncommitted}
+use Rattle.mt_core.specs.Runs.{count_in}
 use Rattle.mt_core.specs.Seen.{core_device, core_last, core_log, core_page_locks, core_pool, core_store}
 use Rattle.mt_core.specs.Steps.{WantsFrame}
 use Rattle.mt_core.specs.Work.{CallRuns, DrawsNumber, KeepsOthers, steps_in, undo_steps}
@@ -10,18 +11,19 @@ use Rattle.mt_core.specs.declared.calls.Called.{Called}
 use Rattle.mt_core.specs.declared.calls.Called.TheVariants as call
 use Rattle.mt_disk.specs.declared.device.Device.{Ghosts}
 use Rattle.mt_live.specs.Machine.{State, begun, called}
+use Rattle.mt_live.specs.Undoing.{is_counted}
 use Rattle.mt_log.specs.Words.{appended, durable}
 use Rattle.mt_model.specs.Model.{Base}
 use Rattle.mt_model.specs.declared.operations.Op.{Op}
 use Rattle.mt_pool.specs.Views.{AreClean, Cleans, IsWaiting, pages}
 use Rattle.mt_pool.specs.declared.flushes.Flushed.{Flushed}
 use Rattle.mt_pool.specs.declared.flushes.Flushed.TheVariants as flushed
-use Rattle.mt_txn.specs.Answered.{AnswersAbort, AnswersAbortStep, AnswersBegin, AnswersCall, AnswersCommit, AnswersFlush, AnswersForce, AnswersStep}
-use Rattle.mt_txn.specs.Causes.{abort_cause, is_busy, step_cause}
+use Rattle.mt_txn.specs.Answered.{AnswersAbort, AnswersAbortStep, AnswersBack, AnswersBackStep, AnswersBegin, AnswersCall, AnswersCommit, AnswersFlush, AnswersForce, AnswersSave, AnswersStep}
+use Rattle.mt_txn.specs.Causes.{IsSavepoint, abort_cause, is_busy, return_cause, step_cause}
 use Rattle.mt_txn.specs.PageLocks.{AbortsLocks, OfRunning, StepsLocks}
 use Rattle.mt_txn.specs.Seen.{KernelSeen, ShowsSeen, has_failed_in}
-use Rattle.mt_txn.specs.Work.{IsAbortForOther, IsForOther, LowersAbort, LowersSteps}
-use Rattle.mt_txn.specs.Writes.{WritesOnePage}
+use Rattle.mt_txn.specs.Work.{IsAbortForOther, IsForOther, LowersAbort, LowersReturn, LowersSteps}
+use Rattle.mt_txn.specs.Writes.{InverseWrites, WritesOnePage}
 use Rattle.mt_txn.specs.declared.answers.AbortStepped.{AbortStepped}
 use Rattle.mt_txn.specs.declared.answers.AbortStepped.TheVariants as abort
 use Rattle.mt_txn.specs.declared.answers.KernelForced.{KernelForced}
@@ -49,6 +51,12 @@ module _ {D : Type 0} where
   IsAbortHeldUp k t (Ok abort.Flush) n = WantsFrame k.core n.core
   IsAbortHeldUp k t (Ok stepped) n = IsAbortForOther k.core.live.members t stepped
   IsAbortHeldUp k t (Err why) n = ⊤
+
+  -- A step of going back went on or ended, if it is not refused, and left log, pages and page locks as they were.
+  pub record StepsIdle (k : KernelSeen D) (result : Result AbortStepped Refusal) (n : KernelSeen D) : Type 0 where
+    pub goes : IfOk result (λ stepped. (stepped ≡ abort.More) ⊎ (stepped ≡ abort.Ended))
+    pub store : core_store n.core ≡ core_store k.core
+    pub locks : core_page_locks n.core ≡ core_page_locks k.core
 
 -- ---- what was done
 
@@ -130,6 +138,39 @@ module _ {D : Type 0} (g : Ghosts D) where
     pub locks : abort_cause (has_failed_in k) k.core t ≡ None → is_busy k.core t ≡ true
         → OfRunning k.core.running.items t (λ r. AbortsLocks k.core n.core r result)
     pub idle : is_busy k.core t ≡ false → core_page_locks n.core ≡ core_page_locks k.core
+    pub durable : durable (core_log n.core) ≡ durable (core_log k.core)
+    pub states : IfOk result (λ stepped. stepped ≢ abort.Ended → SameStates k.core n.core)
+    pub err : OnErr result (SameStates k.core n.core)
+    pub commits : SameCommits k.core n.core
+    pub device : AsksDevice k result n
+
+  -- so many operations of it count; if none stands, the call is refused with 2
+  abbrev pub DidSave : Option (KernelSeen D) → ℕ → Result ℕ Refusal → Type 0
+  DidSave None t result = result ≡ Err DeviceFailed
+  DidSave (Some k) t result = AnswersSave g k t result
+
+  -- Log and pages stay, and so does how many operations of each transaction count.
+  pub record DidBack (k : KernelSeen D) (t first : ℕ) (result : Result (Unit {0}) Refusal)
+      (n : KernelSeen D) : Type 0 where
+    pub answers : AnswersBack k t first result n
+    pub savepoint : (base : Base) (s : State) → ShowsSeen g base s k
+        → IsSavepoint (length (filter (is_counted t) s.standing)) first result
+    pub state : StaysSeen k n
+    pub store : core_store n.core ≡ core_store k.core
+    pub locks : core_page_locks n.core ≡ core_page_locks k.core
+    pub counts : (u : ℕ) → count_in n.core.live.members u ≡ count_in k.core.live.members u
+
+  -- It does as a step of an abort. Of a transaction that runs nothing it waits for nobody, and log and pages stay.
+  pub record DidBackStep (k : KernelSeen D) (t : ℕ) (result : Result AbortStepped Refusal)
+      (n : KernelSeen D) : Type 0 where
+    pub answers : AnswersBackStep g k t result n
+    pub work : LowersReturn (pages (core_pool k.core)) result (undo_steps k.core t) (undo_steps n.core t)
+    pub others : KeepsOthers t k.core.running.items n.core.running.items
+    pub waits : IsAbortHeldUp k t result n
+    pub locks : return_cause (has_failed_in k) k.core t ≡ None → is_busy k.core t ≡ true
+        → OfRunning k.core.running.items t (λ r. AbortsLocks k.core n.core r result)
+    pub idle : is_busy k.core t ≡ false → StepsIdle k result n
+    pub writes : InverseWrites (appended (core_log k.core)) (appended (core_log n.core)) result
     pub durable : durable (core_log n.core) ≡ durable (core_log k.core)
     pub states : IfOk result (λ stepped. stepped ≢ abort.Ended → SameStates k.core n.core)
     pub err : OnErr result (SameStates k.core n.core)

@@ -5,5 +5,6 @@ pub mod Refusals
 pub mod Rooms
 pub mod Seen
 pub mod Standings
+pub mod Tokens
 pub mod Turns
 pub mod Whole

@@ -39,3 +39,12 @@ IsCommitRefusal refusal.DeviceFailed = ⊤
 IsCommitRefusal refusal.Stranger = ⊤
 IsCommitRefusal refusal.Busy = ⊤
 IsCommitRefusal _ = ⊥
+
+-- going back, with 1, 2, 15, 16 or 19
+abbrev pub IsBackRefusal : Refusal → Type 0
+IsBackRefusal refusal.NoMemory = ⊤
+IsBackRefusal refusal.DeviceFailed = ⊤
+IsBackRefusal refusal.Stranger = ⊤
+IsBackRefusal refusal.Busy = ⊤
+IsBackRefusal refusal.BadSavepoint = ⊤
+IsBackRefusal _ = ⊥

@@ -7,8 +7,6 @@ use Rattle.mt_mark.specs.Legal.{IsLegal}
 use Rattle.mt_mark.specs.Rule.{dones, NoneBy}
 use Rattle.mt_mark.specs.declared.view.Entry.{Entry}
 use Rattle.mt_model.specs.declared.history.Committed.{Committed}
-use Rattle.mt_model.specs.declared.operations.Op.{Op}
-use Rattle.mt_model.specs.declared.operations.Reply.{Reply}
 use Rattle.mt_model.specs.declared.tables.Base.{Base}
 use Rattle.mt_core.specs.declared.parts.Commit.{Commit}
 use Rattle.mt_txn.specs.Seen.{KernelSeen, commits_in, has_failed_in}
@@ -79,18 +77,6 @@ pub record Looked (b : Base) (old : PassSeen) (found : ℕ) (new : PassSeen) : T
   pub others : NoneBy old.number between
   pub legal : IsLegal b (dones new.seen)
   pub long : length new.seen ≡ found
-
--- the token of a transaction that has just begun
-abbrev pub fresh : ℕ → ℕ → Entry
-fresh pass session = record { pass = pass; done = record { session = session; calls = [] } }
-
--- the token with these calls in place of its own
-abbrev pub with_calls : Entry → List (Op × Reply) → Entry
-with_calls t calls = record { pass = t.pass; done = record { session = t.done.session; calls = calls } }
-
--- the token after a call and its reply
-abbrev pub with_call : Entry → Op → Reply → Entry
-with_call t op reply = with_calls t (t.done.calls ++ (op, reply) ∷ [])
 
 -- a seat of the same mark, which has seen all that the end has
 pub record Beside (end seat : Held) : Type 0 where

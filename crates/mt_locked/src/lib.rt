@@ -14,9 +14,11 @@ mod passes;
 mod returned_passes;
 mod rotation;
 mod txn;
+mod txn_calls;
 
 pub use locked::{Due, Locked, Unclosed};
 pub use names::Naming;
 pub use pass::Pass;
 pub use passes::passes_of;
 pub use txn::{Refused, Txn, give_token, put_calls, spend_token, take_calls};
+pub use txn_calls::TxnCalls;

@@ -4,13 +4,14 @@ ghost use Rattle.std.specs.Prelude.{◌≡◌, ◌≢◌, ◌<◌, ◌+◌, ◌-
 ghost use mathlib.Core.List.{IsPrefix};
 ghost use Rattle.mt_mark.specs.Legal.{IsLegal};
 ghost use Rattle.mt_mark.specs.Rule.{dones, Holds, IsConfirmed};
-ghost use Rattle.mt_locked.specs.Asked.{DidAbort, DidAbortStep, DidBegin, DidCall, DidCommit, DidFlush, DidForce, DidStep};
+ghost use Rattle.mt_locked.specs.Asked.{DidAbort, DidAbortStep, DidBack, DidBackStep, DidBegin, DidCall, DidCommit, DidFlush, DidForce, DidSave, DidStep};
 ghost use Rattle.mt_locked.specs.Began.{BeganOn, IsIdle};
 ghost use Rattle.mt_locked.specs.Standings.{IsDeviceSeen, LeavesBook};
 ghost use Rattle.mt_locked.specs.Refusals.{IsRoomRefusal};
 ghost use Rattle.mt_restart.specs.TurnFaults.{IsTurnFault};
 ghost use Rattle.mt_locked.specs.Rooms.{GoesOnFrom, MakesRoom};
 ghost use Rattle.mt_locked.specs.Seen.{PassSeen, Entered, CannotEnter, IsAsked, IsToForce, is_failed_in, under_way_in};
+ghost use Rattle.mt_locked.specs.Tokens.{entry_of};
 ghost use Rattle.mt_locked.specs.Turns.{IsHalfUsed, IsLeftAfter, IsTooEarlyIn, IsUseOn, IsUseSeen, TurnsLogOver};
 ghost use Rattle.mt_txn.specs.Seen.{seen_of};
 ghost use Rattle.mt_txn.specs.Shown.{is_failed};
@@ -106,8 +107,9 @@ impl<D: Device, J: Naming> Locked<D, J> {
     /// position, or the book has no such entry there. That is one with the token's session, calls and replies.
     pub fn enter(&mut self, place: u64, pass: &mut Pass<J>, txn: Txn<J>) -> Result<(), Txn<J>>
         requires own { txn.pass ≡ pass.old.number }
-        ensures entered { OnOk result (Entered J.base self.old place pass.old txn pass.new) }
-        ensures back { IfErr result (λ t. (t ≡ txn) × (pass.new ≡ pass.old) × CannotEnter self.old place txn) }
+        ensures entered { OnOk result (Entered J.base self.old place pass.old (entry_of txn) pass.new) }
+        ensures back { IfErr result (λ t. (t ≡ txn) × (pass.new ≡ pass.old)
+            × CannotEnter self.old place (entry_of txn)) }
         ensures kernel { self.new.kernel ≡ self.old.kernel }
         ensures book { self.new.book ≡ self.old.book }
         ensures list { IfErr result (λ _. self.new.list ≡ self.old.list) }
@@ -117,11 +119,11 @@ impl<D: Device, J: Naming> Locked<D, J> {
         if place == 0 || at != place - 1 {
             return Err(txn);
         }
-        let (number, entry) = txn.into_entry();
-        if !self.has(at, &entry) {
-            return Err(Txn::of_entry(number, entry));
+        if !self.has(at, &txn.entry) {
+            return Err(txn);
         }
-        self.end.enter(&mut pass.seat, &entry);
+        self.end.enter(&mut pass.seat, &txn.entry);
+        txn.spend();
         pass.is_busy = false;
         Ok(())
     }
@@ -273,6 +275,44 @@ impl<D: Device, J: Naming> Locked<D, J> {
             return Err(Refusal::DeviceFailed);
         };
         kernel.abort_step(txn)
+    }
+
+    /// How many operations of a transaction count, as [`Kernel::save`].
+    pub fn save(&self, txn: TxnNo) -> Result<u16, Refusal>
+        ensures { DidSave D.Device self.now.kernel txn result }
+    {
+        match &self.standing {
+            Standing::Stands(kernel) => kernel.save(txn),
+            Standing::Ended(_) => Err(Refusal::DeviceFailed),
+        }
+    }
+
+    /// Begins to go back to the first so many operations of a transaction, as [`Kernel::back_begin`]; the book and the
+    /// history stay.
+    pub fn back_begin(&mut self, txn: TxnNo, first: u16) -> Result<(), Refusal>
+        ensures kernel { IsAsked self.old result self.new (λ k n. DidBack D.Device k txn first result n) }
+        ensures book { self.new.book ≡ self.old.book }
+        ensures list { self.new.list ≡ self.old.list }
+        ensures passes { self.new.pass_count ≡ self.old.pass_count }
+    {
+        let Standing::Stands(kernel) = &mut self.standing else {
+            return Err(Refusal::DeviceFailed);
+        };
+        kernel.back_begin(txn, first)
+    }
+
+    /// Makes a step of going back, as [`Kernel::back_step`]; the book and the history stay.
+    pub fn back_step(&mut self, txn: TxnNo) -> Result<AbortStepped, Refusal>
+        ensures kernel { IsAsked self.old result self.new
+            (λ k n. DidBackStep D.Device k txn result n) }
+        ensures book { self.new.book ≡ self.old.book }
+        ensures list { self.new.list ≡ self.old.list }
+        ensures passes { self.new.pass_count ≡ self.old.pass_count }
+    {
+        let Standing::Stands(kernel) = &mut self.standing else {
+            return Err(Refusal::DeviceFailed);
+        };
+        kernel.back_step(txn)
     }
 
     /// Flushes a page, as [`Kernel::flush_step`]; the book and the history stay.

@@ -1,9 +1,10 @@
 // The token of an open transaction.
-ghost use Rattle.std.specs.Prelude.{◌≡◌, []};
-ghost use Rattle.mt_locked.specs.Seen.{fresh, with_calls};
+ghost use Rattle.std.specs.Prelude.{◌≡◌, [], length};
+ghost use Rattle.mt_locked.specs.Tokens.{fresh, with_calls};
 
 use crate::names::Naming;
 use crate::pass::Pass;
+use crate::txn_calls::TxnCalls;
 use core::mem::replace;
 use mt_base::{Refusal, TxnNo};
 use mt_mark::Entry;
@@ -11,22 +12,28 @@ use mt_model::{Calls, Committed, Op, Reply};
 use std::alloc::Global;
 use std::marker::{Model, PhantomData};
 
-/// A transaction's token: what it has done so far. It is spent by a commit or an abort alone, so none is lost.
-/// Contracts see the entry that it would be in the history.
+/// A transaction's token: what it has done so far, and which of that counts. It is spent by a commit or an abort
+/// alone, so none is lost. Contracts see the entry that it would be in the history, with the calls that count.
 pub struct Txn<J: Naming> {
     pub(crate) number: TxnNo,
-    pub(crate) pass: u64,
-    pub(crate) session: u32,
-    pub(crate) calls: Vec<(Op, Reply)>,
+    pub(crate) entry: Entry,
+    // the positions of the calls that count, from 0, as they rise
+    pub(crate) standing: Vec<usize>,
     pub(crate) of: PhantomData<J>,
 }
 
 impl<J: Naming> Model for Txn<J> {
-    ghost use Rattle.mt_mark.specs.declared.view.Entry.{Entry};
+    ghost use Rattle.mt_locked.specs.Tokens.{ArePositions, TxnSeen, calls_at};
 
-    ghost Value = { Entry };
+    ghost Value = { TxnSeen };
 
-    ghost view = { λ t. record { pass = t.pass; done = record { session = t.session; calls = t.calls.items } } };
+    ghost view = { λ t. record {
+      pass = t.entry.pass;
+      done = t.entry.done;
+      standing = calls_at t.entry.done.calls t.standing.items;
+    } };
+
+    ghost invariant = { λ t. ArePositions t.entry.done.calls t.standing.items };
 }
 
 /// Why a token was not spent, with the token if its transaction is still active.
@@ -36,11 +43,20 @@ pub struct Refused<J: Naming> {
 }
 
 impl<J: Naming> Txn<J> {
-    /// The operations so far with their replies, in the order in which they ended.
+    /// The operations so far with their replies, in the order in which they ended. The inverses that took some of them
+    /// back are among them.
     pub fn calls(&self) -> &[(Op, Reply)]
         ensures { result.now ≡ self.now.done.calls }
     {
-        self.calls.as_slice()
+        self.entry.done.calls.as_slice()
+    }
+
+    /// How many of its operations count: those that it did not take back, with effect or without. Inverses that took
+    /// some back do not count.
+    pub fn answered(&self) -> u16
+        ensures { result ≡ length self.now.standing }
+    {
+        self.standing.len() as u16
     }
 
     /// The number that the kernel gave it.
@@ -52,44 +68,24 @@ impl<J: Naming> Txn<J> {
     pub fn pass(&self) -> u64
         ensures { result ≡ self.now.pass }
     {
-        self.pass
+        self.entry.pass
     }
 
     /// The session for which it was begun.
     pub fn session(&self) -> u32
         ensures { result ≡ self.now.done.session }
     {
-        self.session
+        self.entry.done.session
     }
 
-    // The entry that it is, with its number, for `Txn::of_entry`.
-    pub(crate) fn into_entry(self) -> (TxnNo, Entry)
-        ensures { result.1 ≡ self }
-    {
+    // Drops what it has, once its transaction has ended.
+    pub(crate) fn spend(self) {
         let Txn {
-            number,
-            pass,
-            session,
-            calls,
+            number: _,
+            entry: _,
+            standing: _,
             of: _,
         } = self;
-        let calls = Calls::new(calls);
-        let done = Committed { session, calls };
-        (number, Entry { pass, done })
-    }
-
-    pub(crate) fn of_entry(number: TxnNo, entry: Entry) -> Txn<J>
-        ensures { result ≡ entry }
-    {
-        let Entry { pass, done } = entry;
-        let Committed { session, calls } = done;
-        Txn {
-            number,
-            pass,
-            session,
-            calls: calls.into_vec(),
-            of: PhantomData,
-        }
     }
 }
 
@@ -105,11 +101,15 @@ pub fn give_token<J: Naming>(
     ensures pass { pass.new ≡ pass.old }
 {
     pass.is_busy = true;
+    let calls = Calls::new(Vec::new(alloc));
+    let done = Committed { session, calls };
     Txn {
         number,
-        pass: pass.number,
-        session,
-        calls: Vec::new(alloc),
+        entry: Entry {
+            pass: pass.number,
+            done,
+        },
+        standing: Vec::new(alloc),
         of: PhantomData,
     }
 }
@@ -118,29 +118,27 @@ pub fn give_token<J: Naming>(
 pub fn spend_token<J: Naming>(pass: &mut Pass<J>, txn: Txn<J>)
     ensures { pass.new ≡ pass.old }
 {
-    let Txn {
-        number: _,
-        pass: _,
-        session: _,
-        calls: _,
-        of: _,
-    } = txn;
+    txn.spend();
     pass.is_busy = false;
 }
 
-/// Takes the operations with their replies out of a token, so that one more can be put after them. They go back by
-/// [`put_calls`].
-pub fn take_calls<J: Naming>(txn: &mut Txn<J>) -> Vec<(Op, Reply)>
-    ensures calls { result.items ≡ txn.old.done.calls }
-    ensures rest { txn.new ≡ with_calls txn.old [] }
+/// Takes the calls out of a token, so that more can be put after them. They go back by [`put_calls`].
+pub fn take_calls<J: Naming>(txn: &mut Txn<J>) -> TxnCalls
+    ensures calls { result.calls ≡ txn.old.done.calls }
+    ensures standing { result.standing ≡ txn.old.standing }
+    ensures rest { txn.new ≡ with_calls txn.old [] [] }
 {
-    let none = Vec::new(*txn.calls.allocator());
-    replace(&mut txn.calls, none)
+    let alloc = *txn.standing.allocator();
+    let standing = replace(&mut txn.standing, Vec::new(alloc));
+    let calls = replace(&mut txn.entry.done.calls, Calls::new(Vec::new(alloc)));
+    TxnCalls::of(calls.into_vec(), standing)
 }
 
-/// Gives a token these operations with their replies, in place of those that it has.
-pub fn put_calls<J: Naming>(txn: &mut Txn<J>, calls: Vec<(Op, Reply)>)
-    ensures { txn.new ≡ with_calls txn.old calls.items }
+/// Gives a token these calls, in place of those that it has.
+pub fn put_calls<J: Naming>(txn: &mut Txn<J>, calls: TxnCalls)
+    ensures { txn.new ≡ with_calls txn.old calls.calls calls.standing }
 {
-    txn.calls = calls;
+    let TxnCalls { calls, standing } = calls;
+    txn.entry.done.calls = Calls::new(calls);
+    txn.standing = standing;
 }

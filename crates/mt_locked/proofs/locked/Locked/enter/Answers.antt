@@ -6,6 +6,7 @@ use Rattle.mt_mark.specs.declared.view.Entry.{Entry}
 use Rattle.mt_mark.specs.Held.{Held}
 use Rattle.mt_mark.specs.Rule.{dones, Holds}
 use Rattle.mt_locked.specs.Seen.{PassSeen, LockedSeen, Entered}
+use Rattle.mt_locked.specs.Tokens.{entry_of}
 use Rattle.mt_locked.specs.Standings.{KeepsHistory, book_in, seen_in}
 use Rattle.mt_locked.proofs.Books.{entered, front_legal}
 use Rattle.mt_locked.proofs.Standings.{entered_on, front_of}
@@ -17,7 +18,7 @@ enter-requires-clause-legal g c =
     let i = c.self.invariant in
     let s = c.check-at.ensures in
     let h = c.has.ensures in
-    let e = c.into_entry-number.result.1 in
+    let e = c.txn.inside.entry in
     let standing = c.self.inside.standing in
     let list = c.self.inside.end.view.list in
     let there = subst (λ (x : Held). slice_get (book_in standing (dones x.view.list)) c.check-at.result ≡ Some e.done) s.same (h.is.0 c.if-not-has.false) in
@@ -33,7 +34,7 @@ invariant_of-self-3 g c =
     let i = c.self.invariant in
     let s = c.check-at.ensures in
     let h = c.has.ensures in
-    let e = c.into_entry-number.result.1 in
+    let e = c.txn.inside.entry in
     let n = c.enter.ensures in
     let standing = c.self.inside.standing in
     let list = c.self.inside.end.view.list in
@@ -53,7 +54,7 @@ returns-clause-book g c =
     let i = c.self.invariant in
     let s = c.check-at.ensures in
     let h = c.has.ensures in
-    let e = c.into_entry-number.result.1 in
+    let e = c.txn.inside.entry in
     let n = c.enter.ensures in
     let standing = c.self.inside.standing in
     let list = c.self.inside.end.view.list in
@@ -68,7 +69,7 @@ returns-clause-entered g c =
     let i = c.self.invariant in
     let s = c.check-at.ensures in
     let h = c.has.ensures in
-    let e = c.into_entry-number.result.1 in
+    let e = c.txn.inside.entry in
     let n = c.enter.ensures in
     let standing = c.self.inside.standing in
     let list = c.self.inside.end.view.list in
@@ -83,7 +84,7 @@ returns-clause-entered g c =
     let held : Holds old.number old.seen list = subst (λ (x : ℕ × List Entry). Holds x.0 old.seen x.1) (λ j. (c.pass.invariant.2 j, ap (λ (x : Held). x.view.list) s.same j)) n.others in
     let long : length list + 1 ≡ c.args.place = (let x = s.stands in let y = c.if-at-place.false in let z = c.if-place-eq0.false in omega arith) in
     let at : Entered b locked c.args.place old e new = entered b locked c.args.place old new e held refl seen front book long in
-    subst (λ (x : LockedSeen _ × PassSeen × Entry). Entered b x.0 c.args.place x.1 x.2 new) (λ j. (c.self.view_is j, c.pass.view_is j, c.into_entry-number.ensures j)) at
+    subst (λ (x : LockedSeen _ × PassSeen × Entry). Entered b x.0 c.args.place x.1 x.2 new) (λ j. (c.self.view_is j, c.pass.view_is j, ap entry_of c.txn.view_is j)) at
 
 pub returns-clause-passes : goal.returns-clause-passes
 returns-clause-passes g c =

@@ -1,0 +1,39 @@
+use Rattle.std.proofs.Common.{◌∙◌, ap}
+use Rattle.mt_model.specs.Views.{base_of}
+use Rattle.mt_locked.proofs.Keeping.{returns_one}
+use Rattle.mt_locked.proofs.Standings.{abort_held_up, asked, at_once, goes_on, reports}
+use Rattle.mt_locked.specs.Seen.{LockedSeen}
+use Rattle.mt_locked.proofs.locked.Locked.back_step.Goals as goal
+
+pub invariant_of-self-2 : goal.invariant_of-self-2
+invariant_of-self-2 g c =
+    let D = g.D.Device in let b = g.J.Naming.base in let i = c.self.invariant in let e = c.back_step.ensures in
+    let list = c.self.inside.end.view.list in let k = c.in-Stands.kernel in let n = c.back_step.new.self in
+    let on = goes_on b list c.self.inside.standing k n c.in-Stands.is (returns_one b k n c.args.txn c.back_step.result e.early (λ s first. e.returned (base_of b) s first)) e.restarts i.4 in
+    (i.0, i.1, i.2, i.3, on.0)
+
+pub returns-clause-kernel : goal.returns-clause-kernel
+returns-clause-kernel g c =
+    let D = g.D.Device in let e = c.back_step.ensures in
+    asked c.self.inside.standing c.in-Stands.kernel c.back_step.new.self c.self.inside.end.view _ _ _ c.in-Stands.is c.self.view_is
+    (record {
+      answers = record { may = e.may; early = at_once _ _ _ _ e.early; why = e.cause; opened = e.leaves.opened; returned = e.returned };
+      work = e.moves.work;
+      others = e.moves.others;
+      waits = abort_held_up c.in-Stands.kernel c.back_step.new.self c.args.txn c.back_step.result e.moves.other e.moves.full;
+      locks = e.moves.locks;
+      idle = λ none. record { goes = e.moves.goes none; store = e.moves.store none; locks = e.moves.idle none };
+      writes = e.leaves.writes;
+      durable = e.leaves.durable;
+      states = e.leaves.states;
+      err = e.leaves.err_states;
+      commits = e.leaves.commits;
+      device = record { once = e.once; faults = reports _ _ c.back_step.result e.fails e.quiet };
+    })
+
+pub returns-clause-book : goal.returns-clause-book
+returns-clause-book g c =
+    let D = g.D.Device in let b = g.J.Naming.base in let i = c.self.invariant in let e = c.back_step.ensures in
+    let list = c.self.inside.end.view.list in let k = c.in-Stands.kernel in let n = c.back_step.new.self in
+    let on = goes_on b list c.self.inside.standing k n c.in-Stands.is (returns_one b k n c.args.txn c.back_step.result e.early (λ s first. e.returned (base_of b) s first)) e.restarts i.4 in
+    on.1 ∙ ap (λ (l : LockedSeen _). l.book) c.self.view_is

@@ -1,27 +1,27 @@
 -- The lines of a transaction over a shared kernel.
-use Rattle.std.proofs.Common.{◌≡◌, ◌≢◌, ◌<◌, ◌≤◌, ◌+◌, ◌-◌, ◌^◌, ℕ, zero, suc, List, [], ◌∷◌, ◌++◌, Option, Some, None, Result, Ok, Err, IsSome, arith, length, take, drop, get_or, refl, ap, sym, subst, ◌∙◌, append_assoc, append-nil, length-append, length-drop, take-append-drop}
+use Rattle.std.proofs.Common.{◌≡◌, ◌≢◌, ◌<◌, ◌≤◌, ◌+◌, ◌-◌, ◌^◌, ℕ, suc, List, [], ◌∷◌, ◌++◌, Option, Some, None, Result, Ok, Err, IsSome, arith, length, take, drop, get_or, refl, ap, sym, subst, ◌∙◌, append-nil, length-drop, take-append-drop}
 use Rattle.std.proofs.Math.Seq.{drop-cons, take-suc, take-length}
 use mathlib.Core.List.{IsPrefix}
 use Rattle.mt_base.specs.declared.refusal.Refusal.{Refusal}
 use Rattle.mt_base.specs.declared.refusal.Refusal.TheVariants as refusal
 use Rattle.mt_mark.proofs.Fronts.{prefix_trans}
-use Rattle.mt_mark.specs.declared.view.Entry.{Entry}
 use Rattle.mt_model.specs.History.{Call}
 use Rattle.mt_model.specs.declared.tables.Base.{Base}
 use Rattle.mt_script.specs.Answers.{transcript_text}
 use Rattle.mt_script.specs.declared.answers.Answer.{Answer}
-use Rattle.mt_script.specs.declared.answers.Answer.TheVariants.{Begun, Aborted, Refused}
+use Rattle.mt_script.specs.declared.answers.Answer.TheVariants.{Begun, Refused}
 use Rattle.mt_script.specs.declared.lines.Line.{Line}
 use Rattle.mt_script.specs.declared.lines.Line.TheVariants as line
-use Rattle.mt_alone.specs.Plays.{Runs, starts, goes_on}
-use Rattle.mt_server.specs.Heard.{Heard, Hears, IsRefusable, begins, refuses}
-use Rattle.mt_server.specs.Hearing.{AreFew, Place, Ending, HasFailed, HasRan, HasServed, IsAt, IsStopped, IsTurned, Reached, Running, Served, Turning, Turns, and_begin, between, entry_of, within}
+use Rattle.mt_alone.specs.Plays.{OpenCalls, starts, goes_on, no_calls}
+use Rattle.mt_server.specs.Heard.{IsRefusable, begins, refuses}
+use Rattle.mt_server.specs.Hearing.{AreFew, Place, Ending, HasRan, HasServed, IsStopped, IsTurned, Reached, Running, Turning, Turns, and_begin, between, open_calls, token_of, within}
 use Rattle.mt_server.specs.declared.attempts.Progress.{Progress}
 use Rattle.mt_server.specs.declared.attempts.Progress.TheVariants as progress
 use Rattle.mt_server.specs.declared.line_answers.Halt.{Halt}
 use Rattle.mt_server.specs.declared.line_answers.Halt.TheVariants as halt
 use Rattle.mt_alone.proofs.TranscriptLemmas.{all_reported, none_reported, runs_then}
-use Rattle.mt_locked.specs.Seen.{PassSeen, fresh}
+use Rattle.mt_locked.specs.Seen.{PassSeen}
+use Rattle.mt_locked.specs.Tokens.{TxnSeen, fresh}
 
 module _ (b : Base) (session : ℕ) where
   pub none_served : (start : Place) (was : List ℕ) → HasServed b session start [] was was start
@@ -42,28 +42,28 @@ module _ (b : Base) (session : ℕ) where
 
   -- ---- within a transaction
 
-  pub begun_at : (booked : List (ℕ × List Call)) (txn : Entry) (pass : PassSeen) (lines : List Line) (was : List ℕ) → txn.pass ≡ pass.number → txn.done.session ≡ session
-      → Reached b session (within booked txn.done.calls pass) (take 0 lines) was was (Some txn) pass
+  pub begun_at : (booked : List (ℕ × List Call)) (txn : TxnSeen) (pass : PassSeen) (lines : List Line) (was : List ℕ) → txn.pass ≡ pass.number → txn.done.session ≡ session
+      → Reached b session (within booked (open_calls txn) pass) (take 0 lines) was was (Some txn) pass
   begun_at booked txn pass lines was own mine = record {
-    end = within booked txn.done.calls pass;
+    end = within booked (open_calls txn) pass;
     pass_is = refl;
-    at = (refl, λ i. entry_of (own i) (mine i) txn.done.calls);
-    served = none_served (within booked txn.done.calls pass) was;
+    at = (refl, λ i. token_of (own i) (mine i) (open_calls txn));
+    served = none_served (within booked (open_calls txn) pass) was;
   }
 
-  pub own_at : {start : Place} {lines : List Line} {was now : List ℕ} → (t : Entry) (pass : PassSeen) → Reached b session start lines was now (Some t) pass → (t.pass ≡ pass.number) × (t.done.session ≡ session)
-  own_at t pass r = (ap (λ (e : Entry). e.pass) r.at.1 ∙ ap (λ (x : PassSeen). x.number) r.pass_is, ap (λ (e : Entry). e.done.session) r.at.1)
+  pub own_at : {start : Place} {lines : List Line} {was now : List ℕ} → (t : TxnSeen) (pass : PassSeen) → Reached b session start lines was now (Some t) pass → (t.pass ≡ pass.number) × (t.done.session ≡ session)
+  own_at t pass r = (ap (λ (e : TxnSeen). e.pass) r.at.1 ∙ ap (λ (x : PassSeen). x.number) r.pass_is, ap (λ (e : TxnSeen). e.done.session) r.at.1)
 
   -- where it stands
-  place_is : (p : Place) (calls : List Call) (pass : PassSeen) → p.heard.under_way ≡ Some calls → p.pass ≡ pass → p ≡ within p.heard.booked calls pass
+  place_is : (p : Place) (calls : OpenCalls) (pass : PassSeen) → p.heard.under_way ≡ Some calls → p.pass ≡ pass → p ≡ within p.heard.booked calls pass
   place_is p calls pass open_is pass_is = λ i. record { heard = record { under_way = open_is i; booked = p.heard.booked }; pass = pass_is i }
 
-  pub line_more : (start : Place) (lines : List Line) (n : ℕ) (l : Line) (was mid now : List ℕ) (t : Entry) (pass new : PassSeen) (token : Option Entry) → n < length lines → l ≡ get_or lines n l
+  pub line_more : (start : Place) (lines : List Line) (n : ℕ) (l : Line) (was mid now : List ℕ) (t : TxnSeen) (pass new : PassSeen) (token : Option TxnSeen) → n < length lines → l ≡ get_or lines n l
       → Reached b session start (take n lines) was mid (Some t) pass → Turning b t pass l mid now new (Ok token) → Reached b session start (take (suc n) lines) was now token new
   line_more start lines n l was mid now t pass new token lt is r turning =
-      let from : r.end ≡ within r.end.heard.booked t.done.calls pass = place_is r.end t.done.calls pass r.at.0 r.pass_is in
+      let from : r.end ≡ within r.end.heard.booked (open_calls t) pass = place_is r.end (open_calls t) pass r.at.0 r.pass_is in
       let mine : t.done.session ≡ session = (own_at t pass r).1 in
-      let x = subst (λ (n : ℕ). IsTurned b n (within r.end.heard.booked t.done.calls pass) l mid now token new) mine (turning r.end.heard.booked) in
+      let x = subst (λ (n : ℕ). IsTurned b n (within r.end.heard.booked (open_calls t) pass) l mid now token new) mine (turning r.end.heard.booked) in
       let all : take n lines ++ l ∷ [] ≡ take (suc n) lines = ap (λ (y : Line). take n lines ++ y ∷ []) is ∙ sym (take-suc lines n l lt) in
       let turns : Turns b session r.end l x.answer x.end = subst (λ (p : Place). Turns b session p l x.answer x.end) (sym from) x.turns in
       record {
@@ -74,13 +74,13 @@ module _ (b : Base) (session : ℕ) where
             (served_then start r.end x.end (take n lines) (l ∷ []) was mid now r.served (one_served r.end x.end l x.answer mid now turns x.text));
       }
 
-  pub waits_on : (l : Line) (mid now : List ℕ) (t kept : Entry) (pass new : PassSeen) → Turning b t pass l mid now new (Ok (Some kept)) → new ≡ pass
+  pub waits_on : (l : Line) (mid now : List ℕ) (t kept : TxnSeen) (pass new : PassSeen) → Turning b t pass l mid now new (Ok (Some kept)) → new ≡ pass
   waits_on l mid now t kept pass new turning = (turning []).waits
 
   pub ended_at : (start : Place) (lines : List Line) (n : ℕ) (was now : List ℕ) (new : PassSeen) → n ≤ length lines → Reached b session start (take n lines) was now None new → HasRan b session start lines was now new (progress.Ended n)
   ended_at start lines n was now new le r = (r.end, r.pass_is, r.at, le, r.served)
 
-  pub stopped_at : (start : Place) (lines : List Line) (n : ℕ) (l : Line) (was mid now : List ℕ) (t : Entry) (pass new : PassSeen) (s : Halt) → pass ≡ start.pass → Reached b session start (take n lines) was mid (Some t) pass
+  pub stopped_at : (start : Place) (lines : List Line) (n : ℕ) (l : Line) (was mid now : List ℕ) (t : TxnSeen) (pass new : PassSeen) (s : Halt) → pass ≡ start.pass → Reached b session start (take n lines) was mid (Some t) pass
       → Turning b t pass l mid now new (Err s) → Running b session start lines was now new (Err s)
   stopped_at start lines n l was mid now t pass new halt.Died same r (stays, front) = (stays ∙ same, prefix_trans was mid now (served_prefix start r.end (take n lines) was mid r.served) front)
   stopped_at start lines n l was mid now t pass new halt.Failed same r (stays, text) = record {
@@ -95,11 +95,11 @@ module _ (b : Base) (session : ℕ) where
   }
   stopped_at start lines n l was mid now t pass new halt.Unheard same r stopped = tt
 
-  pub at_end : (start : Place) (lines : List Line) (was mid now : List ℕ) (t : Entry) (pass new : PassSeen) (result : Result Progress Halt) → Reached b session start (take (length lines) lines) was mid (Some t) pass
+  pub at_end : (start : Place) (lines : List Line) (was mid now : List ℕ) (t : TxnSeen) (pass new : PassSeen) (result : Result Progress Halt) → Reached b session start (take (length lines) lines) was mid (Some t) pass
       → Ending pass mid now new result → Running b session start lines was now new result
   at_end start lines was mid now t pass new (Ok (progress.Ended count)) r ends = absurd ends
   at_end start lines was mid now t pass new (Ok progress.AtEnd) r (stays, text) =
-      (r.end, mid, r.pass_is ∙ sym stays, subst (λ (u : Option (List Call)). IsSome u) (sym r.at.0) refl, subst (λ (ls : List Line). HasServed b session start ls was mid r.end) (take-length lines) r.served, text)
+      (r.end, mid, r.pass_is ∙ sym stays, subst (λ (u : Option OpenCalls). IsSome u) (sym r.at.0) refl, subst (λ (ls : List Line). HasServed b session start ls was mid r.end) (take-length lines) r.served, text)
   at_end start lines was mid now t pass new (Err halt.Died) r ends = absurd ends
   at_end start lines was mid now t pass new (Err halt.Failed) r (stays, text) = record {
     before = lines;
@@ -120,15 +120,15 @@ module _ (b : Base) (session : ℕ) where
   few_ran start lines was now new (Ok progress.AtEnd) room r = tt
   few_ran start lines was now new (Err s) room r = tt
 
-  begun : (booked : List (ℕ × List Call)) (pass : PassSeen) (was mid : List ℕ) → mid ≡ was ++ transcript_text (Begun ∷ []) → HasServed b session (between booked pass) (line.Begin ∷ []) was mid (within booked [] pass)
-  begun booked pass was mid text = one_served (between booked pass) (within booked [] pass) line.Begin Begun was mid (record { hears = begins refl; grows = refl }) text
+  begun : (booked : List (ℕ × List Call)) (pass : PassSeen) (was mid : List ℕ) → mid ≡ was ++ transcript_text (Begun ∷ []) → HasServed b session (between booked pass) (line.Begin ∷ []) was mid (within booked no_calls pass)
+  begun booked pass was mid text = one_served (between booked pass) (within booked no_calls pass) line.Begin Begun was mid (record { hears = begins refl; grows = refl }) text
 
   pub run_behind : (booked : List (ℕ × List Call)) (pass : PassSeen) (lines : List Line) (was mid now : List ℕ) (new : PassSeen) (result : Result Progress Halt) → mid ≡ was ++ transcript_text (Begun ∷ [])
-      → Running b session (within booked [] pass) lines mid now new result → Running b session (between booked pass) (line.Begin ∷ lines) was now new (and_begin result)
+      → Running b session (within booked no_calls pass) lines mid now new result → Running b session (between booked pass) (line.Begin ∷ lines) was now new (and_begin result)
   run_behind booked pass lines was mid now new (Ok (progress.Ended count)) text (end, pass_is, ended, le, served) =
-      (end, pass_is, ended, omega (arith, le), served_then (between booked pass) (within booked [] pass) end (line.Begin ∷ []) (take count lines) was mid now (begun booked pass was mid text) served)
+      (end, pass_is, ended, omega (arith, le), served_then (between booked pass) (within booked no_calls pass) end (line.Begin ∷ []) (take count lines) was mid now (begun booked pass was mid text) served)
   run_behind booked pass lines was mid now new (Ok progress.AtEnd) text (end, at, pass_is, live, served, outcome) =
-      (end, at, pass_is, live, served_then (between booked pass) (within booked [] pass) end (line.Begin ∷ []) lines was mid at (begun booked pass was mid text) served, outcome)
+      (end, at, pass_is, live, served_then (between booked pass) (within booked no_calls pass) end (line.Begin ∷ []) lines was mid at (begun booked pass was mid text) served, outcome)
   run_behind booked pass lines was mid now new (Err halt.Died) text (stays, front) =
       (stays, prefix_trans was mid now (transcript_text (Begun ∷ []), sym text) front)
   run_behind booked pass lines was mid now new (Err halt.Failed) text f = record {
@@ -138,7 +138,7 @@ module _ (b : Base) (session : ℕ) where
     end = f.end;
     pass_is = f.pass_is;
     mid = f.mid;
-    served = served_then (between booked pass) (within booked [] pass) f.end (line.Begin ∷ []) f.before was mid f.mid (begun booked pass was mid text) f.served;
+    served = served_then (between booked pass) (within booked no_calls pass) f.end (line.Begin ∷ []) f.before was mid f.mid (begun booked pass was mid text) f.served;
     text = f.text;
   }
   run_behind booked pass lines was mid now new (Err halt.Unheard) text u = tt
@@ -168,10 +168,10 @@ module _ (b : Base) (session : ℕ) where
   unheard start lines was now new s is = subst (λ (x : Halt). Running b session start lines was now new (Err x)) (sym is) tt
 
   -- with the token that the begin gave
-  pub run_fresh : (booked : List (ℕ × List Call)) (pass at : PassSeen) (txn : Entry) (lines : List Line) (was mid now : List ℕ) (new : PassSeen) (result : Result Progress Halt) → at ≡ pass → txn ≡ fresh pass.number session → mid ≡ was ++ transcript_text (Begun ∷ [])
-      → Running b txn.done.session (within booked txn.done.calls at) lines mid now new result → Running b session (between booked pass) (line.Begin ∷ lines) was now new (and_begin result)
+  pub run_fresh : (booked : List (ℕ × List Call)) (pass at : PassSeen) (txn : TxnSeen) (lines : List Line) (was mid now : List ℕ) (new : PassSeen) (result : Result Progress Halt) → at ≡ pass → txn ≡ fresh pass.number session → mid ≡ was ++ transcript_text (Begun ∷ [])
+      → Running b txn.done.session (within booked (open_calls txn) at) lines mid now new result → Running b session (between booked pass) (line.Begin ∷ lines) was now new (and_begin result)
   run_fresh booked pass at txn lines was mid now new result same token text runs =
-      run_behind booked pass lines was mid now new result text (subst (λ (x : Entry × PassSeen). Running b x.0.done.session (within booked x.0.done.calls x.1) lines mid now new result) (λ i. (token i, same i)) runs)
+      run_behind booked pass lines was mid now new result text (subst (λ (x : TxnSeen × PassSeen). Running b x.0.done.session (within booked (open_calls x.0) x.1) lines mid now new result) (λ i. (token i, same i)) runs)
 
   -- from where the loop began
   pub same_start : (booked : List (ℕ × List Call)) (pass at : PassSeen) (lines : List Line) (was mid now : List ℕ) (new : PassSeen) (result : Result Progress Halt) → at ≡ pass → mid ≡ was
@@ -190,6 +190,8 @@ module _ (b : Base) (session : ℕ) where
       stranger : (x : Line) → (x ≡ line.Begin → ⊥) → IsRefusable None x refusal.Stranger
       stranger line.Begin not_begin = absurd (not_begin refl)
       stranger (line.Call op) not_begin = refl
+      stranger line.Save not_begin = refl
+      stranger (line.Back first) not_begin = refl
       stranger line.Commit not_begin = refl
       stranger line.Abort not_begin = refl
 

@@ -1,5 +1,5 @@
 -- What a session has heard, and what its pass has seen.
-use Rattle.std.proofs.Common.{◌≡◌, ◌≢◌, ◌<◌, ◌≤◌, ◌+◌, ℕ, suc, List, [], ◌∷◌, ◌++◌, Option, Some, None, All, Bool, true, cond, eqb, eq-eqb, ne_eqb, arith, length, map, refl, ap, sym, subst, ◌∙◌, append_assoc, append-nil, length-append}
+use Rattle.std.proofs.Common.{◌≡◌, ◌≤◌, ◌+◌, ℕ, List, [], ◌∷◌, ◌++◌, Option, Some, None, All, Bool, true, cond, eqb, eq-eqb, ne_eqb, arith, length, refl, ap, sym, subst, ◌∙◌, append_assoc, length-append}
 use Rattle.std.proofs.lemmas.List.{length-map}
 use Rattle.std.proofs.lemmas.List.Elements.{All-nil, All-push, All-weaker}
 use mathlib.Core.List.{IsPrefix}
@@ -10,11 +10,10 @@ use Rattle.mt_model.specs.History.{Call}
 use Rattle.mt_model.specs.declared.history.Committed.{Committed}
 use Rattle.mt_model.specs.declared.tables.Base.{Base}
 use Rattle.mt_script.specs.declared.answers.Answer.{Answer}
-use Rattle.mt_script.specs.declared.answers.Answer.TheVariants.{Committed as CommittedAt}
 use Rattle.mt_script.specs.declared.lines.Line.{Line}
-use Rattle.mt_alone.specs.Plays.{Runs, starts, goes_on}
-use Rattle.mt_server.specs.Heard.{Heard, silence, Hears, begins, replies, commits, aborts, dies, refuses, StandsAt, Rise, nowhere, higher, IsEnd, ends, fails, IsReported}
-use Rattle.mt_server.specs.Hearing.{Place, entry_of, Grows, IsSession, Turns, Served}
+use Rattle.mt_alone.specs.Plays.{OpenCalls, Runs, starts, goes_on, no_calls, with_one}
+use Rattle.mt_server.specs.Heard.{Heard, silence, went_back, Hears, begins, replies, saves, goes_back, commits, aborts, dies, refuses, StandsAt, Rise, nowhere, higher, IsEnd, ends, fails, IsReported}
+use Rattle.mt_server.specs.Hearing.{Place, entry_of, Grows, IsSession, Served}
 use Rattle.mt_locked.specs.Seen.{PassSeen, Extends}
 
 -- ---- the book grows
@@ -50,7 +49,7 @@ reported_on failed session lines text booked book more grown t = record {
 }
 
 -- and where the device may have failed
-may_fail : (a b : Bool) (u : Option (List Call)) (rest : List Line) (last : List Answer) → (a ≡ true → b ≡ true) → IsEnd a u rest last → IsEnd b u rest last
+may_fail : (a b : Bool) (u : Option OpenCalls) (rest : List Line) (last : List Answer) → (a ≡ true → b ≡ true) → IsEnd a u rest last → IsEnd b u rest last
 may_fail a b u _ _ may ends = ends
 may_fail a b u _ _ may (fails rest failed) = fails rest (may failed)
 
@@ -115,7 +114,7 @@ nothing_yet session old = record {
 }
 
 -- nothing is committed
-same_stood : (session : ℕ) (old : PassSeen) (p : Place) (u : Option (List Call)) (pass : PassSeen) → pass ≡ p.pass → Stood session old p
+same_stood : (session : ℕ) (old : PassSeen) (p : Place) (u : Option OpenCalls) (pass : PassSeen) → pass ≡ p.pass → Stood session old p
     → Stood session old (record { heard = record { under_way = u; booked = p.heard.booked }; pass = pass })
 same_stood session old p u pass same s =
     let at : (x : PassSeen) → Type 0 = λ x. Stood session old (record { heard = record { under_way = u; booked = p.heard.booked }; pass = x }) in
@@ -157,15 +156,17 @@ more_stood b session old p place calls pass x s =
       counted = counts_one p.pass.number p.pass.seen x.between e pass x.number x.list x.others refl (length p.heard.booked) (own old.number old.seen) s.counted ∙ add_push (own old.number old.seen) p.heard.booked (place, calls);
     }
 
-some_same : (u v : List Call) → ◌≡◌ {A = Option (List Call)} (Some u) (Some v) → u ≡ v
+some_same : (u v : OpenCalls) → ◌≡◌ {A = Option OpenCalls} (Some u) (Some v) → u ≡ v
 some_same u v e = cc e
 
 turn_stood : (b : Base) (session : ℕ) (old : PassSeen) (p : Place) (l : Line) (a : Answer) (h : Heard) (pass : PassSeen) → Stood session old p → Hears p.heard l a h → Grows b session p a pass → Stood session old (record { heard = h; pass = pass })
-turn_stood b session old p _ _ _ pass s (begins none) same = same_stood session old p (Some []) pass same s
-turn_stood b session old p _ _ _ pass s (replies calls op reply live sized) same = same_stood session old p (Some (calls ++ (op, reply) ∷ [])) pass same s
+turn_stood b session old p _ _ _ pass s (begins none) same = same_stood session old p (Some no_calls) pass same s
+turn_stood b session old p _ _ _ pass s (replies calls op reply live sized) same = same_stood session old p (Some (with_one calls (op, reply))) pass same s
+turn_stood b session old p _ _ _ pass s (saves calls live) same = same_stood session old p p.heard.under_way pass same s
+turn_stood b session old p _ _ _ pass s (goes_back calls first live enough) same = same_stood session old p (Some (went_back calls first)) pass same s
 turn_stood b session old p _ _ _ pass s (commits calls place live) (own, opened, x) =
     let same : own ≡ calls = some_same own calls (sym opened ∙ live) in
-    more_stood b session old p place calls pass (subst (λ (cs : List Call). Extends b p.pass (entry_of p.pass.number session cs) place pass) same x) s
+    more_stood b session old p place calls.all pass (subst (λ (o : OpenCalls). Extends b p.pass (entry_of p.pass.number session o.all) place pass) same x) s
 turn_stood b session old p _ _ _ pass s (aborts calls live) same = same_stood session old p None pass same s
 turn_stood b session old p _ _ _ pass s (dies calls op holder live) same = same_stood session old p None pass same s
 turn_stood b session old p _ _ _ pass s (refuses line why may) same = same_stood session old p p.heard.under_way pass same s

@@ -1,15 +1,16 @@
 -- A session over a shared kernel: its transactions, one behind the other, and its end.
-use Rattle.std.proofs.Common.{◌≡◌, ◌<◌, ◌≤◌, ◌+◌, ℕ, List, [], ◌∷◌, ◌++◌, Option, Some, None, Result, Ok, Err, IsSome, true, false, arith, length, take, drop, refl, ap, sym, subst, ◌∙◌, append_assoc, append-nil, length-drop, take-append-drop}
+use Rattle.std.proofs.Common.{◌≡◌, ◌≤◌, ◌+◌, ℕ, List, [], ◌∷◌, ◌++◌, Option, Some, None, IsSome, true, false, arith, length, take, drop, refl, ap, sym, subst, ◌∙◌, append_assoc, append-nil, length-drop, take-append-drop}
 use Rattle.std.proofs.Math.Seq.{take-add, take-length}
 use Rattle.mt_model.specs.History.{Call}
 use Rattle.mt_model.specs.declared.tables.Base.{Base}
 use Rattle.mt_script.specs.Answers.{transcript_text}
 use Rattle.mt_script.specs.declared.answers.Answer.{Answer}
-use Rattle.mt_script.specs.declared.answers.Answer.TheVariants.{Aborted, Refused}
+use Rattle.mt_script.specs.declared.answers.Answer.TheVariants.{Aborted}
 use Rattle.mt_script.specs.declared.lines.Line.{Line}
 use Rattle.mt_server.specs.Heard.{IsEnd, ends, fails}
-use Rattle.mt_server.specs.Hearing.{HasFailed, HasRan, HasServed, IsSession, Place, Reached, between}
+use Rattle.mt_alone.specs.Plays.{OpenCalls}
 use Rattle.mt_alone.specs.Runs.{last_line}
+use Rattle.mt_server.specs.Hearing.{HasFailed, HasRan, HasServed, IsSession, Place, Reached, between}
 use Rattle.mt_server.specs.declared.attempts.Progress.TheVariants as progress
 use Rattle.mt_server.proofs.AttemptLemmas.{none_served, served_then}
 use Rattle.mt_alone.proofs.TranscriptLemmas.{all_reported}
@@ -65,7 +66,7 @@ module _ (b : Base) (session : ℕ) (old : PassSeen) (lines : List Line) where
         text_is = served.text ∙ ap transcript_text (sym (append-nil served.answers));
       }
 
-  aborted_last : (u : Option (List Call)) → IsSome u → last_line u ≡ Aborted ∷ []
+  aborted_last : (u : Option OpenCalls) → IsSome u → last_line u ≡ Aborted ∷ []
   aborted_last None some = absurd cc
   aborted_last (Some calls) some = refl
 

@@ -7,15 +7,16 @@ use Rattle.mt_model.specs.History.{Call}
 use Rattle.mt_model.specs.declared.tables.Base.{Base}
 use Rattle.mt_script.specs.Answers.{transcript_text}
 use Rattle.mt_script.specs.declared.answers.Answer.{Answer}
-use Rattle.mt_script.specs.declared.answers.Answer.TheVariants.{Begun, Replied, Committed as CommittedAt, Aborted, Refused}
+use Rattle.mt_script.specs.declared.answers.Answer.TheVariants.{Begun, Replied, Saved, Back, Committed as CommittedAt, Aborted, Refused}
 use Rattle.mt_script.specs.declared.lines.Line.{Line}
 use Rattle.mt_server.specs.Heard.{Heard, Hears, IsEnd}
-use Rattle.mt_alone.specs.Plays.{Runs}
+use Rattle.mt_alone.specs.Plays.{OpenCalls, Runs}
 use Rattle.mt_server.specs.declared.attempts.Progress.{Progress}
 use Rattle.mt_server.specs.declared.attempts.Progress.TheVariants as progress
 use Rattle.mt_server.specs.declared.line_answers.Halt.{Halt}
 use Rattle.mt_server.specs.declared.line_answers.Halt.TheVariants as halt
 use Rattle.mt_locked.specs.Seen.{PassSeen, Extends}
+use Rattle.mt_locked.specs.Tokens.{TxnSeen}
 
 -- ---- a session beside its pass
 
@@ -29,10 +30,12 @@ entry_of pass session calls = record { pass = pass; done = record { session = se
 
 -- what its pass has seen grows by its commits, and by nothing else
 abbrev pub Grows : Base → ℕ → Place → Answer → PassSeen → Type 0
-Grows b session p (CommittedAt place) new = (calls : List Call) × (p.heard.under_way ≡ Some calls)
-    × Extends b p.pass (entry_of p.pass.number session calls) place new
+Grows b session p (CommittedAt place) new = (calls : OpenCalls) × (p.heard.under_way ≡ Some calls)
+    × Extends b p.pass (entry_of p.pass.number session calls.all) place new
 Grows b session p Begun new = new ≡ p.pass
 Grows b session p (Replied reply) new = new ≡ p.pass
+Grows b session p (Saved count) new = new ≡ p.pass
+Grows b session p (Back first) new = new ≡ p.pass
 Grows b session p Aborted new = new ≡ p.pass
 Grows b session p (Refused why) new = new ≡ p.pass
 
@@ -48,7 +51,7 @@ Served b session = Runs (Turns b session)
 abbrev pub between : List (ℕ × List Call) → PassSeen → Place
 between booked pass = record { heard = record { under_way = None; booked = booked }; pass = pass }
 
-abbrev pub within : List (ℕ × List Call) → List Call → PassSeen → Place
+abbrev pub within : List (ℕ × List Call) → OpenCalls → PassSeen → Place
 within booked calls pass = record { heard = record { under_way = Some calls; booked = booked }; pass = pass }
 
 -- lines had these answers, as text
@@ -60,19 +63,28 @@ pub record HasServed (b : Base) (session : ℕ) (start : Place) (lines : List Li
 
 -- ---- a line
 
+-- the calls of a token's transaction, and the token of one with these calls
+abbrev pub open_calls : TxnSeen → OpenCalls
+open_calls t = record { all = t.done.calls; counted = t.standing }
+
+abbrev pub token_of : ℕ → ℕ → OpenCalls → TxnSeen
+token_of pass session calls =
+    record { pass = pass; done = record { session = session; calls = calls.all }; standing = calls.counted }
+
 -- this is the token of the transaction that is open, if one is
-abbrev pub IsAt : ℕ → Option Entry → Place → Type 0
+abbrev pub IsAt : ℕ → Option TxnSeen → Place → Type 0
 IsAt session None p = p.heard.under_way ≡ None
-IsAt session (Some t) p = (p.heard.under_way ≡ Some t.done.calls) × (t ≡ entry_of p.pass.number session t.done.calls)
+IsAt session (Some t) p =
+    (p.heard.under_way ≡ Some (open_calls t)) × (t ≡ token_of p.pass.number session (open_calls t))
 
 -- while a transaction is open, nothing more is seen
-abbrev pub Waits : Option Entry → PassSeen → PassSeen → Type 0
+abbrev pub Waits : Option TxnSeen → PassSeen → PassSeen → Type 0
 Waits None old new = Unit {0}
 Waits (Some t) old new = new ≡ old
 
 -- A line within a transaction was answered. Its token is given back, unless it has ended.
-pub record IsTurned (b : Base) (session : ℕ) (start : Place) (line : Line) (was now : List ℕ) (token : Option Entry)
-    (new : PassSeen) : Type 0 where
+pub record IsTurned (b : Base) (session : ℕ) (start : Place) (line : Line) (was now : List ℕ)
+    (token : Option TxnSeen) (new : PassSeen) : Type 0 where
   pub end : Place
   pub pass_is : end.pass ≡ new
   pub at : IsAt session token end
@@ -89,13 +101,14 @@ IsStopped pass was now new halt.Failed =
     (new ≡ pass) × (now ≡ was ++ transcript_text (Refused refusal.DeviceFailed ∷ []))
 IsStopped pass was now new halt.Unheard = Unit {0}
 
-abbrev pub Turning : Base → Entry → PassSeen → Line → List ℕ → List ℕ → PassSeen → Result (Option Entry) Halt → Type 0
+abbrev pub Turning : Base → TxnSeen → PassSeen → Line → List ℕ → List ℕ → PassSeen
+    → Result (Option TxnSeen) Halt → Type 0
 Turning b txn pass line was now new (Ok token) = (booked : List (ℕ × List Call))
-    → IsTurned b txn.done.session (within booked txn.done.calls pass) line was now token new
+    → IsTurned b txn.done.session (within booked (open_calls txn) pass) line was now token new
 Turning b txn pass line was now new (Err stop) = IsStopped pass was now new stop
 
 -- what a line may come to if it only has an answer, and the transaction goes on
-abbrev pub Telling : Entry → PassSeen → List ℕ → List ℕ → PassSeen → Answer → Result (Option Entry) Halt → Type 0
+abbrev pub Telling : TxnSeen → PassSeen → List ℕ → List ℕ → PassSeen → Answer → Result (Option TxnSeen) Halt → Type 0
 Telling txn pass was now new answer (Ok token) =
     (token ≡ Some txn) × (new ≡ pass) × (now ≡ was ++ transcript_text (answer ∷ []))
 Telling txn pass was now new answer (Err stop) = IsStopped pass was now new stop
@@ -104,7 +117,7 @@ Telling txn pass was now new answer (Err stop) = IsStopped pass was now new stop
 
 -- lines had their answers, and this is the token of the transaction that is open then, if one is
 pub record Reached (b : Base) (session : ℕ) (start : Place) (lines : List Line) (was now : List ℕ)
-    (token : Option Entry) (pass : PassSeen) : Type 0 where
+    (token : Option TxnSeen) (pass : PassSeen) : Type 0 where
   pub end : Place
   pub pass_is : end.pass ≡ pass
   pub at : IsAt session token end

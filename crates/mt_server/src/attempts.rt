@@ -4,7 +4,7 @@ ghost use Rattle.mt_model.specs.History.{Call};
 ghost use Rattle.mt_model.specs.declared.tables.Base.{Base};
 ghost use Rattle.mt_script.specs.declared.lines.Line.{Line};
 ghost use Rattle.mt_script.specs.declared.lines.Line.TheVariants as line;
-ghost use Rattle.mt_server.specs.Hearing.{AreFew, Ending, Running, and_begin, between, within};
+ghost use Rattle.mt_server.specs.Hearing.{AreFew, Ending, Running, and_begin, between, open_calls, within};
 ghost use Rattle.mt_server.specs.declared.line_answers.Halt.TheVariants as halt;
 ghost use Rattle.mt_locked.specs.Refusals.{IsBeginRefusal};
 ghost use Rattle.mt_locked.specs.Seen.{PassSeen};
@@ -59,7 +59,7 @@ fn go_on<D: Device, G: Gate + Drop, J: Naming, R: Wait>(
 ) -> Result<Progress, Halt>
     requires own { txn.pass ≡ pass.old.number }
     ensures runs { (booked : List (ℕ × List Call)) → Running J.base txn.done.session
-        (within booked txn.done.calls pass.old) lines.now out.old.items out.new.items pass.new result }
+        (within booked (open_calls txn) pass.old) lines.now out.old.items out.new.items pass.new result }
     ensures lives { may_die ≡ false → IfErr result (λ outcome. outcome ≢ halt.Died) }
 {
     let mut kept = txn;

@@ -1,5 +1,5 @@
 // What a shared kernel answers to the lines of a transaction.
-ghost use Rattle.std.specs.Prelude.{◌≡◌, ◌≢◌, ◌++◌, ◌∷◌, [], false, ℕ, List, IfErr, OnOk};
+ghost use Rattle.std.specs.Prelude.{◌≡◌, ◌≢◌, ◌≤◌, ◌++◌, ◌∷◌, [], false, ℕ, List, IfErr, OnErr, OnOk, length};
 ghost use Rattle.mt_base.specs.declared.refusal.Refusal.{Refusal};
 ghost use Rattle.mt_model.specs.History.{Call};
 ghost use Rattle.mt_model.specs.declared.operations.Op.{Op};
@@ -7,7 +7,10 @@ ghost use Rattle.mt_model.specs.declared.operations.Reply.{Reply};
 ghost use Rattle.mt_script.specs.Answers.{transcript_text};
 ghost use Rattle.mt_script.specs.declared.answers.Answer.TheVariants as answer;
 ghost use Rattle.mt_script.specs.declared.lines.Line.TheVariants as line;
+ghost use Rattle.mt_server.specs.Heard.{IsSavepointCause};
 ghost use Rattle.mt_server.specs.Hearing.{IsStopped, Telling, Turning};
+ghost use Rattle.mt_locked.specs.Refusals.{IsBackRefusal};
+ghost use Rattle.mt_locked.specs.Tokens.{went_back};
 ghost use Rattle.mt_txn.specs.Causes.{IsCallRefusal};
 ghost use Rattle.mt_server.specs.declared.line_answers.Halt.TheVariants as halt;
 
@@ -108,7 +111,45 @@ pub(crate) fn take_back<D: Device, G: Gate + Drop, J: Naming, R: Wait>(
     unreachable!()
 }
 
-/// Refuses a line, and the transaction goes on. If there is no memory for that, it is taken back.
+/// Ends a transaction within which the device failed. That is the last answer.
+fn failed<D: Device, G: Gate + Drop, J: Naming, R: Wait>(
+    rt: &R,
+    hold: &mut Hold<'_, D, G, J>,
+    pass: &mut Pass<J>,
+    txn: Txn<J>,
+    out: &mut Vec<u8>,
+) -> Halt
+    ensures stops { IsStopped pass.old out.old.items out.new.items pass.new result }
+    ensures lives { result ≢ halt.Died }
+{
+    take_back(rt, hold, pass, txn);
+    fail(out)
+}
+
+/// Answers a line without the lock, and the transaction goes on. If there is no memory for that, it is taken back.
+fn answered<D: Device, G: Gate + Drop, J: Naming, R: Wait>(
+    rt: &R,
+    hold: &mut Hold<'_, D, G, J>,
+    pass: &mut Pass<J>,
+    txn: Txn<J>,
+    answer: &Answer,
+    out: &mut Vec<u8>,
+) -> Result<Option<Txn<J>>, Halt>
+    ensures tells { Telling txn pass.old out.old.items out.new.items pass.new answer.now result }
+    ensures lives { IfErr result (λ outcome. outcome ≢ halt.Died) }
+{
+    // a line that is no operation is not counted in the hold
+    hold.give_back();
+    match tell(out, answer) {
+        Ok(()) => Ok(Some(txn)),
+        Err(stop) => {
+            take_back(rt, hold, pass, txn);
+            Err(stop)
+        }
+    }
+}
+
+/// Refuses a line, as [`answered`].
 fn refused<D: Device, G: Gate + Drop, J: Naming, R: Wait>(
     rt: &R,
     hold: &mut Hold<'_, D, G, J>,
@@ -120,15 +161,7 @@ fn refused<D: Device, G: Gate + Drop, J: Naming, R: Wait>(
     ensures tells { Telling txn pass.old out.old.items out.new.items pass.new (answer.Refused why) result }
     ensures lives { IfErr result (λ outcome. outcome ≢ halt.Died) }
 {
-    // a line that is no operation is not counted in the hold
-    hold.give_back();
-    match refuse(out, why) {
-        Ok(()) => Ok(Some(txn)),
-        Err(stop) => {
-            take_back(rt, hold, pass, txn);
-            Err(stop)
-        }
-    }
+    answered(rt, hold, pass, txn, &Answer::Refused(why), out)
 }
 
 /// Answers a line by the last reply, and the transaction goes on.
@@ -199,10 +232,7 @@ fn stopped<D: Device, G: Gate + Drop, J: Naming, R: Wait>(
 {
     match why {
         Refusal::Die(_) => died(rt, hold, pass, txn, why, may_die, out),
-        Refusal::DeviceFailed => {
-            take_back(rt, hold, pass, txn);
-            Err(fail(out))
-        }
+        Refusal::DeviceFailed => Err(failed(rt, hold, pass, txn, out)),
         _ => refused(rt, hold, pass, txn, why, out),
     }
 }
@@ -228,6 +258,71 @@ fn call<D: Device, G: Gate + Drop, J: Naming, R: Wait>(
     match hold.run(rt, &mut kept, copy) {
         Ok(()) => replied(rt, hold, pass, kept, out),
         Err(why) => stopped(rt, hold, pass, kept, why, may_die, out),
+    }
+}
+
+/// Answers how many operations of a transaction count.
+fn save<D: Device, G: Gate + Drop, J: Naming, R: Wait>(
+    rt: &R,
+    hold: &mut Hold<'_, D, G, J>,
+    pass: &mut Pass<J>,
+    txn: Txn<J>,
+    out: &mut Vec<u8>,
+) -> Result<Option<Txn<J>>, Halt>
+    requires own { txn.pass ≡ pass.old.number }
+    ensures turns { Turning J.base txn pass.old line.Save out.old.items out.new.items pass.new result }
+    ensures lives { IfErr result (λ outcome. outcome ≢ halt.Died) }
+{
+    let count = txn.answered();
+    answered(rt, hold, pass, txn, &Answer::Saved(count), out)
+}
+
+/// Goes back to the first so many operations of a transaction that count. It is refused with 19 if and only if fewer do.
+fn go_back<D: Device, G: Gate + Drop, J: Naming, R: Wait>(
+    rt: &R,
+    hold: &mut Hold<'_, D, G, J>,
+    txn: &mut Txn<J>,
+    first: u16,
+) -> Result<(), Refusal>
+    ensures ok { OnOk result (txn.new ≡ went_back txn.old first) }
+    ensures err { OnErr result (txn.new ≡ txn.old) }
+    ensures may { OnOk result (first ≤ length txn.old.standing) }
+    ensures savepoint { IfErr result (IsSavepointCause (length txn.old.standing) first) }
+    ensures why { IfErr result IsBackRefusal }
+{
+    if first > txn.answered() {
+        return Err(Refusal::BadSavepoint);
+    }
+    'turns: for _ in rt.forever() {
+        match hold.back(rt, txn, first) {
+            // The kernel counts as the token does, so it has no cause for that.
+            Err(Refusal::BadSavepoint) => {}
+            outcome => return outcome,
+        }
+    }
+    unreachable!()
+}
+
+/// Goes back to the first so many operations of a transaction that count, and answers that.
+fn back<D: Device, G: Gate + Drop, J: Naming, R: Wait>(
+    rt: &R,
+    hold: &mut Hold<'_, D, G, J>,
+    pass: &mut Pass<J>,
+    txn: Txn<J>,
+    first: u16,
+    out: &mut Vec<u8>,
+) -> Result<Option<Txn<J>>, Halt>
+    requires own { txn.pass ≡ pass.old.number }
+    ensures turns { Turning J.base txn pass.old (line.Back first) out.old.items out.new.items pass.new result }
+    ensures lives { IfErr result (λ outcome. outcome ≢ halt.Died) }
+{
+    let mut kept = txn;
+    match go_back(rt, hold, &mut kept, first) {
+        Ok(()) => answered(rt, hold, pass, kept, &Answer::Back(first), out),
+        Err(why) => match why {
+            Refusal::DeviceFailed => Err(failed(rt, hold, pass, kept, out)),
+            _ => refused(rt, hold, pass, kept, why, out),
+        },
     }
 }
 
@@ -293,6 +388,8 @@ pub(crate) fn answer_line<D: Device, G: Gate + Drop, J: Naming, R: Wait>(
     match line {
         Line::Begin => refused(rt, hold, pass, txn, Refusal::Busy, out),
         Line::Call(op) => call(rt, hold, pass, txn, op, may_die, out),
+        Line::Save => save(rt, hold, pass, txn, out),
+        Line::Back(first) => back(rt, hold, pass, txn, *first, out),
         Line::Commit => commit(rt, hold, pass, txn, out),
         Line::Abort => abort(rt, hold, pass, txn, out),
     }

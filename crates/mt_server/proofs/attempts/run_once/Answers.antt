@@ -1,6 +1,5 @@
-use Rattle.std.proofs.Common.{◌≡◌, ◌∷◌, [], List, ap, subst, sym}
-use Rattle.mt_mark.specs.declared.view.Entry.{Entry}
-use Rattle.mt_server.specs.Hearing.{Running, between, within}
+use Rattle.std.proofs.Common.{◌∷◌, [], subst, sym}
+use Rattle.mt_server.specs.Hearing.{Running, between, open_calls, within}
 use Rattle.mt_server.proofs.AttemptLemmas.{few_ran, run_fresh}
 use Rattle.mt_script.specs.declared.lines.Line.TheVariants.{Begin}
 use Rattle.mt_locked.specs.Seen.{PassSeen}
@@ -19,5 +18,5 @@ returns-in-Err-clause-runs g c = λ booked.
 pub and_begin-requires : goal.and_begin-requires
 and_begin-requires g c = record {
   few =
-      few_ran g.J.Naming.base c.in-Ok.txn.done.session (within [] c.in-Ok.txn.done.calls c.begin.new.pass) c.args.lines.now _ _ c.go_on.new.pass c.go_on.result c.requires.room (c.go_on.ensures.runs []);
+      few_ran g.J.Naming.base c.in-Ok.txn.done.session (within [] (open_calls c.in-Ok.txn) c.begin.new.pass) c.args.lines.now _ _ c.go_on.new.pass c.go_on.result c.requires.room (c.go_on.ensures.runs []);
 }

@@ -1,4 +1,4 @@
-use Rattle.std.proofs.Common.{◌≡◌, ◌∷◌, [], ℕ, List, Ok, Err, arith, subst, sym, ◌∙◌}
+use Rattle.std.proofs.Common.{◌∷◌, [], Ok, Err, arith, subst, ◌∙◌}
 use Rattle.mt_script.specs.declared.lines.Line.TheVariants as line
 use Rattle.mt_server.specs.declared.line_answers.Halt.{Halt}
 use Rattle.mt_server.specs.declared.line_answers.Halt.TheVariants as halt

@@ -1,8 +1,6 @@
-use Rattle.std.proofs.Common.{◌≡◌, refl, subst, sym}
+use Rattle.std.proofs.Common.{refl}
 use Rattle.mt_base.specs.declared.refusal.Refusal.TheVariants as refusal
-use Rattle.mt_script.specs.declared.lines.Line.{Line}
 use Rattle.mt_script.specs.declared.lines.Line.TheVariants as line
-use Rattle.mt_server.specs.Hearing.{Turning}
 use Rattle.mt_server.proofs.HearingLemmas.{reported_refused}
 use Rattle.mt_server.proofs.line_answers.answer_line.Goals as goal
 

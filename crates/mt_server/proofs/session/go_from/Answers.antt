@@ -1,4 +1,4 @@
-use Rattle.std.proofs.Common.{◌≡◌, ◌∷◌, List, ◌+◌, suc, drop, arith, refl, subst, sym, add-one}
+use Rattle.std.proofs.Common.{◌∷◌, List, suc, refl, subst, add-one}
 use Rattle.mt_script.specs.declared.lines.Line.{Line}
 use Rattle.mt_script.specs.declared.lines.Line.TheVariants.{Begin}
 use Rattle.mt_server.specs.Hearing.{Running, between}

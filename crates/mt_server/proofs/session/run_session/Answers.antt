@@ -1,12 +1,10 @@
-use Rattle.std.proofs.Common.{false, true, ◌≡◌, ◌+◌, ◌≤◌, ℕ, List, Err, length, drop, arith, ap, refl, subst, sym}
+use Rattle.std.proofs.Common.{false, true, ℕ, List, Err, length, drop, arith, ap, subst, sym}
 use Rattle.mt_model.specs.History.{Call}
 use Rattle.mt_script.specs.declared.lines.Line.{Line}
 use Rattle.mt_script.specs.Scripts.{lines_in}
-use Rattle.mt_server.specs.Hearing.{HasFailed, HasRan, IsSession, Running, between}
+use Rattle.mt_server.specs.Hearing.{HasRan, IsSession, Running, between}
 use Rattle.mt_server.specs.declared.attempts.Progress.{Progress}
-use Rattle.mt_server.specs.declared.attempts.Progress.TheVariants as progress
 use Rattle.mt_server.specs.declared.line_answers.Halt.{Halt}
-use Rattle.mt_server.specs.declared.line_answers.Halt.TheVariants as halt
 use Rattle.mt_server.proofs.SessionRuns.{Stands, aborted_end, all_answered, at_start, failed_end, goes_on}
 use Rattle.mt_server.proofs.session.run_session.Goals as goal
 

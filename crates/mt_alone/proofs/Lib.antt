@@ -3,6 +3,7 @@ pub mod DueLemmas
 pub mod DriveLemmas
 pub mod ReturnLemmas
 pub mod UndoLemmas
+pub mod SavepointLemmas
 pub mod TurnLemmas
 pub mod CallLemmas
 pub mod RunLemmas

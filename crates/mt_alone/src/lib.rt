@@ -9,6 +9,7 @@
 
 mod alone;
 mod forces;
+mod laws;
 mod operation_steps;
 mod returns;
 mod rotation;
@@ -18,6 +19,7 @@ mod stops;
 mod turns;
 
 pub use alone::{RunFault, run_alone};
+pub use laws::what_counts_leads;
 pub use rotation::NotServed;
 pub use script_run::run_script;
 pub use sessions::{run_sessions, write_session};

@@ -1,0 +1,19 @@
+-- What going back does to a play.
+use Rattle.std.specs.Prelude.{ℕ, ◌≡◌, IfSome, List, None}
+use Rattle.mt_model.specs.History.{run, IsActed}
+use Rattle.mt_model.specs.Model.{Base, IsBase}
+use Rattle.mt_script.specs.declared.answers.Answer.{Answer}
+use Rattle.mt_script.specs.declared.lines.Line.{Line}
+use Rattle.mt_alone.specs.Plays.{HasPlayed, OpenCalls, Play}
+
+-- Those that count replied as they do alone on the base, and lead to where all of them lead.
+pub record AreLed (b : Base) (calls : OpenCalls) : Type 0 where
+  pub acted : IsActed b calls.counted
+  pub same : run b calls.all ≡ run b calls.counted
+
+-- It holds of the open transaction, whatever lines were played.
+abbrev pub WhatCountsLeads : Type 0
+WhatCountsLeads =
+    (relations counters : ℕ) (start end : Play) (lines : List Line) (answers : List Answer) → IsBase start.base
+    → start.under_way ≡ None → HasPlayed relations counters start lines answers end
+    → IfSome end.under_way (AreLed end.base)

@@ -154,7 +154,8 @@ module _ {D : Type 0} {g : Ghosts D} where
   -- a step of the operation of one that is alone: it goes on, nearer to its end, or ends with the model's reply
   abbrev pub IsMoved : Play → ℕ → OpenCalls → Op → Kernel D g → Result Stepped Refusal → Kernel D g → Type 0
   IsMoved p t calls op k (Ok (step.Replied reply)) n =
-      (reply ≡ reply_of (run p.base calls.all) op) × IsOpened p t (with_one calls (op, reply_of (run p.base calls.all) op)) n
+      (reply ≡ reply_of (run p.base calls.all) op)
+      × IsOpened p t (with_one calls (op, reply_of (run p.base calls.all) op)) n
   IsMoved p t calls op k (Ok step.Went) n = IsCalling p t calls op n × (kernel_steps n t < kernel_steps k t)
   IsMoved p t calls op k (Ok (step.Wait other)) n = ⊥
   IsMoved p t calls op k (Ok step.Again) n = ⊥
@@ -168,7 +169,8 @@ module _ {D : Type 0} {g : Ghosts D} where
   -- all of them
   abbrev pub IsReplied : Play → ℕ → OpenCalls → Op → Result Reply Refusal → Kernel D g → Type 0
   IsReplied p t calls op (Ok reply) n =
-      (reply ≡ reply_of (run p.base calls.all) op) × IsOpened p t (with_one calls (op, reply_of (run p.base calls.all) op)) n
+      (reply ≡ reply_of (run p.base calls.all) op)
+      × IsOpened p t (with_one calls (op, reply_of (run p.base calls.all) op)) n
   IsReplied p t calls op (Err why) n = IsGivenUp p n why
 
   abbrev pub HasReplied : Kernel D g → ℕ → Result Reply Refusal → Kernel D g → Type 0
@@ -198,13 +200,13 @@ module _ {D : Type 0} {g : Ghosts D} where
       (p : Play) (n : ℕ) (had : OpenCalls) → IsReturning p t n had k → IsNearer p t n had k result m
 
   -- all of them
-  abbrev pub IsReturned : {U : Type 0} → Play → ℕ → ℕ → OpenCalls → Result U Refusal → Kernel D g → Type 0
-  IsReturned p t n had (Ok done) m = IsOpened p t (back_to p.base had n) m
-  IsReturned p t n had (Err why) m = IsGivenUp p m why
+  abbrev pub IsGoneBack : {U : Type 0} → Play → ℕ → ℕ → OpenCalls → Result U Refusal → Kernel D g → Type 0
+  IsGoneBack p t n had (Ok done) m = IsOpened p t (back_to p.base had n) m
+  IsGoneBack p t n had (Err why) m = IsGivenUp p m why
 
-  abbrev pub HasReturned : {U : Type 0} → Kernel D g → ℕ → Result U Refusal → Kernel D g → Type 0
-  HasReturned k t result m = (p : Play) (n : ℕ) (had : OpenCalls) → IsReturning p t n had k
-      → kernel_undo_steps k t ≤ 631 * (2 * MAX_PAGES + 10) → IsReturned p t n had result m
+  abbrev pub HasGoneBack : {U : Type 0} → Kernel D g → ℕ → Result U Refusal → Kernel D g → Type 0
+  HasGoneBack k t result m = (p : Play) (n : ℕ) (had : OpenCalls) → IsReturning p t n had k
+      → kernel_undo_steps k t ≤ 631 * (2 * MAX_PAGES + 10) → IsGoneBack p t n had result m
 
   -- a step of its abort
   abbrev pub IsBacked : Play → ℕ → Kernel D g → Result AbortStepped Refusal → Kernel D g → Type 0

@@ -62,8 +62,8 @@ back_to b calls n = record {
 abbrev pub with_call : Play → OpenCalls → Op → Play
 with_call p calls op = record p { under_way = Some (with_one calls (op, reply_of (run p.base calls.all) op)) }
 
-abbrev pub gone_back : Play → OpenCalls → ℕ → Play
-gone_back p calls n = record p { under_way = Some (back_to p.base calls n) }
+abbrev pub returned_to : Play → OpenCalls → ℕ → Play
+returned_to p calls n = record p { under_way = Some (back_to p.base calls n) }
 
 abbrev pub committed : Play → OpenCalls → Play
 committed p calls = record p {
@@ -86,7 +86,7 @@ after_at p None line.Abort = p
 after_at p (Some calls) line.Begin = p
 after_at p (Some calls) (line.Call op) = with_call p calls op
 after_at p (Some calls) line.Save = p
-after_at p (Some calls) (line.Back n) = gone_back p calls n
+after_at p (Some calls) (line.Back n) = returned_to p calls n
 after_at p (Some calls) line.Commit = committed p calls
 after_at p (Some calls) line.Abort = put_off p
 

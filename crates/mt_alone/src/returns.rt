@@ -1,6 +1,6 @@
 // A transaction taken back to where its first so many operations had ended.
 ghost use Rattle.mt_txn.specs.Shown.{SameSchema, StaysRestarting};
-ghost use Rattle.mt_alone.specs.Driven.{HasNeared, HasReturned};
+ghost use Rattle.mt_alone.specs.Driven.{HasNeared, HasGoneBack};
 
 use crate::forces::{ASKED_AGAIN, make_room, wants_memory};
 use crate::operation_steps::{ABORT_STEPS, abort_wants_frame};
@@ -28,7 +28,7 @@ pub fn ask_return<D: Device>(kernel: &mut Kernel<D>, txn: TxnNo) -> Result<Abort
 /// Takes a transaction that goes back to its end of that: each step leaves less of its work. Refused as its steps are,
 /// and by `Busy` if another transaction was in the way, which in a run alone none is.
 pub fn go_back<D: Device>(kernel: &mut Kernel<D>, txn: TxnNo) -> Result<(), Refusal>
-    ensures returned { HasReturned kernel.old txn result kernel.new }
+    ensures returned { HasGoneBack kernel.old txn result kernel.new }
     ensures schema { SameSchema kernel.old kernel.new }
     ensures restarts { StaysRestarting kernel.old kernel.new }
 {

@@ -12,7 +12,7 @@ use Rattle.mt_model.specs.declared.history.Committed.{Committed}
 use Rattle.mt_script.specs.Answers.{AppendsFront}
 use Rattle.mt_script.specs.declared.answers.Answer.{Answer}
 use Rattle.mt_script.specs.declared.lines.Line.{Line}
-use Rattle.mt_server.specs.Heard.{AreReported, IsEnd, ends, fails}
+use Rattle.mt_server.specs.Heard.{AreAllReported, IsEnd, ends, fails}
 use Rattle.mt_server.specs.Serves.{IsServedOn}
 use Rattle.mt_txn.specs.Restarted.{FindsCommits}
 use Rattle.mt_txn.specs.Shown.{Restarts, is_failed}
@@ -32,7 +32,7 @@ end_anyway : (failed : Bool) (u : Option (List Call)) (rest : List Line) (last :
 end_anyway failed u _ _ ends = ends
 end_anyway failed u _ _ (fails rest has) = fails rest refl
 
-reported_anyway : (failed : Bool) (scripts : List (List Line)) (texts : List (List ℕ)) (book : List Committed) → AreReported failed scripts texts book → AreReported true scripts texts book
+reported_anyway : (failed : Bool) (scripts : List (List Line)) (texts : List (List ℕ)) (book : List Committed) → AreAllReported failed scripts texts book → AreAllReported true scripts texts book
 reported_anyway failed scripts texts book x = record {
   count = x.count;
   booked = x.booked;
@@ -58,14 +58,14 @@ reported_anyway failed scripts texts book x = record {
 
 module _ {D : Type 0} {g : Ghosts D} where
   -- it is so of a kernel that is or is not cut off
-  pub served_at_once : (c : List ℕ) (scripts : List (List Line)) (texts : List (List ℕ)) (n : Kernel D g) (d : List ℕ) → IsServedOn c n → AreReported (is_failed n) scripts texts n.core.book.items
+  pub served_at_once : (c : List ℕ) (scripts : List (List Line)) (texts : List (List ℕ)) (n : Kernel D g) (d : List ℕ) → IsServedOn c n → AreAllReported (is_failed n) scripts texts n.core.book.items
       → ((first : Base) → Restarts first n → ∥ FindsCommits n.relations n.counters first n.core d ∥₁) → (cut : Bool) → (cut ≡ false → HasNobody n × (is_failed n ≡ false)) → AreServedAtOnce cut c scripts texts d
   served_at_once c scripts texts n d x outcome finds false rests = record {
     first = x.first;
     is = x.is;
     book = n.core.book.items;
     legal = x.legal;
-    outcome = subst (λ (f : Bool). AreReported f scripts texts n.core.book.items) (rests refl).1 outcome;
+    outcome = subst (λ (f : Bool). AreAllReported f scripts texts n.core.book.items) (rests refl).1 outcome;
     relations = n.relations;
     counters = n.counters;
     stands = stands_book (base_of x.first) n d (rests refl).0 x.began.1 (finds (base_of x.first) x.began.1);

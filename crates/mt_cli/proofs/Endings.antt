@@ -9,7 +9,7 @@ use Rattle.mt_args.specs.declared.command.Command.{Command}
 use Rattle.mt_args.specs.declared.command.Command.TheVariants.{Try, Schedule, Check, Format, Dump, Explain, Migrate, Run, Show}
 use Rattle.mt_report.specs.declared.faults.Fault.{Fault}
 use Rattle.mt_report.specs.declared.faults.Fault.TheVariants.{Output}
-use Rattle.mt_cli.specs.Performs.{Around, HaveRun, IsDone, IsGivenUp, IsReported, IsScheduled, IsTried, IsUndone, IsUnscheduled, unheard}
+use Rattle.mt_cli.specs.Performs.{Around, HaveRun, IsDone, IsGivenUp, IsReported, IsScheduled, IsTrial, IsUndone, IsUnscheduled, unheard}
 use Rattle.mt_report.specs.Advice.{IsReportedOf}
 use Rattle.mt_device_commands.specs.Checks.{HasChecked}
 use Rattle.mt_device_commands.specs.Dumps.{HasDumped}
@@ -32,7 +32,7 @@ keeps_kept (Some x) None c p q = absurd p
 keeps_kept (Some x) (Some y) None p q = absurd q
 keeps_kept (Some x) (Some y) (Some z) p q = q ∙ p
 
-tried_kept : {D : Type 0} (g : Ghosts D) (stop : Bool) (bytes was mid now : Option (List ℕ)) → IsTried g stop bytes was mid → Keeps mid now → IsTried g stop bytes was now
+tried_kept : {D : Type 0} (g : Ghosts D) (stop : Bool) (bytes was mid now : Option (List ℕ)) → IsTrial g stop bytes was mid → Keeps mid now → IsTrial g stop bytes was now
 tried_kept g stop bytes was mid now done kept =
     let t = done.tried.2 in record {
       tried = (

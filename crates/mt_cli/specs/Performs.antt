@@ -85,7 +85,7 @@ pub record HasTried {D : Type 0} (g : Ghosts D) (stop : Bool) (ending : Option S
   pub outcome : Appends was now (transcript_text (answers ++ last_line last.0.under_way))
 
 -- those that the bytes spell, if they are known
-pub record IsTried {D : Type 0} (g : Ghosts D) (stop : Bool) (bytes was now : Option (List ℕ)) : Type 0 where
+pub record IsTrial {D : Type 0} (g : Ghosts D) (stop : Bool) (bytes was now : Option (List ℕ)) : Type 0 where
   pub tried : (lines : List Line) × IfSome bytes (λ bs. IsScript bs lines) × HasTried g stop None lines was now
 
 -- a kernel over such a device, formatted for that schema, answered these events so, and did what the answers say
@@ -118,7 +118,7 @@ HasFrameCount _ = ⊤
 -- what a command leaves on the output once it is done, and of the files
 abbrev pub IsDone : {D : Type 0} → Ghosts D → Command → Around → Option (List ℕ) → Option (List ℕ) → Type 0
 IsDone g (Try script stop) a was now =
-    IsTried g stop (source_of a.before (option_map string_bytes script) a.input) was now × AreKept a.before a.after
+    IsTrial g stop (source_of a.before (option_map string_bytes script) a.input) was now × AreKept a.before a.after
 IsDone g (Schedule file) a was now =
     IsScheduled g (source_of a.before (option_map string_bytes file) a.input) was now × AreKept a.before a.after
 IsDone g (Check file pages wait) a was now =

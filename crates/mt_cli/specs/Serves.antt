@@ -12,7 +12,7 @@ use Rattle.mt_model.specs.declared.history.Committed.{Committed}
 use Rattle.mt_model.specs.declared.tables.Base.{Base as Tables}
 use Rattle.mt_replay.specs.Stands.{CanRestart}
 use Rattle.mt_script.specs.Answers.{AppendsFront}
-use Rattle.mt_server.specs.Heard.{AreReported}
+use Rattle.mt_server.specs.Heard.{AreAllReported}
 use Rattle.mt_alone.specs.Plays.{Play, HasPlayed}
 use Rattle.mt_alone.specs.Runs.{IsReportedFor}
 use Rattle.mt_server.specs.Serves.{IsUnserved}
@@ -188,7 +188,7 @@ pub record AreServedAtOnce (failed : Bool) (c : List ℕ) (scripts : List (List 
   pub is : IsBaseOf c first
   pub book : List Committed
   pub legal : IsLegal (base_of first) book
-  pub outcome : AreReported failed scripts texts book
+  pub outcome : AreAllReported failed scripts texts book
   pub relations : ℕ
   pub counters : ℕ
   pub stands : StandForBook failed relations counters (base_of first) book d

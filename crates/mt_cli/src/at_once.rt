@@ -4,7 +4,7 @@ ghost use Rattle.std.specs.Io.KnownBytes.{Appends};
 ghost use Rattle.mt_restart.specs.Frames.{IsFrameCount};
 ghost use Rattle.mt_script.specs.Answers.{AppendsFront};
 ghost use Rattle.mt_script.specs.declared.lines.Line.{Line};
-ghost use Rattle.mt_server.specs.Heard.{AreReported};
+ghost use Rattle.mt_server.specs.Heard.{AreAllReported};
 ghost use Rattle.mt_server.specs.Serves.{IsServedOn, IsUnserved};
 ghost use Rattle.mt_script.specs.Scripts.{lines_in};
 ghost use Rattle.mt_txn.specs.Shown.{is_failed};
@@ -47,7 +47,7 @@ fn is_cut_off<D: Device>(kernel: &Kernel<D>) -> bool
 /// Takes the device out of a kernel under all sessions.
 fn left_behind<D: Device + Drop>(kernel: Kernel<D>, transcripts: Vec<Transcript>) -> Behind<D>
     ensures { (c : List ℕ) (scripts : List (List Line)) → IsServedOn c kernel
-        → AreReported (is_failed kernel) scripts transcripts.items (kernel_book kernel)
+        → AreAllReported (is_failed kernel) scripts transcripts.items (kernel_book kernel)
         → AreServedAtOnce result.has_failed c scripts result.transcripts.items (D.seen result.device) }
 {
     let has_failed = is_cut_off(&kernel);

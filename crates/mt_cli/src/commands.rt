@@ -5,7 +5,7 @@ ghost use Rattle.mt_script.specs.Answers.{AppendsFront};
 ghost use Rattle.mt_args.specs.CommandLines.{IsMistaken};
 ghost use Rattle.mt_folder.specs.Folders.{AreKept, IsUnmade};
 ghost use Rattle.mt_report.specs.declared.faults.Fault.{Fault};
-ghost use Rattle.mt_cli.specs.Performs.{IsFirstSchema, StandsFirst, HasTried, HaveRun, IsTried, IsScheduled, IsCutTrial, IsUntried, IsUnscheduled, IsDone, IsUndone, HasFrameCount, IsWordsDone, IsGivenUp, IsWordsGivenUp, IsReported, IsWordsReported, Around};
+ghost use Rattle.mt_cli.specs.Performs.{IsFirstSchema, StandsFirst, HasTried, HaveRun, IsTrial, IsScheduled, IsCutTrial, IsUntried, IsUnscheduled, IsDone, IsUndone, HasFrameCount, IsWordsDone, IsGivenUp, IsWordsGivenUp, IsReported, IsWordsReported, Around};
 ghost use Rattle.mt_report.specs.Advice.{IsReportedOf};
 ghost use Rattle.mt_cli.specs.Reads.{source_of};
 ghost use Rattle.std.specs.Io.KnownBytes.{Appends, Keeps};
@@ -153,7 +153,7 @@ fn perform_try<F: Folder, I: Read, O: Write>(
     input: &mut I,
     out: &mut O,
 ) -> Result<(), Fault>
-    ensures tried { OnOk result (IsTried ⟦<MemDevice as Device>⟧ stop
+    ensures tried { OnOk result (IsTrial ⟦<MemDevice as Device>⟧ stop
         (source_of (F.files folder.old) (option_map (λ n. n.now) name.entry) (I.remaining input.old))
         (O.contents out.old) (O.contents out.new)) }
     ensures untried { IfErr result (IsUntried ⟦<MemDevice as Device>⟧ stop

@@ -9,7 +9,7 @@ use Rattle.mt_model.specs.declared.history.Committed.{Committed}
 use Rattle.mt_model.specs.declared.tables.Base.{Base}
 use Rattle.mt_script.specs.declared.lines.Line.{Line}
 use Rattle.mt_server.specs.Crews.{IsBlank, IsBoard, IsFull}
-use Rattle.mt_server.specs.Heard.{AreReported, all_booked}
+use Rattle.mt_server.specs.Heard.{AreAllReported, all_booked}
 use Rattle.mt_server.proofs.HeardLemmas.{reported_failing}
 use Rattle.mt_server.specs.declared.board.Board.{Board}
 use Rattle.mt_restart.specs.Recovered.{IsCauseToStop}
@@ -43,7 +43,7 @@ blank_board scripts board book blank = record {
   counted = none_booked (length scripts);
 }
 
-pub board_reported : (failed : Bool) (scripts : List (List Line)) (board : Board) (book : List Committed) (count : ℕ) → IsBoard scripts board book count → IsFull board → (board.has_failed ≡ true → failed ≡ true) → length book ≡ count → AreReported failed scripts board.texts.items book
+pub board_reported : (failed : Bool) (scripts : List (List Line)) (board : Board) (book : List Committed) (count : ℕ) → IsBoard scripts board book count → IsFull board → (board.has_failed ≡ true → failed ≡ true) → length book ≡ count → AreAllReported failed scripts board.texts.items book
 board_reported failed scripts board book count b full may many = record {
   count = b.texts;
   booked = b.booked;

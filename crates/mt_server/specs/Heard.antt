@@ -15,6 +15,7 @@ use Rattle.mt_script.specs.declared.lines.Line.TheVariants as line
 use Rattle.mt_alone.specs.Plays.{OpenCalls, Runs, no_calls, with_one}
 use Rattle.mt_alone.specs.Runs.{last_line}
 use Rattle.mt_locked.specs.Refusals.{IsBackRefusal, IsBeginRefusal, IsCommitRefusal}
+use Rattle.mt_shared.specs.Refusals.{IsSavepointCause}
 use Rattle.mt_txn.specs.Causes.{IsCallRefusal, size_cause}
 
 -- ---- answers
@@ -37,11 +38,6 @@ abbrev pub LetsLive : Refusal → Type 0
 LetsLive (refusal.Die holder) = ⊥
 LetsLive why = LetsGoOn why
 
--- going back to the first so many operations that count has 19 if, and only if, fewer count
-abbrev pub IsSavepointCause : ℕ → ℕ → Refusal → Type 0
-IsSavepointCause count first refusal.BadSavepoint = count < first
-IsSavepointCause count first why = first ≤ count
-
 -- A line may be refused so, and the session goes on: by 15 what is not a begin, and by nothing else, if no
 -- transaction is open; by 16 a begin if one is. Else a begin, an operation, a commit and going back each have the
 -- refusals that a shared kernel has for it. A save and an abort are not refused. Nor is anything by 2; and an operation
@@ -63,8 +59,8 @@ IsRefusable (Some calls) line.Abort why = ⊥
 
 -- The calls once the transaction went back to the first so many that count. The inverses of the others are calls then,
 -- the last one's first.
-abbrev pub went_back : OpenCalls → ℕ → OpenCalls
-went_back calls first =
+abbrev pub back_at : OpenCalls → ℕ → OpenCalls
+back_at calls first =
     record { all = calls.all ++ calls_back (drop first calls.counted); counted = take first calls.counted }
 
 -- An answer to a line. What is replied to lies within its limits. A save counts the operations that count. What going
@@ -76,7 +72,7 @@ pub data Hears (h : Heard) : Line → Answer → Heard → Type 0 where
       → Hears h (line.Call op) (Replied reply) (record h { under_way = Some (with_one calls (op, reply)) })
   saves : (calls : OpenCalls) → h.under_way ≡ Some calls → Hears h line.Save (Saved (length calls.counted)) h
   goes_back : (calls : OpenCalls) (first : ℕ) → h.under_way ≡ Some calls → first ≤ length calls.counted
-      → Hears h (line.Back first) (Back first) (record h { under_way = Some (went_back calls first) })
+      → Hears h (line.Back first) (Back first) (record h { under_way = Some (back_at calls first) })
   commits : (calls : OpenCalls) (place : ℕ) → h.under_way ≡ Some calls → Hears h line.Commit (CommittedAt place)
       (record { under_way = None; booked = h.booked ++ (place, calls.all) ∷ [] })
   aborts : (calls : OpenCalls) → h.under_way ≡ Some calls → Hears h line.Abort Aborted (record h { under_way = None })
@@ -130,7 +126,7 @@ all_booked (booked ∷ more) = length booked + all_booked more
 
 -- There is one for each script, in their order, of which the first is session 1. The book has no commit but those
 -- that they tell.
-pub record AreReported (failed : Bool) (scripts : List (List Line)) (texts : List (List ℕ))
+pub record AreAllReported (failed : Bool) (scripts : List (List Line)) (texts : List (List ℕ))
     (book : List Committed) : Type 0 where
   pub count : length texts ≡ length scripts
   pub booked : List (List (ℕ × List Call))

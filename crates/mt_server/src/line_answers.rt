@@ -1,5 +1,5 @@
 // What a shared kernel answers to the lines of a transaction.
-ghost use Rattle.std.specs.Prelude.{◌≡◌, ◌≢◌, ◌≤◌, ◌++◌, ◌∷◌, [], false, ℕ, List, IfErr, OnErr, OnOk, length};
+ghost use Rattle.std.specs.Prelude.{◌≡◌, ◌≢◌, ◌++◌, ◌∷◌, [], false, ℕ, List, IfErr, OnOk};
 ghost use Rattle.mt_base.specs.declared.refusal.Refusal.{Refusal};
 ghost use Rattle.mt_model.specs.History.{Call};
 ghost use Rattle.mt_model.specs.declared.operations.Op.{Op};
@@ -7,10 +7,7 @@ ghost use Rattle.mt_model.specs.declared.operations.Reply.{Reply};
 ghost use Rattle.mt_script.specs.Answers.{transcript_text};
 ghost use Rattle.mt_script.specs.declared.answers.Answer.TheVariants as answer;
 ghost use Rattle.mt_script.specs.declared.lines.Line.TheVariants as line;
-ghost use Rattle.mt_server.specs.Heard.{IsSavepointCause};
 ghost use Rattle.mt_server.specs.Hearing.{IsStopped, Telling, Turning};
-ghost use Rattle.mt_locked.specs.Refusals.{IsBackRefusal};
-ghost use Rattle.mt_locked.specs.Tokens.{went_back};
 ghost use Rattle.mt_txn.specs.Causes.{IsCallRefusal};
 ghost use Rattle.mt_server.specs.declared.line_answers.Halt.TheVariants as halt;
 
@@ -277,32 +274,6 @@ fn save<D: Device, G: Gate + Drop, J: Naming, R: Wait>(
     answered(rt, hold, pass, txn, &Answer::Saved(count), out)
 }
 
-/// Goes back to the first so many operations of a transaction that count. It is refused with 19 if and only if fewer do.
-fn go_back<D: Device, G: Gate + Drop, J: Naming, R: Wait>(
-    rt: &R,
-    hold: &mut Hold<'_, D, G, J>,
-    txn: &mut Txn<J>,
-    first: u16,
-) -> Result<(), Refusal>
-    ensures ok { OnOk result (txn.new ≡ went_back txn.old first) }
-    ensures err { OnErr result (txn.new ≡ txn.old) }
-    ensures may { OnOk result (first ≤ length txn.old.standing) }
-    ensures savepoint { IfErr result (IsSavepointCause (length txn.old.standing) first) }
-    ensures why { IfErr result IsBackRefusal }
-{
-    if first > txn.answered() {
-        return Err(Refusal::BadSavepoint);
-    }
-    'turns: for _ in rt.forever() {
-        match hold.back(rt, txn, first) {
-            // The kernel counts as the token does, so it has no cause for that.
-            Err(Refusal::BadSavepoint) => {}
-            outcome => return outcome,
-        }
-    }
-    unreachable!()
-}
-
 /// Goes back to the first so many operations of a transaction that count, and answers that.
 fn back<D: Device, G: Gate + Drop, J: Naming, R: Wait>(
     rt: &R,
@@ -317,7 +288,7 @@ fn back<D: Device, G: Gate + Drop, J: Naming, R: Wait>(
     ensures lives { IfErr result (λ outcome. outcome ≢ halt.Died) }
 {
     let mut kept = txn;
-    match go_back(rt, hold, &mut kept, first) {
+    match hold.back(rt, &mut kept, first) {
         Ok(()) => answered(rt, hold, pass, kept, &Answer::Back(first), out),
         Err(why) => match why {
             Refusal::DeviceFailed => Err(failed(rt, hold, pass, kept, out)),

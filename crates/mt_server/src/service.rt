@@ -5,7 +5,7 @@ ghost use mathlib.Core.List.{IsPrefix};
 ghost use Rattle.mt_mark.specs.Rule.{dones};
 ghost use Rattle.mt_model.specs.declared.history.Committed.{Committed};
 ghost use Rattle.mt_server.specs.Crews.{IsBoard};
-ghost use Rattle.mt_server.specs.Heard.{AreReported};
+ghost use Rattle.mt_server.specs.Heard.{AreAllReported};
 ghost use Rattle.mt_server.specs.Serves.{IsLate, IsOpenedWith, IsServedOn, IsUnserved};
 ghost use Rattle.mt_shared.specs.Opens.{HasBegunWith};
 ghost use Rattle.mt_script.specs.Scripts.{lines_in};
@@ -52,7 +52,7 @@ fn close<D: Device + Drop, G: Gate + Drop, J: Naming>(
     requires placed { (book : List Committed) → All (λ (p : PassSeen). IsPrefix (dones p.seen) book) passes.items
         → IsBoard (map lines_in scripts.now) board book (all_own passes.items) }
     ensures outcome { IfOk result (λ s.
-        AreReported (is_failed s.kernel) (map lines_in scripts.now) s.transcripts.items (kernel_book s.kernel)) }
+        AreAllReported (is_failed s.kernel) (map lines_in scripts.now) s.transcripts.items (kernel_book s.kernel)) }
     ensures began { IfOk result (λ s. BeganOn J.base s.kernel) }
     ensures idle { IfOk result (λ s. is_failed s.kernel ≡ false → IsIdle s.kernel) }
     ensures late { IfErr result IsLate }
@@ -108,7 +108,7 @@ fn serve_named<
     requires first { opened.book ≡ [] }
     requires few { length scripts.now ≤ MAX_SESSIONS }
     ensures outcome { IfOk result (λ s.
-        AreReported (is_failed s.kernel) (map lines_in scripts.now) s.transcripts.items (kernel_book s.kernel)) }
+        AreAllReported (is_failed s.kernel) (map lines_in scripts.now) s.transcripts.items (kernel_book s.kernel)) }
     ensures began { IfOk result (λ s. BeganOn opened.base s.kernel) }
     ensures frames { IfOk result (λ _. HasBegunWith ⟦<D as Device>⟧ opened.frames opened.base) }
     ensures idle { IfOk result (λ s. is_failed s.kernel ≡ false → IsIdle s.kernel) }
@@ -170,7 +170,7 @@ pub fn serve<D: Device + Drop + Send, G: Gate + Drop + Send + Sync, R: Threads +
 ) -> Result<Served<D>, Refusal>
     requires frames { IsFrameCount frames }
     ensures outcome { IfOk result (λ s.
-        AreReported (is_failed s.kernel) (map lines_in scripts.items) s.transcripts.items (kernel_book s.kernel)) }
+        AreAllReported (is_failed s.kernel) (map lines_in scripts.items) s.transcripts.items (kernel_book s.kernel)) }
     ensures began { IfOk result (λ s. IsServedOn (D.seen device) s.kernel) }
     ensures frames { IfOk result (λ _. IsOpenedWith ⟦<D as Device>⟧ frames (D.seen device)) }
     ensures idle { IfOk result (λ s. is_failed s.kernel ≡ false → IsIdle s.kernel) }

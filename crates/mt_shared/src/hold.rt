@@ -1,10 +1,12 @@
 // The lock of what is shared, kept from one call of a thread to its next. So it is taken once for a few calls.
 // All others wait meanwhile: a hold ends after 18 calls, and before a thread sleeps.
-ghost use Rattle.std.specs.Prelude.{◌≡◌, ◌≢◌, ◌↔◌, None, IfOk, IfErr, OnOk, OnErr, IfSome};
+ghost use Rattle.std.specs.Prelude.{◌≡◌, ◌≢◌, ◌↔◌, ◌⊎◌, ◌≤◌, ℕ, Err, None, IfOk, IfErr, OnOk, OnErr, IfSome, length};
 ghost use Rattle.mt_base.specs.declared.refusal.Refusal.TheVariants.{DeviceFailed, NoMemory, Stranger};
 ghost use Rattle.mt_model.specs.declared.operations.Reply.{Reply};
-ghost use Rattle.mt_locked.specs.Refusals.{IsAbortRefusal, IsBeginRefusal, IsCommitRefusal};
-ghost use Rattle.mt_locked.specs.Seen.{Extends, fresh, with_call};
+ghost use Rattle.mt_locked.specs.Refusals.{IsAbortRefusal, IsBackRefusal, IsBeginRefusal, IsCommitRefusal, IsRoomRefusal};
+ghost use Rattle.mt_locked.specs.Seen.{Extends};
+ghost use Rattle.mt_locked.specs.Tokens.{entry_of, fresh, went_back, with_call};
+ghost use Rattle.mt_shared.specs.Refusals.{IsSavepointCause};
 ghost use Rattle.mt_txn.specs.Causes.{IsCallRefusal, size_cause};
 
 use crate::gate::{Gate, Point};
@@ -22,14 +24,15 @@ use std::sync::{MutexGuard, Wait};
 /// Calls that one hold of the lock has at most: a begin, 16 operations, and a commit or one operation more.
 const CALLS: u8 = 18;
 
-/// Steps of one operation in one hold of the lock. Others may have it then, since a scan may take thousands.
+/// Steps of one operation, or of undoing, in one hold of the lock. Others may have it then, since a scan may take
+/// thousands.
 const STEPS: u64 = 64;
 
 /// A thread's calls of what is shared, which keep its lock from one to the next. So a transaction of at most 16
 /// operations is begun and run, and its commit appended, in one hold of the lock.
 ///
-/// The lock is given back after as many calls, after 64 steps of one operation, while a call waits or a force is made,
-/// at the end of a transaction, if a call is refused, and if this is dropped. It is not kept if the observer wants to
+/// The lock is given back after as many calls, after 64 steps of one operation or of undoing, while a call waits or a
+/// force is made, at the end of a transaction, if a call is refused, and if this is dropped. It is not kept if the observer wants to
 /// be called at a point before a transaction's end. All others wait for it meanwhile, so who keeps it makes its next
 /// call soon, or gives it back. The calls answer what those of [`Shared`] of the same names answer.
 pub struct Hold<'a, D: Device, G: Gate + Drop, J: Naming> {
@@ -174,14 +177,14 @@ impl<'a, D: Device, G: Gate + Drop, J: Naming> Hold<'a, D, G, J> {
         let (number, session) = (txn.number(), txn.session());
         // out of the token meanwhile, if it is known that there is room for one more
         let mut calls = take_calls(txn);
-        if calls.reserve(1).is_err() {
+        if calls.reserve().is_err() {
             self.give_back();
             put_calls(txn, calls);
             return Err(Refusal::NoMemory);
         }
         match self.replied(rt, number, session, &op) {
             Ok(reply) => {
-                calls.push_reserved((op, reply));
+                calls.push(op, reply);
                 put_calls(txn, calls);
                 Ok(())
             }
@@ -355,6 +358,7 @@ impl<'a, D: Device, G: Gate + Drop, J: Naming> Hold<'a, D, G, J> {
             self.stir();
             return Err(self.shared.refusing(why));
         }
+        let mut steps: u64 = 0;
         for _ in rt.forever() {
             match locked.abort_step(number) {
                 Ok(AbortStepped::Ended) => {
@@ -362,17 +366,115 @@ impl<'a, D: Device, G: Gate + Drop, J: Naming> Hold<'a, D, G, J> {
                     self.shared.taken_back(locked);
                     return Ok(());
                 }
-                Ok(AbortStepped::More) => self.shared.moved.notify_all(),
-                Ok(AbortStepped::Flush) => match locked.make_room() {
-                    Ok(()) => self.shared.moved.notify_all(),
-                    Err(why) => locked = self.outlast(rt, locked, why)?,
-                },
-                Ok(AbortStepped::Again) => {
-                    self.has_moved = true;
-                    locked = self.sleep(rt, locked);
+                stepped => {
+                    steps = steps.wrapping_add(1);
+                    locked = self.after_undo(rt, locked, stepped, steps)?;
                 }
-                Ok(AbortStepped::Wait(_)) => locked = self.sleep(rt, locked),
-                Err(why) => locked = self.outlast(rt, locked, why)?,
+            }
+        }
+        unreachable!()
+    }
+
+    // Goes on after a step that undid something, but not the last. It flushes a page if a frame is wanted, and sleeps
+    // while another transaction is in the way. Others have the lock after each few steps, and after want of memory.
+    fn after_undo<R: Wait>(
+        &mut self,
+        rt: &R,
+        mut locked: MutexGuard<'a, Locked<D, J>>,
+        stepped: Result<AbortStepped, Refusal>,
+        steps: u64,
+    ) -> Result<MutexGuard<'a, Locked<D, J>>, Refusal>
+        ensures is { IfErr result (λ why. (stepped ≡ Err why) ⊎ IsRoomRefusal why) }
+        ensures other { IfErr result (λ why. why ≢ NoMemory) }
+    {
+        match stepped {
+            Ok(AbortStepped::Flush) => match locked.make_room() {
+                Ok(()) => {
+                    self.shared.moved.notify_all();
+                    Ok(locked)
+                }
+                Err(why) => self.outlast(rt, locked, why),
+            },
+            Ok(AbortStepped::Again) => {
+                self.has_moved = true;
+                Ok(self.sleep(rt, locked))
+            }
+            Ok(AbortStepped::Wait(_)) => Ok(self.sleep(rt, locked)),
+            Ok(_) => {
+                self.shared.moved.notify_all();
+                if steps % STEPS == 0 {
+                    return Ok(self.let_others(rt, locked));
+                }
+                Ok(locked)
+            }
+            Err(why) => self.outlast(rt, locked, why),
+        }
+    }
+
+    /// Goes back to where the first so many operations of a transaction had ended, of those that count
+    /// ([`Txn::answered`]). What it did since is taken back by inverses, and its locks stay. The token keeps these
+    /// inverses with their replies, after its other operations, and a commit enters them too. They do not count, and
+    /// neither does what they took back.
+    ///
+    /// It waits if another transaction is in the way, and flushes pages if frames are wanted. A step that finds no
+    /// memory is made again. Refused, in this order: 19 if fewer operations count; 1 for want of memory, before
+    /// anything is taken back; 2 if the device has failed; 15 if the kernel has no such transaction; 16 if an operation
+    /// of it is unfinished. The token is as before, and after 1 the call may be made again. If the device fails while it goes back, it is refused with 2, and so is each
+    /// later call.
+    pub fn back<R: Wait>(&mut self, rt: &R, txn: &mut Txn<J>, first: u16) -> Result<(), Refusal>
+        ensures ok { OnOk result (txn.new ≡ went_back txn.old first) }
+        ensures err { OnErr result (txn.new ≡ txn.old) }
+        ensures may { OnOk result (first ≤ length txn.old.standing) }
+        ensures savepoint { IfErr result (IsSavepointCause (length txn.old.standing) first) }
+        ensures why { IfErr result IsBackRefusal }
+    {
+        if first > txn.answered() {
+            self.give_back();
+            return Err(Refusal::BadSavepoint);
+        }
+        let number = txn.number();
+        // out of the token meanwhile, if it is known that there is room for the inverses
+        let mut calls = take_calls(txn);
+        let Ok(inverses) = calls.inverses(first) else {
+            self.give_back();
+            put_calls(txn, calls);
+            return Err(Refusal::NoMemory);
+        };
+        match self.returned(rt, number, first) {
+            Ok(()) => {
+                calls.went_back(first, inverses);
+                put_calls(txn, calls);
+                Ok(())
+            }
+            Err(why) => {
+                put_calls(txn, calls);
+                Err(refused_to_one_that_counts(why))
+            }
+        }
+    }
+
+    // Brings a transaction back to the first so many of its operations that count.
+    fn returned<R: Wait>(&mut self, rt: &R, number: TxnNo, first: u16) -> Result<(), Refusal>
+        ensures { IfErr result IsBackRefusal }
+    {
+        let mut locked = self.lock(rt);
+        if let Err(why) = locked.back_begin(number, first) {
+            drop(locked);
+            self.stir();
+            return Err(self.shared.refusing(why));
+        }
+        let mut steps: u64 = 0;
+        for _ in rt.forever() {
+            match locked.back_step(number) {
+                Ok(AbortStepped::Ended) => {
+                    self.has_moved = true;
+                    self.keep(locked);
+                    return Ok(());
+                }
+                stepped => {
+                    steps = steps.wrapping_add(1);
+                    locked = self.after_undo(rt, locked, stepped, steps)?;
+                }
             }
         }
         unreachable!()
@@ -390,7 +492,7 @@ impl<'a, D: Device, G: Gate + Drop, J: Naming> Hold<'a, D, G, J> {
         pass: &mut Pass<J>,
         txn: Txn<J>,
     ) -> Result<u64, Refused<J>>
-        ensures entered { IfOk result (λ p. Extends J.base pass.old txn p pass.new) }
+        ensures entered { IfOk result (λ p. Extends J.base pass.old (entry_of txn) p pass.new) }
         ensures same { OnErr result (pass.new ≡ pass.old) }
         ensures own { OnOk result (txn.pass ≡ pass.old.number) }
         ensures stranger { IfErr result (λ r. txn.pass ≢ pass.old.number → r.why ≡ Stranger) }
@@ -426,5 +528,19 @@ impl<'a, D: Device, G: Gate + Drop, J: Naming> Hold<'a, D, G, J> {
                 })
             }
         }
+    }
+}
+
+// What the refusal of going back comes to of a token with as many operations that count. A kernel that counts fewer has
+// not this transaction.
+fn refused_to_one_that_counts(why: Refusal) -> Refusal
+    ensures savepoint { (count first : ℕ) → first ≤ count → IsSavepointCause count first result }
+    ensures why { IsBackRefusal result }
+{
+    match why {
+        Refusal::NoMemory => Refusal::NoMemory,
+        Refusal::DeviceFailed => Refusal::DeviceFailed,
+        Refusal::Busy => Refusal::Busy,
+        _ => Refusal::Stranger,
     }
 }

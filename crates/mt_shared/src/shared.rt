@@ -1,16 +1,17 @@
 // What threads call of a kernel that they share, and how they sleep and are woken. The lock is taken here and in
 // `hold`; what is done under it is in mt_locked.
-ghost use Rattle.std.specs.Prelude.{◌≡◌, ◌≢◌, ◌+◌, ◌↔◌, All, false, length, None, IfOk, IfErr, OnOk, OnErr, IfSome, IsSome, List};
+ghost use Rattle.std.specs.Prelude.{◌≡◌, ◌≢◌, ◌+◌, ◌≤◌, ◌↔◌, All, false, length, None, IfOk, IfErr, OnOk, OnErr, IfSome, IsSome, List};
 ghost use mathlib.Core.List.{IsPrefix};
 ghost use Rattle.mt_base.specs.declared.refusal.Refusal.TheVariants.{DeviceFailed, Stranger};
 ghost use Rattle.mt_mark.specs.Rule.{dones};
 ghost use Rattle.mt_model.specs.declared.history.Committed.{Committed};
 ghost use Rattle.mt_model.specs.declared.operations.Reply.{Reply};
 ghost use Rattle.mt_locked.specs.Began.{BeganOn, IsIdle};
-ghost use Rattle.mt_locked.specs.Refusals.{IsAbortRefusal, IsBeginRefusal, IsCloseRefusal, IsCommitRefusal, IsRoomRefusal};
+ghost use Rattle.mt_locked.specs.Refusals.{IsAbortRefusal, IsBackRefusal, IsBeginRefusal, IsCloseRefusal, IsCommitRefusal, IsRoomRefusal};
 ghost use Rattle.mt_restart.specs.TurnFaults.{IsTurnFault};
-ghost use Rattle.mt_shared.specs.Refusals.{IsTurnRefusal};
-ghost use Rattle.mt_locked.specs.Seen.{PassSeen, Extends, Looked, fresh, with_call};
+ghost use Rattle.mt_shared.specs.Refusals.{IsSavepointCause, IsTurnRefusal};
+ghost use Rattle.mt_locked.specs.Seen.{PassSeen, Extends, Looked};
+ghost use Rattle.mt_locked.specs.Tokens.{entry_of, fresh, went_back, with_call};
 ghost use Rattle.mt_locked.specs.Standings.{LeavesBook};
 ghost use Rattle.mt_locked.specs.Turns.{HasTurned, IsUseOn};
 ghost use Rattle.mt_txn.specs.Causes.{IsCallRefusal, size_cause};
@@ -179,6 +180,23 @@ impl<D: Device, G: Gate + Drop, J: Naming> Shared<D, G, J> {
         hold.run(rt, txn, op)
     }
 
+    /// Goes back to where the first so many operations of a transaction had ended, of those that count, as
+    /// [`Hold::back`]. The token keeps the inverses that took the others back, with their replies.
+    ///
+    /// Refused, in this order: 19 if fewer operations count; 1 for want of memory, before anything is taken back; then
+    /// as [`Kernel::back_begin`]; and 2 if the device fails. The token is as before, and after 1 the call may be made
+    /// again.
+    pub fn back<R: Wait>(&self, rt: &R, txn: &mut Txn<J>, first: u16) -> Result<(), Refusal>
+        ensures ok { OnOk result (txn.new ≡ went_back txn.old first) }
+        ensures err { OnErr result (txn.new ≡ txn.old) }
+        ensures may { OnOk result (first ≤ length txn.old.standing) }
+        ensures savepoint { IfErr result (IsSavepointCause (length txn.old.standing) first) }
+        ensures why { IfErr result IsBackRefusal }
+    {
+        let mut hold = self.hold();
+        hold.back(rt, txn, first)
+    }
+
     /// Takes a transaction back, and what it did, as [`Hold::abort`]. Nothing enters the history.
     ///
     /// Refused: 15 if the token is of another pass; 2 if the device failed, and then the token is gone.
@@ -279,7 +297,7 @@ impl<D: Device, G: Gate + Drop, J: Naming> Shared<D, G, J> {
         pass: &mut Pass<J>,
         txn: Txn<J>,
     ) -> Result<u64, Refused<J>>
-        ensures entered { IfOk result (λ p. Extends J.base pass.old txn p pass.new) }
+        ensures entered { IfOk result (λ p. Extends J.base pass.old (entry_of txn) p pass.new) }
         ensures same { OnErr result (pass.new ≡ pass.old) }
         ensures own { OnOk result (txn.pass ≡ pass.old.number) }
         ensures stranger { IfErr result (λ r. txn.pass ≢ pass.old.number → r.why ≡ Stranger) }
@@ -301,7 +319,7 @@ impl<D: Device, G: Gate + Drop, J: Naming> Shared<D, G, J> {
         place: u64,
     ) -> Result<u64, Refused<J>>
         requires own { txn.pass ≡ pass.old.number }
-        ensures entered { IfOk result (λ p. Extends J.base pass.old txn p pass.new) }
+        ensures entered { IfOk result (λ p. Extends J.base pass.old (entry_of txn) p pass.new) }
         ensures same { OnErr result (pass.new ≡ pass.old) }
         ensures gone { IfErr result (λ r. (r.txn ≡ None) × (r.why ≡ DeviceFailed)) }
     {

@@ -2,8 +2,8 @@
 ghost use Rattle.std.specs.Prelude.{◌≡◌};
 
 use crate::kernels::{Memory, Outcome, opened_of, reported_behind, shared_of};
-use crate::sessions::{end, insert, run_insert, take_back};
-use mt_base::{Bytes, Refusal, RelNo};
+use crate::sessions::{end, has_replied, insert, run_insert, take_back};
+use mt_base::{Bytes, CtrNo, Refusal, RelNo};
 use mt_disk::MemDevice;
 use mt_model::{Op, Reply};
 use mt_shared::{Naming, Opened, Pass, Tended, Txn};
@@ -85,6 +85,60 @@ fn takes_back<J: Naming, R: Wait>(
     Ok(ran.is_ok() && shared.look(pass) == 3)
 }
 
+// Inserts two rows about an add, goes back to the first of them, and reads on; whether all is replied so.
+fn goes_back<J: Naming, R: Wait>(
+    rt: &R,
+    alloc: Global,
+    shared: &Memory<J>,
+    txn: &mut Txn<J>,
+) -> Result<bool, Refusal> {
+    run_insert(rt, alloc, shared, txn, (b"c", b"x"))?;
+    let first = txn.answered();
+    shared.run(rt, txn, Op::Add(CtrNo::new(0), 2))?;
+    run_insert(rt, alloc, shared, txn, (b"d", b"y"))?;
+    shared.back(rt, txn, first)?;
+    let is_refused = matches!(shared.back(rt, txn, 2), Err(Refusal::BadSavepoint));
+    shared.run(rt, txn, get(alloc, b"d")?)?;
+    let is_missing = has_replied(txn, &Reply::Missing);
+    shared.run(rt, txn, get(alloc, b"c")?)?;
+    shared.run(rt, txn, Op::Read(CtrNo::new(0)))?;
+    Ok(is_refused && is_missing && has_replied(txn, &Reply::Value(5)) && has_inverses(txn.calls()))
+}
+
+// Whether there are eight calls, with the inverses of the second insert and of the add as the fourth and the fifth.
+fn has_inverses(calls: &[(Op, Reply)]) -> bool {
+    let [
+        _,
+        _,
+        _,
+        (Op::Delete(_, key), Reply::Was(value)),
+        (add, Reply::Done),
+        _,
+        _,
+        _,
+    ] = calls
+    else {
+        return false;
+    };
+    key.as_slice() == b"d".as_slice()
+        && value.as_slice() == b"y".as_slice()
+        && *add == Op::Add(CtrNo::new(0), -2)
+}
+
+// The same, committed at this place.
+fn goes_on<J: Naming, R: Wait>(
+    rt: &R,
+    alloc: Global,
+    shared: &Memory<J>,
+    pass: &mut Pass<J>,
+    place: u64,
+) -> Result<bool, Refusal> {
+    let mut txn = shared.begin(rt, alloc, pass, 1)?;
+    let went = goes_back(rt, alloc, shared, &mut txn);
+    let at = end(rt, shared, pass, txn);
+    Ok(went? && at == place)
+}
+
 // Forces and flushes until nothing is left to be; whether there was something.
 fn rests<J: Naming, R: Wait>(rt: &R, shared: &Memory<J>) -> Result<bool, Refusal> {
     for step in 0..STEPS {
@@ -137,7 +191,8 @@ fn find<J: Naming, R: Wait>(
     }
     let is_back = takes_back(rt, alloc, shared, pass)? && does(rt, alloc, shared, pass, 4)?;
     let is_turned = rests(rt, shared)? && turns(rt, alloc, shared, pass)?;
-    Ok(is_back && is_turned && does(rt, alloc, shared, pass, 5)?)
+    let is_on = does(rt, alloc, shared, pass, 5)? && goes_on(rt, alloc, shared, pass, 6)?;
+    Ok(is_back && is_turned && is_on)
 }
 
 // Whether all went so, under a name, and what a survey of the kernel answers after it.
@@ -160,14 +215,15 @@ fn named_rows<J: Naming, R: Wait>(
 
 // Of a kernel in memory.
 fn find_rows<R: Wait>(rt: &R, alloc: Global) -> Result<(bool, Outcome), Refusal> {
-    let opened = opened_of(alloc, 64, &[(0, 10, 0)], 1)?;
+    let opened = opened_of(alloc, 64, &[(0, 10, 5)], 1)?;
     named_rows::<Brand, R>(rt, alloc, opened)
 }
 
-/// A transaction finds what the pass's last one committed, and not what another took back.
+/// A transaction finds what the pass's last one committed, and not what another took back. One that goes back commits
+/// with the inverses.
 #[test]
 fn a_pass_finds_what_it_committed(rt: HostRuntime) -> Result<(), Fail> {
     let (is_found, outcome) = find_rows(&rt, rt.alloc())?;
-    assert!(rt; is_found && outcome.commits == 5 && outcome.rows == 2);
+    assert!(rt; is_found && outcome.commits == 6 && outcome.rows == 3);
     Ok(())
 }

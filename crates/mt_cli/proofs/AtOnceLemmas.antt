@@ -5,7 +5,6 @@ use Rattle.std.specs.Result.{IfErr, OnErr, OnOk}
 use Rattle.mt_disk.specs.declared.device.Device.{Ghosts}
 use Rattle.mt_folder.proofs.FolderLemmas.{kept_then, put_then}
 use Rattle.mt_folder.specs.Folders.{AreKept, Files, IsFileRefusal, IsHeld, IsLent, Puts}
-use Rattle.mt_model.specs.History.{Call}
 use Rattle.mt_model.specs.Model.{Base}
 use Rattle.mt_model.specs.Views.{base_of}
 use Rattle.mt_model.specs.declared.history.Committed.{Committed}
@@ -18,6 +17,7 @@ use Rattle.mt_txn.specs.Restarted.{FindsCommits}
 use Rattle.mt_txn.specs.Shown.{Restarts, is_failed}
 use Rattle.mt_txn.specs.Turned.{HasNobody}
 use Rattle.mt_txn.specs.declared.kernel.Kernel.{Kernel}
+use Rattle.mt_alone.specs.Plays.{OpenCalls}
 use Rattle.mt_alone.proofs.LeftLemmas.{stands_more}
 use Rattle.mt_restart.proofs.Living.{stands_book}
 use Rattle.mt_device_commands.proofs.HeldLemmas.{held_before}
@@ -28,7 +28,7 @@ use Rattle.mt_report.specs.declared.faults.Fault.{Fault}
 -- ---- the kernel
 
 -- transcripts that are so reported are so where the device may have failed
-end_anyway : (failed : Bool) (u : Option (List Call)) (rest : List Line) (last : List Answer) → IsEnd failed u rest last → IsEnd true u rest last
+end_anyway : (failed : Bool) (u : Option OpenCalls) (rest : List Line) (last : List Answer) → IsEnd failed u rest last → IsEnd true u rest last
 end_anyway failed u _ _ ends = ends
 end_anyway failed u _ _ (fails rest has) = fails rest refl
 

@@ -32,9 +32,9 @@ const STEPS: u64 = 64;
 /// operations is begun and run, and its commit appended, in one hold of the lock.
 ///
 /// The lock is given back after as many calls, after 64 steps of one operation or of undoing, while a call waits or a
-/// force is made, at the end of a transaction, if a call is refused, and if this is dropped. It is not kept if the observer wants to
-/// be called at a point before a transaction's end. All others wait for it meanwhile, so who keeps it makes its next
-/// call soon, or gives it back. The calls answer what those of [`Shared`] of the same names answer.
+/// force is made, at the end of a transaction, if a call is refused, and if this is dropped. It is not kept if the
+/// observer wants to be called at a point before a transaction's end. All others wait for it meanwhile, so who keeps it
+/// makes its next call soon, or gives it back. The calls answer what those of [`Shared`] of the same names answer.
 pub struct Hold<'a, D: Device, G: Gate + Drop, J: Naming> {
     shared: &'a Shared<D, G, J>,
     locked: Option<MutexGuard<'a, Locked<D, J>>>,
@@ -419,8 +419,8 @@ impl<'a, D: Device, G: Gate + Drop, J: Naming> Hold<'a, D, G, J> {
     /// It waits if another transaction is in the way, and flushes pages if frames are wanted. A step that finds no
     /// memory is made again. Refused, in this order: 19 if fewer operations count; 1 for want of memory, before
     /// anything is taken back; 2 if the device has failed; 15 if the kernel has no such transaction; 16 if an operation
-    /// of it is unfinished. The token is as before, and after 1 the call may be made again. If the device fails while it goes back, it is refused with 2, and so is each
-    /// later call.
+    /// of it is unfinished. The token is as before, and after 1 the call may be made again. If the device fails while it
+    /// goes back, it is refused with 2, and so is each later call.
     pub fn back<R: Wait>(&mut self, rt: &R, txn: &mut Txn<J>, first: u16) -> Result<(), Refusal>
         ensures ok { OnOk result (txn.new ≡ went_back txn.old first) }
         ensures err { OnErr result (txn.new ≡ txn.old) }

@@ -183,9 +183,9 @@ impl<D: Device, G: Gate + Drop, J: Naming> Shared<D, G, J> {
     /// Goes back to where the first so many operations of a transaction had ended, of those that count, as
     /// [`Hold::back`]. The token keeps the inverses that took the others back, with their replies.
     ///
-    /// Refused, in this order: 19 if fewer operations count; 1 for want of memory, before anything is taken back; then
-    /// as [`Kernel::back_begin`]; and 2 if the device fails. The token is as before, and after 1 the call may be made
-    /// again.
+    /// Refused, in this order: 19 if fewer operations count; 1 for want of memory, before anything is taken back; 2 if
+    /// the device has failed, or fails in this call; 15 if the kernel has no such transaction; 16 if an operation of it
+    /// is unfinished. The token is as before, and after 1 the call may be made again.
     pub fn back<R: Wait>(&self, rt: &R, txn: &mut Txn<J>, first: u16) -> Result<(), Refusal>
         ensures ok { OnOk result (txn.new ≡ went_back txn.old first) }
         ensures err { OnErr result (txn.new ≡ txn.old) }

@@ -38,7 +38,8 @@ use Rattle.mt_script.specs.declared.lines.Line.TheVariants as line
 use Rattle.mt_alone.proofs.TurnLemmas.{answered_refused, left_of, opened_idle, opened_stays, open_is, turn_acts}
 use Rattle.mt_alone.proofs.UndoLemmas.{pages_few}
 use Rattle.mt_alone.specs.Driven.{HasBroken, IsCalling, IsDueTo, IsOpened, IsTested}
-use Rattle.mt_alone.specs.Plays.{Play, IsTurn, is_add, with_call, IsCallWant, OpenCalls, with_one}
+use Rattle.mt_model.specs.Backwards.{OpenCalls, with_one}
+use Rattle.mt_alone.specs.Plays.{Play, IsTurn, is_add, with_call, IsCallWant}
 use Rattle.mt_alone.specs.Runs.{IsAnsweredOr, refused_as}
 
 -- ---- a fault is no failure of the device

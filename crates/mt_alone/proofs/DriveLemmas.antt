@@ -30,7 +30,7 @@ use Rattle.mt_txn.specs.Events.{HasStepped, HasAborted}
 use Rattle.mt_txn.specs.Events.{IsBack}
 use Rattle.mt_txn.specs.Events.IsBack.{stands, drops, undoes}
 use Rattle.mt_txn.specs.Shown.{Shows, Stays, is_failed}
-use Rattle.mt_txn.specs.Work.{IsAnother, IsForOther, IsAbortForOther, LowersSteps, LowersAbort}
+use Rattle.mt_txn.specs.Work.{IsAnother, IsForOther, IsAbortForOther, LowersSteps, LowersUndoing, NoneAreLeft}
 use Rattle.mt_txn.specs.declared.answers.Stepped.{Stepped}
 use Rattle.mt_txn.specs.declared.answers.Stepped.TheVariants as step
 use Rattle.mt_txn.specs.declared.answers.AbortStepped.{AbortStepped}
@@ -38,7 +38,8 @@ use Rattle.mt_txn.specs.declared.answers.AbortStepped.TheVariants as abort
 use Rattle.mt_txn.specs.declared.kernel.Kernel.{Kernel}
 use Rattle.mt_alone.proofs.ForceLemmas.{fails_for}
 use Rattle.mt_alone.specs.Driven.{Eases, Fails, IsCalling, IsGivenUp, IsGoing, IsMoved, IsBacked, IsOpened, IsPlayed, IsUndone, NobodyCommits, ShowsOne}
-use Rattle.mt_alone.specs.Plays.{Play, OpenCalls, with_one}
+use Rattle.mt_model.specs.Backwards.{OpenCalls, with_one}
+use Rattle.mt_alone.specs.Plays.{Play}
 
 -- ---- who lives
 
@@ -212,7 +213,7 @@ module _ {D : Type 0} {g : Ghosts D} (p : Play) (t : ℕ) where
       nobody_there k first s shows u (undone.others u other.0) other.1)
 
   pub asked_back : (k n : Kernel D g) (r : Result AbortStepped Refusal) (pages : ℕ) → IsGoing p t k → (r ≡ Ok abort.Flush → ⊥) → ((first : Base) (s : State) → Shows first s k → HasAborted first s t r n)
-      → IfOk r (λ x. x ≢ abort.Ended → SameStates k.core n.core) → LowersAbort pages r (undo_steps k.core t) (undo_steps n.core t) → IfOk r (IsAbortForOther k.core.live.members t)
+      → IfOk r (λ x. x ≢ abort.Ended → SameStates k.core n.core) → LowersUndoing NoneAreLeft pages r (undo_steps k.core t) (undo_steps n.core t) → IfOk r (IsAbortForOther k.core.live.members t)
       → IfErr r (λ why. why ≢ refusal.NoMemory → (abort_cause (is_failed k) k.core t ≡ Some why) ⊎ IsFault g k.core n.core why) → ((why : Refusal) → abort_cause (is_failed k) k.core t ≡ Some why → n ≡ k) → IsBacked p t k r n
   asked_back k n (Ok abort.More) pages c no_flush did states work other cause unmoved = (
     record {
@@ -249,22 +250,22 @@ module _ {D : Type 0} {g : Ghosts D} (p : Play) (t : ℕ) where
 
   pub goes_flushed : (k m x n : Kernel D g) (pages : ℕ) (r : Result AbortStepped Refusal) → r ≡ Ok abort.Flush → GoesBy k m → ((first : Base) (s : State) → Shows first s m → HasAborted first s t r x)
       → IfOk r (λ y. y ≢ abort.Ended → SameStates m.core x.core)
-      → LowersAbort pages r (undo_steps m.core t) (undo_steps x.core t) → (NobodyCommits x → Eases x n) → GoesBy k n
+      → LowersUndoing NoneAreLeft pages r (undo_steps m.core t) (undo_steps x.core t) → (NobodyCommits x → Eases x n) → GoesBy k n
   goes_flushed k m x n pages r is stood did states lowers eases =
       let same = subst (λ (o : Result AbortStepped Refusal). IfOk o (λ y. y ≢ abort.Ended → SameStates m.core x.core)) is states (λ e. cc) in
       let at_x = going_stays m x stood.0 (subst (λ (o : Result AbortStepped Refusal). (first : Base) (s : State) → Shows first s m → HasAborted first s t o x) is did) same in
-      let work = subst (λ (o : Result AbortStepped Refusal). LowersAbort pages o (undo_steps m.core t) (undo_steps x.core t)) is lowers in
+      let work = subst (λ (o : Result AbortStepped Refusal). LowersUndoing NoneAreLeft pages o (undo_steps m.core t) (undo_steps x.core t)) is lowers in
       let e = eases (going_nobody x at_x) in
       let less = e.undo t in let before = stood.1 in
       (going_stays x n at_x e.state e.states, omega (arith, less, work, before))
 
   pub goes_refused : (k m n : Kernel D g) (pages : ℕ) (r : Result AbortStepped Refusal) (why : Refusal) → r ≡ Err why → GoesBy k m → ((first : Base) (s : State) → Shows first s m → HasAborted first s t r n)
       → OnErr r (SameStates m.core n.core)
-      → LowersAbort pages r (undo_steps m.core t) (undo_steps n.core t) → GoesBy k n
+      → LowersUndoing NoneAreLeft pages r (undo_steps m.core t) (undo_steps n.core t) → GoesBy k n
   goes_refused k m n pages r why is stood did states lowers =
       let before = stood.1 in
       let same = subst (λ (o : Result AbortStepped Refusal). OnErr o (SameStates m.core n.core)) is states in
-      let work = subst (λ (o : Result AbortStepped Refusal). LowersAbort pages o (undo_steps m.core t) (undo_steps n.core t)) is lowers in
+      let work = subst (λ (o : Result AbortStepped Refusal). LowersUndoing NoneAreLeft pages o (undo_steps m.core t) (undo_steps n.core t)) is lowers in
       (going_stays m n stood.0 (subst (λ (o : Result AbortStepped Refusal). (first : Base) (s : State) → Shows first s m → HasAborted first s t o n) is did) same, omega (arith, work, before))
 
   pub goes_roomless : (k m x n : Kernel D g) (r : Result AbortStepped Refusal) (why : Refusal) → r ≡ Ok abort.Flush → GoesBy k m → ((first : Base) (s : State) → Shows first s m → HasAborted first s t r x)

@@ -22,7 +22,8 @@ use Rattle.mt_txn.specs.declared.answers.KernelForced.TheVariants as forced
 use Rattle.mt_txn.specs.declared.kernel.Kernel.{Kernel}
 use Rattle.mt_txn.proofs.Due.{due_none, due_more, due_settled, due_idle}
 use Rattle.mt_alone.specs.Driven.{IsEnding, IsForcing, IsGivenUp, IsResting}
-use Rattle.mt_alone.specs.Plays.{Play, committed, OpenCalls}
+use Rattle.mt_model.specs.Backwards.{OpenCalls}
+use Rattle.mt_alone.specs.Plays.{Play, committed}
 
 -- ---- the commit's name
 

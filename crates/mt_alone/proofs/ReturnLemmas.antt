@@ -26,21 +26,22 @@ use Rattle.mt_txn.specs.Causes.{IsFault, return_cause, unless}
 use Rattle.mt_txn.specs.Events.{HasReturned, IsReturn}
 use Rattle.mt_txn.specs.Events.IsReturn.{stays, returns}
 use Rattle.mt_txn.specs.Shown.{Shows, Stays, is_failed}
-use Rattle.mt_txn.specs.Work.{IsAbortForOther, IsAnother, LowersReturn}
+use Rattle.mt_txn.specs.Work.{IsAbortForOther, IsAnother, LowersUndoing, NoMoreAreLeft}
 use Rattle.mt_txn.specs.declared.answers.AbortStepped.{AbortStepped}
 use Rattle.mt_txn.specs.declared.answers.AbortStepped.TheVariants as abort
 use Rattle.mt_txn.specs.declared.kernel.Kernel.{Kernel}
 use Rattle.mt_alone.proofs.DriveLemmas.{nobody_commits, nobody_there}
 use Rattle.mt_alone.proofs.ForceLemmas.{fails_for}
 use Rattle.mt_alone.specs.Driven.{Eases, Fails, IsGivenUp, IsNearer, IsOpened, IsPartWay, IsPlayed, IsReturning, NobodyCommits, ShowsOne}
-use Rattle.mt_alone.specs.Plays.{OpenCalls, Play, back_to}
+use Rattle.mt_model.specs.Backwards.{OpenCalls}
+use Rattle.mt_alone.specs.Plays.{Play, back_on}
 
 -- ---- where calls lead
 
 -- one inverse more among the calls, and one less that is left
 one_taken : (b : Base) (calls : OpenCalls) (left : List Call) (n : ℕ) (i : Op) → take n left ≡ take n calls.counted
     → ((m : Base) → inverses_on m (drop n calls.counted) ≡ (i, reply_of m i) ∷ inverses_on (base_after m i) (drop n left))
-    → back_to b (record { all = calls.all ++ (i, reply_of (run b calls.all) i) ∷ []; counted = left }) n ≡ back_to b calls n
+    → back_on b (record { all = calls.all ++ (i, reply_of (run b calls.all) i) ∷ []; counted = left }) n ≡ back_on b calls n
 one_taken b calls left n i first rest = λ j. record { all = all_is j; counted = first j }
   where
     c : Call
@@ -53,7 +54,7 @@ one_taken b calls left n i first rest = λ j. record { all = all_is j; counted =
         ∙ ap (λ (cs : List Call). calls.all ++ cs) (sym (rest (run b calls.all))))
 
 -- none is left
-none_left : (b : Base) (calls : OpenCalls) (n : ℕ) → ((m : Base) → inverses_on m (drop n calls.counted) ≡ []) → record { all = calls.all; counted = take n calls.counted } ≡ back_to b calls n
+none_left : (b : Base) (calls : OpenCalls) (n : ℕ) → ((m : Base) → inverses_on m (drop n calls.counted) ≡ []) → record { all = calls.all; counted = take n calls.counted } ≡ back_on b calls n
 none_left b calls n none = λ j. record { all = sym (ap (λ (cs : List Call). calls.all ++ cs) (none (run b calls.all)) ∙ append-nil calls.all) j; counted = take n calls.counted }
 
 part_on : (p : Play) (t n : ℕ) (had : OpenCalls) (first : Base) (s z : State) → IsKept first s → IsReturn s t n z → IsPartWay first p t n had s → IsPartWay first p t n had z
@@ -66,7 +67,7 @@ part_on p t n had first s _ kept (returns last i ps idle effect past inverts giv
     record {
       calls = now;
       playing = (record { first_is = played.first_is; book = played.book; base = played.base }, h.alone);
-      leads = subst (λ (b : Base). back_to b now n ≡ back_to b w.calls n) on (one_taken (committed_base first s) w.calls h.left n i h.first h.rest) ∙ w.leads;
+      leads = subst (λ (b : Base). back_on b now n ≡ back_on b w.calls n) on (one_taken (committed_base first s) w.calls h.left n i h.first h.rest) ∙ w.leads;
     }
 
 -- ---- a step of it
@@ -93,7 +94,7 @@ module _ {D : Type 0} {g : Ghosts D} (p : Play) (t n : ℕ) (had : OpenCalls) wh
   return_cause_is k state = ap (λ (o : Option TxnState). if is_failed k then Some refusal.DeviceFailed else unless (is_returning o) refusal.Stranger) state
 
   pub asked_return : (k m : Kernel D g) (r : Result AbortStepped Refusal) (pages : ℕ) → IsReturning p t n had k → (r ≡ Ok abort.Flush → ⊥) → ((first : Base) (s : State) (many : ℕ) → Shows first s k → state_in k.core.live.members t ≡ Some (Returning many) → HasReturned first s t many r m)
-      → IfOk r (λ x. x ≢ abort.Ended → SameStates k.core m.core) → ((many : ℕ) → state_in k.core.live.members t ≡ Some (Returning many) → r ≡ Ok abort.Ended → SetsState k.core m.core t (Some Open)) → LowersReturn pages r (undo_steps k.core t) (undo_steps m.core t)
+      → IfOk r (λ x. x ≢ abort.Ended → SameStates k.core m.core) → ((many : ℕ) → state_in k.core.live.members t ≡ Some (Returning many) → r ≡ Ok abort.Ended → SetsState k.core m.core t (Some Open)) → LowersUndoing NoMoreAreLeft pages r (undo_steps k.core t) (undo_steps m.core t)
       → IfOk r (IsAbortForOther k.core.live.members t) → IfErr r (λ why. why ≢ refusal.NoMemory → (return_cause (is_failed k) k.core t ≡ Some why) ⊎ IsFault g k.core m.core why)
       → ((why : Refusal) → return_cause (is_failed k) k.core t ≡ Some why → m ≡ k) → IsNearer p t n had k r m
   asked_return k m (Ok abort.More) pages c no_flush did states opened work other cause unmoved = (
@@ -131,21 +132,21 @@ module _ {D : Type 0} {g : Ghosts D} (p : Play) (t n : ℕ) (had : OpenCalls) wh
   ReturnsBy k m = IsReturning p t n had m × (undo_steps m.core t ≤ undo_steps k.core t)
 
   pub returns_flushed : (k m x y : Kernel D g) (pages : ℕ) (r : Result AbortStepped Refusal) → r ≡ Ok abort.Flush → ReturnsBy k m → ((first : Base) (s : State) (many : ℕ) → Shows first s m → state_in m.core.live.members t ≡ Some (Returning many) → HasReturned first s t many r x)
-      → IfOk r (λ z. z ≢ abort.Ended → SameStates m.core x.core) → LowersReturn pages r (undo_steps m.core t) (undo_steps x.core t) → (NobodyCommits x → Eases x y) → ReturnsBy k y
+      → IfOk r (λ z. z ≢ abort.Ended → SameStates m.core x.core) → LowersUndoing NoMoreAreLeft pages r (undo_steps m.core t) (undo_steps x.core t) → (NobodyCommits x → Eases x y) → ReturnsBy k y
   returns_flushed k m x y pages r is stood did states lowers eases =
       let same = subst (λ (o : Result AbortStepped Refusal). IfOk o (λ z. z ≢ abort.Ended → SameStates m.core x.core)) is states (λ e. cc) in
       let at_x = returning_stays m x stood.0 (λ first s shows. subst (λ (o : Result AbortStepped Refusal). HasReturned first s t n o x) is (did first s n shows stood.0.state)) same in
-      let work = subst (λ (o : Result AbortStepped Refusal). LowersReturn pages o (undo_steps m.core t) (undo_steps x.core t)) is lowers in
+      let work = subst (λ (o : Result AbortStepped Refusal). LowersUndoing NoMoreAreLeft pages o (undo_steps m.core t) (undo_steps x.core t)) is lowers in
       let e = eases (returning_nobody x at_x) in
       let less = e.undo t in let before = stood.1 in
       (returning_stays x y at_x e.state e.states, omega (arith, less, work, before))
 
   pub returns_refused : (k m x : Kernel D g) (pages : ℕ) (r : Result AbortStepped Refusal) (why : Refusal) → r ≡ Err why → ReturnsBy k m → ((first : Base) (s : State) (many : ℕ) → Shows first s m → state_in m.core.live.members t ≡ Some (Returning many) → HasReturned first s t many r x)
-      → OnErr r (SameStates m.core x.core) → LowersReturn pages r (undo_steps m.core t) (undo_steps x.core t) → ReturnsBy k x
+      → OnErr r (SameStates m.core x.core) → LowersUndoing NoMoreAreLeft pages r (undo_steps m.core t) (undo_steps x.core t) → ReturnsBy k x
   returns_refused k m x pages r why is stood did states lowers =
       let before = stood.1 in
       let same = subst (λ (o : Result AbortStepped Refusal). OnErr o (SameStates m.core x.core)) is states in
-      let work = subst (λ (o : Result AbortStepped Refusal). LowersReturn pages o (undo_steps m.core t) (undo_steps x.core t)) is lowers in
+      let work = subst (λ (o : Result AbortStepped Refusal). LowersUndoing NoMoreAreLeft pages o (undo_steps m.core t) (undo_steps x.core t)) is lowers in
       (returning_stays m x stood.0 (λ first s shows. subst (λ (o : Result AbortStepped Refusal). HasReturned first s t n o x) is (did first s n shows stood.0.state)) same, omega (arith, work, before))
 
   -- room was not made

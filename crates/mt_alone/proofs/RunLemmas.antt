@@ -18,7 +18,8 @@ use Rattle.mt_alone.specs.declared.alone.RunFault.TheVariants as fault
 use Rattle.mt_script.specs.Answers.{AppendsFront, answer_text, transcript_text}
 use Rattle.mt_txn.specs.Shown.{SameSchema}
 use Rattle.mt_alone.specs.Driven.{IsBeside, IsDueTo, IsGivenUp, IsResting}
-use Rattle.mt_alone.specs.Plays.{Play, IsTurn, acts, refuses, Runs, starts, goes_on, after_at, put_off, OpenCalls}
+use Rattle.mt_model.specs.Backwards.{OpenCalls}
+use Rattle.mt_alone.specs.Plays.{Play, IsTurn, acts, refuses, Runs, starts, goes_on, after_at, put_off}
 use Rattle.mt_alone.specs.Runs.{HasRun, HasRunLines, HasTurned, IsAnswered, IsCut, IsCutAtEnd, IsCutShort, IsEnded, IsEndedFor, nothing, aborted, failed, IsLeftFor, IsStopped, IsReportedFor, IsUnheard, failure_line, last_line}
 use Rattle.mt_alone.specs.Stops.{Ends}
 use Rattle.mt_script.proofs.TextLemmas.{front_then}

@@ -4,7 +4,7 @@ use Rattle.std.specs.Prelude.{IfSome}
 use Rattle.std.specs.Option.{option_map, option_to_list}
 use Rattle.mt_base.specs.declared.refusal.Refusal.{Refusal}
 use Rattle.mt_model.specs.declared.operations.Op.{Op}
-use Rattle.mt_model.specs.Backwards.{calls_back, inverse_reply}
+use Rattle.mt_model.specs.Backwards.{back_to, calls_back, inverse_reply, OpenCalls, no_calls, with_one}
 use Rattle.mt_model.specs.History.{Call, run, IsActed}
 use Rattle.mt_model.specs.Model.{Base, IsBase, base_after, inverse_of, reply_of}
 use Rattle.mt_model.proofs.Appends.{run-append, acted_append}
@@ -13,7 +13,7 @@ use Rattle.mt_live.specs.Inverses.{inverse_on, inverses_on}
 use Rattle.mt_script.specs.declared.answers.Answer.{Answer}
 use Rattle.mt_script.specs.declared.lines.Line.{Line}
 use Rattle.mt_script.specs.declared.lines.Line.TheVariants as line
-use Rattle.mt_alone.specs.Plays.{HasPlayed, IsTurn, OpenCalls, Play, Runs, acts, after_at, back_to, goes_on, no_calls, refuses, starts, with_one}
+use Rattle.mt_alone.specs.Plays.{HasPlayed, IsTurn, Play, Runs, acts, after_at, back_on, goes_on, refuses, starts}
 use Rattle.mt_alone.specs.Savepoints.{AreLed}
 
 -- ---- inverses on a base
@@ -72,7 +72,7 @@ one_more b calls op led =
       same = run-append b calls.all (c ∷ []) ∙ (ap (λ (z : Base). base_after z op) led.same ∙ sym (run-append b calls.counted (c ∷ [])));
     }
 
-gone_to : (b : Base) (calls : OpenCalls) (n : ℕ) → IsBase b → AreLed b calls → AreLed b (back_to b calls n)
+gone_to : (b : Base) (calls : OpenCalls) (n : ℕ) → IsBase b → AreLed b calls → AreLed b (back_on b calls n)
 gone_to b calls n within led =
     let front : Base = run b (take n calls.counted) in
     let rest : List Call = drop n calls.counted in
@@ -83,6 +83,19 @@ gone_to b calls n within led =
           ∙ (ap (λ (z : Base). run z (inverses_on z rest)) all
           ∙ lead_back front rest (run_within b (take n calls.counted) within) (acted_rest b n calls.counted led.acted));
     }
+
+-- the replies of the inverses are known
+with_inverses : OpenCalls → ℕ → List Call → OpenCalls
+with_inverses calls n inverses = record { all = calls.all ++ inverses; counted = take n calls.counted }
+
+pub goes_back_alike : (b : Base) (calls : OpenCalls) (n : ℕ) → IsBase b → AreLed b calls → back_on b calls n ≡ back_to calls n
+unfolding with_inverses
+goes_back_alike b calls n within led =
+    let front : Base = run b (take n calls.counted) in
+    let rest : List Call = drop n calls.counted in
+    let all : run b calls.all ≡ run front rest = led.same ∙ run_parts b n calls.counted in
+    ap (with_inverses calls n) (ap (λ (z : Base). inverses_on z rest) all
+    ∙ inverses_are front rest (run_within b (take n calls.counted) within) (acted_rest b n calls.counted led.acted))
 
 -- ---- a line, and all of them
 

@@ -14,7 +14,7 @@ use Rattle.mt_alone.specs.Sessions.{Close, Closes}
 use Rattle.mt_script.specs.Scripts.{lines_in}
 use Rattle.mt_alone.specs.Stops.{Ends, GoesOn, IsStopAmong, IsStopIn, lines_to, scripts_to, stop_of}
 use Rattle.mt_alone.specs.declared.stops.Stop.{Stop}
-use Rattle.mt_alone.specs.Plays.{OpenCalls}
+use Rattle.mt_model.specs.Backwards.{OpenCalls}
 
 -- ---- an answer
 

@@ -40,7 +40,8 @@ use Rattle.mt_txn.proofs.Due.{due_start}
 use Rattle.mt_alone.proofs.ForceLemmas.{fails_for, well_of}
 use Rattle.mt_alone.proofs.UndoLemmas.{undo_few}
 use Rattle.mt_alone.specs.Driven.{Fails, HasBroken, IsBeside, IsDueTo, IsEnding, IsGivenUp, IsGoing, IsLeft, IsOpened, IsResting, IsTested, NobodyCommits, IsPlaying, IsReturning}
-use Rattle.mt_alone.specs.Plays.{OpenCalls, Play, IsTurn, acts, refuses, after_at, answer_at, back_to, committed, fault_at, returned_to, no_calls, IsBeginWant, IsWant}
+use Rattle.mt_model.specs.Backwards.{OpenCalls, no_calls}
+use Rattle.mt_alone.specs.Plays.{Play, IsTurn, acts, refuses, after_at, answer_at, back_on, committed, fault_at, returned_to, IsBeginWant, IsWant}
 use Rattle.mt_alone.specs.Runs.{IsAnsweredOr, refused_as}
 use Rattle.std.proofs.lemmas.Bool.{le-leb, lt-leb}
 use Rattle.std.proofs.lemmas.List.{length-map}
@@ -273,10 +274,10 @@ module _ {D : Type 0} {g : Ghosts D} where
   back_fault k calls n few = ap (λ (b : Bool). if b then None else Some refusal.BadSavepoint) (le-leb n (length calls.counted) few)
 
   pub back_done : (p : Play) (k m : Kernel D g) (t n : ℕ) (calls : OpenCalls) → p.under_way ≡ Some calls → IsOpened p t calls k → ((first : Base) (s : State) → Shows first s k → n ≤ length (filter (is_counted t) s.standing))
-      → IsOpened p t (back_to p.base calls n) m → IsAnsweredOr p k (Some t) (line.Back n) (Ok (WentBack n, Some t)) m
+      → IsOpened p t (back_on p.base calls n) m → IsAnsweredOr p k (Some t) (line.Back n) (Ok (WentBack n, Some t)) m
   back_done p k m t n calls under o may now =
       let few : n ≤ length calls.counted = ∥∥₁_elim o.shown (hlevel props) (λ (first, s, shows, plays). subst (λ (i : ℕ). n ≤ i) (count_of k p t calls first s plays) (may first s shows)) in
-      (returned_to p calls n, turn_acts k.relations k.counters p (Some calls) (line.Back n) under (back_fault k calls n few), (back_to p.base calls n, refl, record { shown = ∥∥₁_map now.shown (λ (first, s, shows, (played, alone)). (first, s, shows, (record { first_is = played.first_is; book = played.book; base = played.base }, alone))); state = now.state }))
+      (returned_to p calls n, turn_acts k.relations k.counters p (Some calls) (line.Back n) under (back_fault k calls n few), (back_on p.base calls n, refl, record { shown = ∥∥₁_map now.shown (λ (first, s, shows, (played, alone)). (first, s, shows, (record { first_is = played.first_is; book = played.book; base = played.base }, alone))); state = now.state }))
 
   pub back_refused : (p : Play) (k m : Kernel D g) (t n : ℕ) (calls : OpenCalls) (why : Refusal) → p.under_way ≡ Some calls → IsOpened p t calls k → m ≡ k → back_cause (is_failed k) k.core t n ≡ Some why
       → ((first : Base) (s : State) → Shows first s k → IsSavepoint (length (filter (is_counted t) s.standing)) n (Err why)) → IsAnsweredOr p k (Some t) (line.Back n) (refused_as why (Some t)) m

@@ -17,7 +17,7 @@ use Rattle.mt_model.specs.Model.{Base, inverse_of}
 use Rattle.mt_op.proofs.Budget.{area_small}
 use Rattle.mt_pool.specs.Views.{pages}
 use Rattle.mt_core.proofs.Effects.{inverse_bytes}
-use Rattle.mt_core.specs.Runs.{entry_bytes, is_open, kept_bytes, taken_bytes}
+use Rattle.mt_core.specs.Runs.{entry_bytes, kept_bytes, taken_bytes, is_working}
 use Rattle.mt_core.specs.Work.{abort_steps, effect_steps, effects_left, undo_steps}
 use Rattle.mt_core.specs.declared.parts.Commit.{Commit}
 use Rattle.mt_op.specs.declared.scope.OpScope.{OpScope}
@@ -71,11 +71,11 @@ effects_few pages t (e ∷ es) few =
 
 -- ---- nothing runs
 
-at_work : (o : Option Member) → is_open o ≡ true → is_some o ≡ true
+at_work : (o : Option Member) → is_working o ≡ true → is_some o ≡ true
 at_work None is = is
 at_work (Some m) is = refl
 
-nothing_runs : (ms : _) (t : ℕ) (rs : List OpScope) → All (λ (r : OpScope). is_open (member_of ms r.txn) ≡ true) rs → ((u : ℕ) → u ≢ t → is_some (member_of ms u) ≡ true → ⊥) → list_any (λ (r : OpScope). r.txn == t) rs ≡ false → rs ≡ []
+nothing_runs : (ms : _) (t : ℕ) (rs : List OpScope) → All (λ (r : OpScope). is_working (member_of ms r.txn) ≡ true) rs → ((u : ℕ) → u ≢ t → is_some (member_of ms u) ≡ true → ⊥) → list_any (λ (r : OpScope). r.txn == t) rs ≡ false → rs ≡ []
 nothing_runs ms t [] owned alone none = refl
 nothing_runs ms t (r ∷ rs) owned alone none = absurd (⊎_elim
     (λ (same : r.txn ≡ t).

@@ -25,7 +25,8 @@ use Rattle.mt_txn.specs.declared.kernel.Kernel.{Kernel}
 use Rattle.mt_txn.specs.Words.{kernel_commits, kernel_state, kernel_steps, kernel_undo_steps, kernel_begin_cause, kernel_call_cause, StatesStay, UncommittedStay, CommitsStay, RunningStays, UndoStays}
 use Rattle.mt_script.specs.declared.lines.Line.{Line}
 use Rattle.mt_script.specs.declared.lines.Line.TheVariants as line
-use Rattle.mt_alone.specs.Plays.{OpenCalls, Play, back_to, committed, put_off, with_one}
+use Rattle.mt_model.specs.Backwards.{OpenCalls, with_one}
+use Rattle.mt_alone.specs.Plays.{Play, back_on, committed, put_off}
 
 -- the book, the base that it begins on and what it leaves are the model's
 pub record IsPlayed (first : Base) (p : Play) (s : State) : Type 0 where
@@ -47,7 +48,7 @@ pub record IsUndone (first : Base) (p : Play) (t : ℕ) (s : State) : Type 0 whe
 pub record IsPartWay (first : Base) (p : Play) (t n : ℕ) (had : OpenCalls) (s : State) : Type 0 where
   pub calls : OpenCalls
   pub playing : IsPlaying first p t calls s
-  pub leads : back_to p.base calls n ≡ back_to p.base had n
+  pub leads : back_on p.base calls n ≡ back_on p.base had n
 
 -- no transaction commits
 abbrev pub NobodyCommits : {D : Type 0} {g : Ghosts D} → Kernel D g → Type 0
@@ -192,7 +193,7 @@ module _ {D : Type 0} {g : Ghosts D} where
   IsNearer p t n had k (Ok (abort.Wait other)) m = ⊥
   IsNearer p t n had k (Ok abort.Again) m = ⊥
   IsNearer p t n had k (Ok abort.Flush) m = ⊥
-  IsNearer p t n had k (Ok abort.Ended) m = IsOpened p t (back_to p.base had n) m
+  IsNearer p t n had k (Ok abort.Ended) m = IsOpened p t (back_on p.base had n) m
   IsNearer p t n had k (Err why) m = IsGivenUp p m why
 
   abbrev pub HasNeared : Kernel D g → ℕ → Result AbortStepped Refusal → Kernel D g → Type 0
@@ -201,7 +202,7 @@ module _ {D : Type 0} {g : Ghosts D} where
 
   -- all of them
   abbrev pub IsGoneBack : {U : Type 0} → Play → ℕ → ℕ → OpenCalls → Result U Refusal → Kernel D g → Type 0
-  IsGoneBack p t n had (Ok done) m = IsOpened p t (back_to p.base had n) m
+  IsGoneBack p t n had (Ok done) m = IsOpened p t (back_on p.base had n) m
   IsGoneBack p t n had (Err why) m = IsGivenUp p m why
 
   abbrev pub HasGoneBack : {U : Type 0} → Kernel D g → ℕ → Result U Refusal → Kernel D g → Type 0

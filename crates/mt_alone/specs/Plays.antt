@@ -6,6 +6,7 @@ use Rattle.mt_model.specs.declared.history.Committed.{Committed}
 use Rattle.mt_model.specs.declared.operations.Op.{Op}
 use Rattle.mt_model.specs.declared.operations.Op.TheVariants.{Get, Insert, Update, Delete, Add, Read, Scan}
 use Rattle.mt_model.specs.Model.{Base, reply_of}
+use Rattle.mt_model.specs.Backwards.{OpenCalls, no_calls, with_one}
 use Rattle.mt_model.specs.History.{Call, run}
 use Rattle.mt_live.specs.Inverses.{inverses_on}
 use Rattle.mt_txn.specs.Causes.{first_of, name_cause, size_cause, unless}
@@ -13,11 +14,6 @@ use Rattle.mt_script.specs.declared.lines.Line.{Line}
 use Rattle.mt_script.specs.declared.lines.Line.TheVariants as line
 use Rattle.mt_script.specs.declared.answers.Answer.{Answer}
 use Rattle.mt_script.specs.declared.answers.Answer.TheVariants.{Begun, Replied, Saved, Back as WentBack, Committed as CommittedAt, Aborted, Refused}
-
--- the calls of a transaction that is open, in their order, and those of them that count
-pub record OpenCalls : Type 0 where
-  pub all : List Call
-  pub counted : List Call
 
 -- whose script it is, the base that the commits began on, what they leave, the commits, and the calls of the
 -- transaction that is open, if one is
@@ -45,15 +41,10 @@ answer_at p (Some calls) (line.Back n) = WentBack n
 answer_at p (Some calls) line.Commit = CommittedAt (length p.book + 1)
 answer_at p (Some calls) line.Abort = Aborted
 
--- no call yet; one more, which counts; and those that went back on a base to their first so many that count
-abbrev pub no_calls : OpenCalls
-no_calls = record { all = []; counted = [] }
-
-abbrev pub with_one : OpenCalls → Call → OpenCalls
-with_one calls c = record { all = calls.all ++ c ∷ []; counted = calls.counted ++ c ∷ [] }
-
-abbrev pub back_to : Base → OpenCalls → ℕ → OpenCalls
-back_to b calls n = record {
+-- The calls of one that went back, on a base, to the first so many that count. An inverse has the reply that the base
+-- gives.
+abbrev pub back_on : Base → OpenCalls → ℕ → OpenCalls
+back_on b calls n = record {
   all = calls.all ++ inverses_on (run b calls.all) (drop n calls.counted);
   counted = take n calls.counted;
 }
@@ -63,7 +54,7 @@ abbrev pub with_call : Play → OpenCalls → Op → Play
 with_call p calls op = record p { under_way = Some (with_one calls (op, reply_of (run p.base calls.all) op)) }
 
 abbrev pub returned_to : Play → OpenCalls → ℕ → Play
-returned_to p calls n = record p { under_way = Some (back_to p.base calls n) }
+returned_to p calls n = record p { under_way = Some (back_on p.base calls n) }
 
 abbrev pub committed : Play → OpenCalls → Play
 committed p calls = record p {

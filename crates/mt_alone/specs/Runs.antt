@@ -14,7 +14,8 @@ use Rattle.mt_alone.specs.declared.alone.RunFault.{RunFault}
 use Rattle.mt_alone.specs.declared.alone.RunFault.TheVariants as fault
 use Rattle.mt_script.specs.Answers.{AppendsFront, transcript_text}
 use Rattle.mt_alone.specs.Driven.{IsLeft, IsBeside, IsDueTo, IsGivenUp, HasBroken, Fails}
-use Rattle.mt_alone.specs.Plays.{Play, IsTurn, Runs, put_off, OpenCalls}
+use Rattle.mt_model.specs.Backwards.{OpenCalls}
+use Rattle.mt_alone.specs.Plays.{Play, IsTurn, Runs, put_off}
 use Rattle.mt_alone.specs.Stops.{Ends}
 use Rattle.mt_txn.specs.Words.{kernel_relations, kernel_counters}
 

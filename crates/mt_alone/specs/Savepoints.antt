@@ -4,7 +4,8 @@ use Rattle.mt_model.specs.History.{run, IsActed}
 use Rattle.mt_model.specs.Model.{Base, IsBase}
 use Rattle.mt_script.specs.declared.answers.Answer.{Answer}
 use Rattle.mt_script.specs.declared.lines.Line.{Line}
-use Rattle.mt_alone.specs.Plays.{HasPlayed, OpenCalls, Play}
+use Rattle.mt_model.specs.Backwards.{OpenCalls, back_to}
+use Rattle.mt_alone.specs.Plays.{HasPlayed, Play, back_on}
 
 -- Those that count replied as they do alone on the base, and lead to where all of them lead.
 pub record AreLed (b : Base) (calls : OpenCalls) : Type 0 where
@@ -17,3 +18,8 @@ WhatCountsLeads =
     (relations counters : ℕ) (start end : Play) (lines : List Line) (answers : List Answer) → IsBase start.base
     → start.under_way ≡ None → HasPlayed relations counters start lines answers end
     → IfSome end.under_way (AreLed end.base)
+
+-- On a base where calls are so, they go back to where any transaction's calls go.
+abbrev pub GoesBackAlike : Type 0
+GoesBackAlike =
+    (b : Base) (calls : OpenCalls) (n : ℕ) → IsBase b → AreLed b calls → back_on b calls n ≡ back_to calls n

@@ -14,7 +14,8 @@ use Rattle.mt_alone.specs.declared.rotation.NotServed.{NotServed}
 use Rattle.mt_alone.specs.declared.alone.RunFault.TheVariants as fault
 use Rattle.mt_script.specs.Answers.{AppendsFront, transcript_text}
 use Rattle.mt_alone.specs.Driven.{IsBeside}
-use Rattle.mt_alone.specs.Plays.{Play, HasPlayed, Runs, put_off, OpenCalls}
+use Rattle.mt_model.specs.Backwards.{OpenCalls}
+use Rattle.mt_alone.specs.Plays.{Play, HasPlayed, Runs, put_off}
 use Rattle.mt_alone.specs.Runs.{HasTurned, last_line}
 use Rattle.mt_alone.specs.Stops.{Ends, IsStopAmong, lines_to, scripts_to, why_stopped}
 use Rattle.mt_alone.specs.declared.stops.Stop.{Stop}

@@ -92,7 +92,7 @@ const SCHEDULE: Entry = Entry {
 /// `check [--pages] [--wait SECONDS] FILE`
 const CHECK: Entry = Entry {
     name: "check",
-    about: "Tell what the log of a device holds, without a write",
+    about: "Report what the log of a device holds, without a write",
     examples: Some(CHECK_EXAMPLES),
     arguments: &[
         Argument {
@@ -151,7 +151,7 @@ const DUMP: Entry = Entry {
 /// `explain [--wait SECONDS] FILE`
 const EXPLAIN: Entry = Entry {
     name: "explain",
-    about: "Tell the log of a device as a history, without a write",
+    about: "Print the log of a device as a history, without a write",
     examples: Some(EXPLAIN_EXAMPLES),
     arguments: &[WAIT, DEVICE],
 };
@@ -186,7 +186,7 @@ const RUN: Entry = Entry {
         Argument {
             id: "frames",
             form: Form::Value("N"),
-            help: "Pages that the kernel keeps in frames, 32 to 4096; 256 where it is not given",
+            help: "Pages that the kernel keeps in frames, 32 to 4096; 256 if it is not given",
         },
         WAIT,
         STOP,
@@ -221,6 +221,7 @@ const CHECK_EXAMPLES: &str = "Example:
   mtk check --pages bank.mtk
 
 prints
+  format 2
   epoch 1
   area 0
   batches 1
@@ -249,7 +250,7 @@ opened as after a crash, and so written to: unfinished transactions are undone."
 const EXPLAIN_EXAMPLES: &str = "Example:
   mtk explain bank.mtk
 
-prints a line for each record of the log, with the number of its batch and that batch's place in the file
+prints a line for each record of the log, with the number of its batch and that batch's offset in the file
   batch 2 at 270341 txn 1 op 1 page 2 from 31 length 1 with image
   batch 2 at 270341 txn 1 op 1 add 0 1
 

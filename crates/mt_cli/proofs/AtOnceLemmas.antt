@@ -17,7 +17,7 @@ use Rattle.mt_txn.specs.Restarted.{FindsCommits}
 use Rattle.mt_txn.specs.Shown.{Restarts, is_failed}
 use Rattle.mt_txn.specs.Turned.{HasNobody}
 use Rattle.mt_txn.specs.declared.kernel.Kernel.{Kernel}
-use Rattle.mt_alone.specs.Plays.{OpenCalls}
+use Rattle.mt_model.specs.Backwards.{OpenCalls}
 use Rattle.mt_alone.proofs.LeftLemmas.{stands_more}
 use Rattle.mt_restart.proofs.Living.{stands_book}
 use Rattle.mt_device_commands.proofs.HeldLemmas.{held_before}

@@ -13,7 +13,7 @@ use Rattle.mt_script.specs.declared.words.ScriptWord.{ScriptWord}
 use Rattle.mt_report.specs.declared.read_faults.ReadFault.{ReadFault}
 use Rattle.mt_report.specs.declared.read_faults.ReadFault.TheVariants.{Refused}
 use Rattle.mt_cli.specs.declared.text_faults.TheConstants.{MAX_TEXT_BYTES}
-use Rattle.mt_cli.specs.Reads.{AreRead, AreUnread, IsReadAt, IsUnreadScript, bytes_at, file_in, held_by, input_behind, is_fed, is_overlong, none_read, one_read, source_of}
+use Rattle.mt_cli.specs.Reads.{AreRead, AreUnread, IsReadAt, IsUnreadScript, named_bytes, file_in, held_by, input_behind, is_fed, is_overlong, none_read, one_read, source_of}
 use Rattle.mt_report.specs.ReadFaults.{is_input}
 
 -- the file that a name names has the bytes of its source
@@ -45,7 +45,7 @@ known_first (Some bs) = refl
 
 module _ (files now : Files) (name : List ℕ) (left held : Option (List ℕ)) (kept : AreKept files now) (known : IsKnown left held) where
   -- what holds of the bytes now does so of those that were known
-  pub first_known : (P : List ℕ → Type 0) → IfSome (bytes_at now name held) P → IfSome (bytes_at files name left) P
+  pub first_known : (P : List ℕ → Type 0) → IfSome (named_bytes now name held) P → IfSome (named_bytes files name left) P
   first_known P is = go (is_input name) left known is
     where
       go : (t : Bool) (o : Option (List ℕ)) → IsKnown o held → IfSome (cond t held (known_in now name)) P → IfSome (cond t o (known_in files name)) P
@@ -84,7 +84,7 @@ one_more files now later input held after names scripts name lines at x kept = r
 
 -- the next one was not
 pub not_more : (files now : Files) (input held : Option (List ℕ)) (names before rest : List (List ℕ)) (scripts : List (List Line)) (name : List ℕ) (place : ℕ) (why : ReadFault ScriptWord) → names ≡ before ++ name ∷ rest → length before ≡ place → IsAt files input before scripts now held
-    → IsUnreadScript (bytes_at now name held) why → AreUnread files input names place why
+    → IsUnreadScript (named_bytes now name held) why → AreUnread files input names place why
 not_more files now input held names before rest scripts name place why split many at unread = record {
   before = before;
   name = name;

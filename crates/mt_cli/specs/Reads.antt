@@ -19,13 +19,13 @@ use Rattle.mt_report.specs.declared.read_faults.ReadFault.{ReadFault}
 use Rattle.mt_report.specs.declared.read_faults.ReadFault.TheVariants.{Refused, BadLine}
 
 -- the bytes of a script of this name, if they are known
-abbrev pub bytes_at : Files → List ℕ → Option (List ℕ) → Option (List ℕ)
-bytes_at files name input = cond (is_input name) input (known_in files name)
+abbrev pub named_bytes : Files → List ℕ → Option (List ℕ) → Option (List ℕ)
+named_bytes files name input = cond (is_input name) input (known_in files name)
 
 -- the bytes of a script or a schedule, if they are known: of the input if there is no name
 abbrev pub source_of : Files → Option (List ℕ) → Option (List ℕ) → Option (List ℕ)
 source_of files None input = input
-source_of files (Some name) input = bytes_at files name input
+source_of files (Some name) input = named_bytes files name input
 
 -- the input is read
 abbrev pub is_fed : Option (List ℕ) → Bool
@@ -87,7 +87,7 @@ input_behind name input = cond (is_input name) None input
 -- One script is read, and the input only if the name represents it.
 pub record IsReadAt (files : Files) (input : Option (List ℕ)) (name : List ℕ) (lines : List Line)
     (later : Option (List ℕ)) : Type 0 where
-  pub spelled : IfSome (bytes_at files name input) (λ bs. IsScript bs lines)
+  pub spelled : IfSome (named_bytes files name input) (λ bs. IsScript bs lines)
   pub untouched : is_input name ≡ false → later ≡ input
 
 -- The scripts of these names are read one after the other: the bytes of each are its lines, if they are known. So
@@ -97,7 +97,7 @@ pub data AreRead (files : Files) (input : Option (List ℕ)) : List (List ℕ) �
   none_read : AreRead files input [] [] input
   one_read : (names : List (List ℕ)) (scripts : List (List Line)) (left : Option (List ℕ)) (name : List ℕ)
       (lines : List Line)
-      → AreRead files input names scripts left → IfSome (bytes_at files name left) (λ bs. IsScript bs lines)
+      → AreRead files input names scripts left → IfSome (named_bytes files name left) (λ bs. IsScript bs lines)
       → AreRead files input (names ++ name ∷ []) (scripts ++ lines ∷ []) (input_behind name left)
 
 abbrev pub HaveBeenRead : Files → Option (List ℕ) → List (List ℕ) → List (List Line) → Type 0
@@ -114,7 +114,7 @@ pub record AreUnread (files : Files) (input : Option (List ℕ)) (names : List (
   pub scripts : List (List Line)
   pub left : Option (List ℕ)
   pub read : AreRead files input before scripts left
-  pub unread : IsUnreadScript (bytes_at files name left) why
+  pub unread : IsUnreadScript (named_bytes files name left) why
 
 -- that is the fault: one of them, by its index, was not read
 abbrev pub HasNoScript : Files → Option (List ℕ) → List (List ℕ) → Fault → Type 0

@@ -4,7 +4,7 @@ ghost use Rattle.mt_base.specs.declared.limits.TheConstants.{MAX_SESSIONS};
 ghost use Rattle.mt_script.specs.Grammars.{AreLines};
 ghost use Rattle.mt_script.specs.Scripts.{lines_in};
 ghost use Rattle.mt_folder.specs.Folders.{AreKept, IsUnmade, known_in};
-ghost use Rattle.mt_cli.specs.Reads.{AreUnreadFor, HasNoScript, HaveBeenRead, IsFront, IsReadAt, IsUnread, IsUnreadScript, bytes_at, file_in, held_by, is_fed, source_of};
+ghost use Rattle.mt_cli.specs.Reads.{AreUnreadFor, HasNoScript, HaveBeenRead, IsFront, IsReadAt, IsUnread, IsUnreadScript, named_bytes, file_in, held_by, is_fed, source_of};
 
 use crate::text_faults::{MAX_TEXT_BYTES, text_fault};
 use mt_base::Refusal;
@@ -191,7 +191,7 @@ fn script_of<F: Folder, I: Read>(
     ensures read { IfOk result (λ script. IsReadAt (F.files folder.old) (I.remaining input.old) name.now
         (lines_in script) (I.remaining input.new)) }
     ensures unread { IfErr result (IsUnreadScript
-        (bytes_at (F.files folder.old) name.now (I.remaining input.old))) }
+        (named_bytes (F.files folder.old) name.now (I.remaining input.old))) }
     ensures kept { AreKept (F.files folder.old) (F.files folder.new) }
 {
     let lines = lines_of::<ScriptGrammar, F, I>(alloc, folder, Some(name), input)?;

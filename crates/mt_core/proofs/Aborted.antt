@@ -25,7 +25,7 @@ use Rattle.mt_op.specs.declared.scope.OpScope.{OpScope}
 use Rattle.mt_pool.proofs.Logged.{no_records}
 use Rattle.mt_space.specs.Changes.{PageBytes}
 use Rattle.mt_steps.specs.Held.{Holds}
-use Rattle.mt_core.specs.Runs.{is_open}
+use Rattle.mt_core.specs.Runs.{is_working}
 use Rattle.mt_op.specs.World.{left_of}
 use Rattle.mt_core.specs.Consistent.{Origin, state_of, IsNumbered, AreReported, IsQueued, IsConsistent, IsIn}
 use Rattle.mt_core.proofs.Resting.{fit_over}
@@ -51,13 +51,13 @@ may_end records t some open_still = let named : (t == 0) ≡ false = ne_eqb t 0 
 
 module _ {D : Type 0} (g : Ghosts D) (origin : Origin) (base : Base) where
   -- the record of the end of a transaction that is at work no more
-  pub ended_in : (k n : Core D) (t : ℕ) → IsConsistent g origin base k → is_open (member_of k.live.members t) ≡ false → t ≤ k.live.begun → All (λ (q : OpScope). q.txn ≢ t) k.running.items
+  pub ended_in : (k n : Core D) (t : ℕ) → IsConsistent g origin base k → is_working (member_of k.live.members t) ≡ false → t ≤ k.live.begun → All (λ (q : OpScope). q.txn ≢ t) k.running.items
       → IsRight g origin.pages origin.relations origin.counters n.operations → Notes (world g origin.pages k.operations) (world g origin.pages n.operations) (AbortEnd t)
       → ((u : OpScope) → IsUnderWay origin.relations origin.counters (world g origin.pages k.operations) u → u.txn ≢ t → IsUnderWay origin.relations origin.counters (world g origin.pages n.operations) u)
       → claimed n.operations ≡ claimed k.operations → used n.operations.store.log + sum_by left_of k.running.items + k.reserved < area_size n.operations.store.log → IsIn g origin base (state_of k base) (record k { operations = n.operations })
   ended_in k n t safe closed low idle right notes others same log =
       let fit = safe.fit in
-      let apart : (u : ℕ) → is_open (member_of k.live.members u) ≡ true → t ≢ u = λ u h is. let here : is_open (member_of k.live.members u) ≡ false = ap (λ v. is_open (member_of k.live.members v)) (sym is) ∙ closed in absurd cc in
+      let apart : (u : ℕ) → is_working (member_of k.live.members u) ≡ true → t ≢ u = λ u h is. let here : is_working (member_of k.live.members u) ≡ false = ap (λ v. is_working (member_of k.live.members v)) (sym is) ∙ closed in absurd cc in
       let numbered : IsNumbered k.last k.live.begun k.live.members k.operations.locks (appended k.operations.store.log ++ AbortEnd t ∷ []) = record {
         locks = fit.numbered.locks;
         ops = λ m above. no_records (ends_op m) (appended k.operations.store.log) (AbortEnd t ∷ []) (fit.numbered.ops m above) refl;

@@ -36,7 +36,7 @@ use Rattle.mt_slock.specs.Views.{held_of}
 use Rattle.mt_steps.specs.Held.{Holds}
 use Rattle.mt_steps.specs.Plans.{own_needs, undo_pages}
 use Rattle.mt_live.specs.declared.transactions.TxnState.TheVariants.{Aborting}
-use Rattle.mt_core.specs.Runs.{running_in, state_in, AreApart, AreHeldBy, IsMoving, IsRunning, IsOwned, pages_of, entry_pages, kept_bytes, taken_bytes, goes_back, is_returning}
+use Rattle.mt_core.specs.Runs.{running_in, state_in, AreApart, AreHeldBy, IsMoving, IsRunning, IsOwned, pages_of, entry_pages, kept_bytes, taken_bytes, is_returning, is_undoing}
 use Rattle.mt_op.specs.World.{left_of}
 use Rattle.mt_core.specs.Consistent.{Origin, state_of, IsNumbered, AreReported, IsQueued, IsFit, IsConsistent, IsAlone, IsReady, IsIn, Advances}
 use Rattle.mt_core.specs.declared.parts.Core.{Core}
@@ -72,7 +72,7 @@ owned_same ms r q standing same taken o = record {
   few = λ fore. rw same.txn (o.few (sym same.undoes ∙ fore));
   taken = taken;
   forwards = λ fore. ap is_returning (ap (state_in ms) same.txn) ∙ o.forwards (sym same.undoes ∙ fore);
-  backwards = λ back. ap goes_back (ap (state_in ms) same.txn) ∙ o.backwards (λ is. back (same.undoes ∙ is));
+  backwards = λ back. ap is_undoing (ap (state_in ms) same.txn) ∙ o.backwards (λ is. back (same.undoes ∙ is));
   returns = λ back first is. let was = o.returns (λ e. back (same.undoes ∙ e)) first (ap (state_in ms) (sym same.txn) ∙ is) in record { room = rw same.txn was.room; newest = subst (λ (X : Type 0). X) (λ i. IsAbove (sym same.number i) (member_of ms (sym same.txn i))) was.newest; after = rw same.txn was.after };
 }
 

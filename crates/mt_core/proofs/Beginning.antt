@@ -5,13 +5,11 @@ use Rattle.std.specs.Option.{option_map}
 use Rattle.std.proofs.lemmas.Bool.{eq-eqb, eqb-true}
 use Rattle.mt_disk.specs.declared.device.Device.{Ghosts}
 use Rattle.mt_area_rules.specs.History.{some_record, ends_txn}
-use Rattle.mt_frame.specs.declared.records.Record.{Record}
 use Rattle.mt_live.proofs.Keeping.{kept_begun}
 use Rattle.mt_live.specs.Lives.{calls_in, member_of, has_room, IsChanged, IsAbove}
 use Rattle.mt_live.specs.Machine.{State, put, IsKept, begun}
 use Rattle.mt_live.specs.Members.{Member, with_room}
 use Rattle.mt_live.specs.Members as members
-use Rattle.mt_live.specs.Entries.{Entry}
 use Rattle.mt_live.specs.Members.{forward_count, last_operation, last_place, noted_after}
 use Rattle.mt_live.specs.Undoing.{last_effect}
 use Rattle.std.specs.List.{sum_by}
@@ -20,7 +18,7 @@ use Rattle.mt_model.specs.Model.{Base}
 use Rattle.mt_slock.specs.Views.{held_of}
 use Rattle.mt_live.specs.declared.transactions.TxnState.TheVariants.{Open, Committing, Returning, Aborting}
 use Rattle.mt_live.specs.declared.transactions.TxnState.{TxnState}
-use Rattle.mt_core.specs.Runs.{running_in, IsOwned, is_at_work, is_open, goes_back, is_returning, did_after, entry_pages, entry_bytes}
+use Rattle.mt_core.specs.Runs.{running_in, is_at_work, is_returning, did_after, entry_pages, entry_bytes, is_working, is_undoing}
 use Rattle.mt_op.specs.World.{left_of}
 use Rattle.mt_core.specs.Consistent.{Origin, state_of, state_in, AreLeft, IsNumbered, IsReported, IsWithinSchema, IsConsistent, IsIn}
 use Rattle.mt_core.specs.declared.parts.Core.{Core}
@@ -38,19 +36,19 @@ fresh_session f t session u = go (u == t)
     go false = refl
 
 -- one that is at work, and goes on to a state of such, is at work as before
-pub reopened : (old new : List Member) (t : ℕ) (state : TxnState) → is_open (member_of old t) ≡ true → is_at_work state ≡ true → IsChanged old new t (λ m. members.with_state m state) → (u : ℕ) → is_open (member_of new u) ≡ is_open (member_of old u)
-reopened old new t state was works changed u = ap is_open (changed u) ∙ go (u == t) refl
+pub reopened : (old new : List Member) (t : ℕ) (state : TxnState) → is_working (member_of old t) ≡ true → is_at_work state ≡ true → IsChanged old new t (λ m. members.with_state m state) → (u : ℕ) → is_working (member_of new u) ≡ is_working (member_of old u)
+reopened old new t state was works changed u = ap is_working (changed u) ∙ go (u == t) refl
   where
-    opened : (o : Option Member) → is_open o ≡ true → is_open (option_map (λ (m : Member). members.with_state m state) o) ≡ is_open o
+    opened : (o : Option Member) → is_working o ≡ true → is_working (option_map (λ (m : Member). members.with_state m state) o) ≡ is_working o
     opened None is = absurd cc
     opened (Some m) is = works ∙ sym is
 
-    go : (c : Bool) → (u == t) ≡ c → is_open (cond c (option_map (λ (m : Member). members.with_state m state) (member_of old t)) (member_of old u)) ≡ is_open (member_of old u)
-    go true is = opened (member_of old t) was ∙ ap (λ (v : ℕ). is_open (member_of old v)) (sym (eqb-true u t is))
+    go : (c : Bool) → (u == t) ≡ c → is_working (cond c (option_map (λ (m : Member). members.with_state m state) (member_of old t)) (member_of old u)) ≡ is_working (member_of old u)
+    go true is = opened (member_of old t) was ∙ ap (λ (v : ℕ). is_working (member_of old v)) (sym (eqb-true u t is))
     go false is = refl
 
 -- one that is at work lives
-pub there_open : (o : Option Member) → is_open o ≡ true → is_some o ≡ true
+pub there_open : (o : Option Member) → is_working o ≡ true → is_some o ≡ true
 there_open None is = absurd cc
 there_open (Some m) is = refl
 
@@ -84,23 +82,23 @@ pub record StatesGoOn (old new : Option TxnState) : Type 0 where
   pub commits : old ≡ Some Committing → new ≡ Some Committing
   pub committed : new ≡ Some Committing → old ≡ Some Committing
   pub aborts : old ≡ Some Aborting → new ≡ Some Aborting
-  pub backwards : goes_back old ≡ true → goes_back new ≡ true
-  pub returns : goes_back old ≡ true → (first : ℕ) → new ≡ Some (Returning first) → old ≡ Some (Returning first)
+  pub backwards : is_undoing old ≡ true → is_undoing new ≡ true
+  pub returns : is_undoing old ≡ true → (first : ℕ) → new ≡ Some (Returning first) → old ≡ Some (Returning first)
 
 pub same_goes : (old new : Option TxnState) → new ≡ old → StatesGoOn old new
 same_goes old new same = record {
   commits = λ is. same ∙ is;
   committed = λ is. sym same ∙ is;
   aborts = λ is. same ∙ is;
-  backwards = λ is. ap goes_back same ∙ is;
+  backwards = λ is. ap is_undoing same ∙ is;
   returns = λ back first is. sym same ∙ is;
 }
 
 -- to this state of one that is at work
 pub record GoesOnTo (old : Option TxnState) (state : TxnState) : Type 0 where
   pub aborts : old ≡ Some Aborting → state ≡ Aborting
-  pub backwards : goes_back old ≡ true → goes_back (Some state) ≡ true
-  pub returns : goes_back old ≡ true → (first : ℕ) → state ≡ Returning first → old ≡ Some (Returning first)
+  pub backwards : is_undoing old ≡ true → is_undoing (Some state) ≡ true
+  pub returns : is_undoing old ≡ true → (first : ℕ) → state ≡ Returning first → old ≡ Some (Returning first)
 
 pub aborting_goes : (old : Option TxnState) → GoesOnTo old Aborting
 aborting_goes old = record { aborts = λ is. refl; backwards = λ is. refl; returns = λ back first is. absurd cc }
@@ -109,7 +107,7 @@ pub returning_goes : (old : Option TxnState) (first : ℕ) → old ≡ Some Open
 returning_goes old first opened = record {
   aborts = λ is. absurd (let now : Some Open ≡ Some Aborting = sym opened ∙ is in cc);
   backwards = λ is. refl;
-  returns = λ back other is. absurd (let not : goes_back old ≡ false = ap goes_back opened in cc);
+  returns = λ back other is. absurd (let not : is_undoing old ≡ false = ap is_undoing opened in cc);
 }
 
 module _ {D : Type 0} (g : Ghosts D) (origin : Origin) (base : Base) where
@@ -134,7 +132,7 @@ module _ {D : Type 0} (g : Ghosts D) (origin : Origin) (base : Base) where
       } in
       let other : (i : ℕ) (d : OpScope) → i < length k.running.items → member_of n.live.members (get_or k.running.items i d).txn ≡ member_of k.live.members (get_or k.running.items i d).txn =
       λ i d lt. new (get_or k.running.items i d).txn ∙ put_other (member_of k.live.members) t (Some (members.fresh t session)) (get_or k.running.items i d).txn
-      (λ is. let at_work = (fit.owned i d lt).at_work in let here : is_open (member_of k.live.members (get_or k.running.items i d).txn) ≡ false = ap (λ (u : ℕ). is_open (member_of k.live.members u)) is ∙ ap is_open none in absurd cc) in
+      (λ is. let at_work = (fit.owned i d lt).at_work in let here : is_working (member_of k.live.members (get_or k.running.items i d).txn) ≡ false = ap (λ (u : ℕ). is_working (member_of k.live.members u)) is ∙ ap is_working none in absurd cc) in
       let claims = safe.claims in let reserves = fit.reserves in
       let sum_pages = ap (sum_by entry_pages) standing in let sum_bytes = ap (sum_by entry_bytes) standing in
       record {
@@ -148,7 +146,7 @@ module _ {D : Type 0} (g : Ghosts D) (origin : Origin) (base : Base) where
             numbered = subst (λ (m : ℕ). IsNumbered k.last m n.live.members k.operations.locks (appended k.operations.store.log)) (sym more) (record {
               locks = fit.numbered.locks;
               ops = fit.numbered.ops;
-              txns = λ u is. go u (u == t) refl (sym (ap is_open (new u)) ∙ is);
+              txns = λ u is. go u (u == t) refl (sym (ap is_working (new u)) ∙ is);
               coming = λ u above. fit.numbered.coming u (omega (arith, above));
               few_operations = fit.numbered.few_operations;
               few_transactions = omega (arith, few);
@@ -171,7 +169,7 @@ module _ {D : Type 0} (g : Ghosts D) (origin : Origin) (base : Base) where
         state = state;
       }
     where
-      go : (u : ℕ) (c : Bool) → (u == t) ≡ c → is_open (cond c (Some (members.fresh t session)) (member_of k.live.members u)) ≡ true → some_record (ends_txn u) (appended k.operations.store.log) ≡ false
+      go : (u : ℕ) (c : Bool) → (u == t) ≡ c → is_working (cond c (Some (members.fresh t session)) (member_of k.live.members u)) ≡ true → some_record (ends_txn u) (appended k.operations.store.log) ≡ false
       go u true is h = safe.fit.numbered.coming u (let same : u ≡ t = eqb-true u t is in omega (arith, same, number))
       go u false is h = safe.fit.numbered.txns u h
 
@@ -189,7 +187,7 @@ module _ {D : Type 0} (g : Ghosts D) (origin : Origin) (base : Base) where
   -- one that is changed, stays at work and keeps its calls, with what it has of room or more
   pub changed_in : (k n : Core D) (t : ℕ) (f : Member → Member) → IsConsistent g origin base k → IsChanged k.live.members n.live.members t f → n.live.begun ≡ k.live.begun → n.live.standing ≡ k.live.standing → length n.live.members ≡ length k.live.members
       → ((m : Member) → (f m).session ≡ m.session) → ((m : Member) → member_of k.live.members t ≡ Some m → IsReported k.last (appended k.operations.store.log) t m → IsReported k.last (appended k.operations.store.log) t (f m)) → ((m : Member) → (f m).calls ≡ m.calls) → ((m : Member) → (f m).operations ≡ m.operations)
-      → ((u : ℕ) → is_open (member_of n.live.members u) ≡ is_open (member_of k.live.members u)) → ((u : ℕ) → has_room (member_of k.live.members u) ≡ true → has_room (member_of n.live.members u) ≡ true) → ((u : ℕ) → StatesGoOn (state_in k.live.members u) (state_in n.live.members u))
+      → ((u : ℕ) → is_working (member_of n.live.members u) ≡ is_working (member_of k.live.members u)) → ((u : ℕ) → has_room (member_of k.live.members u) ≡ true → has_room (member_of n.live.members u) ≡ true) → ((u : ℕ) → StatesGoOn (state_in k.live.members u) (state_in n.live.members u))
       → ((i : ℕ) (d : OpScope) → i < length k.running.items → is_returning (state_in k.live.members (get_or k.running.items i d).txn) ≡ false → is_returning (state_in n.live.members (get_or k.running.items i d).txn) ≡ false)
       → IsIn g origin base (state_of k base) (record k { live = n.live })
   changed_in k n t f safe changed begun_same standing count session outcome same_calls same_operations open_same roomy states forwards =
@@ -262,17 +260,17 @@ module _ {D : Type 0} (g : Ghosts D) (origin : Origin) (base : Base) where
   roomed_in k n t safe changed begun_same standing count =
       let states : (u : ℕ) → state_in n.live.members u ≡ state_in k.live.members u = changed_keeps (option_map (λ (m : Member). m.state)) members.with_room k.live.members n.live.members t (λ m. refl) changed in
       changed_in k n t members.with_room safe changed begun_same standing count (λ m. refl) (λ m is outcome. record { many = outcome.many; numbers = outcome.numbers; rising = outcome.rising; due = outcome.due; firsts = outcome.firsts; few = outcome.few }) (λ m. refl) (λ m. refl)
-      (changed_keeps is_open members.with_room k.live.members n.live.members t (λ m. refl) changed) (roomier k.live.members n.live.members t changed) (λ u. same_goes (state_in k.live.members u) (state_in n.live.members u) (states u))
+      (changed_keeps is_working members.with_room k.live.members n.live.members t (λ m. refl) changed) (roomier k.live.members n.live.members t changed) (λ u. same_goes (state_in k.live.members u) (state_in n.live.members u) (states u))
       (λ i d lt is. ap is_returning (states (get_or k.running.items i d).txn) ∙ is)
 
 -- one that is at work has it
-pub roomed_open : (old new : List Member) (t : ℕ) → is_open (member_of old t) ≡ true → IsChanged old new t members.with_room → (is_open (member_of new t) ≡ true) × (has_room (member_of new t) ≡ true)
-roomed_open old new t at_work changed = (changed_keeps is_open members.with_room old new t (λ m. refl) changed t ∙ at_work, ap has_room (changed t ∙ here) ∙ go (member_of old t) at_work)
+pub roomed_open : (old new : List Member) (t : ℕ) → is_working (member_of old t) ≡ true → IsChanged old new t members.with_room → (is_working (member_of new t) ≡ true) × (has_room (member_of new t) ≡ true)
+roomed_open old new t at_work changed = (changed_keeps is_working members.with_room old new t (λ m. refl) changed t ∙ at_work, ap has_room (changed t ∙ here) ∙ go (member_of old t) at_work)
   where
     here : put (member_of old) t (option_map members.with_room (member_of old t)) t ≡ option_map members.with_room (member_of old t)
     here = let same : (t == t) ≡ true = eq-eqb t t refl in rw same refl
 
-    go : (o : Option Member) → is_open o ≡ true → has_room (option_map members.with_room o) ≡ true
+    go : (o : Option Member) → is_working o ≡ true → has_room (option_map members.with_room o) ≡ true
     go None is = absurd cc
     go (Some m) is = refl
 
@@ -289,13 +287,13 @@ pub other_forwards : (old new : List Member) (t u : ℕ) (state : TxnState) → 
 other_forwards old new t u state lives changed apart was = ap is_returning (states_set old new t state lives changed u ∙ put_other (state_in old) t (Some state) u apart) ∙ was
 
 -- the states, if one that is at work goes on to a state of such
-pub reopened_states : (old new : List Member) (t : ℕ) (state : TxnState) → is_open (member_of old t) ≡ true → is_at_work state ≡ true → GoesOnTo (state_in old t) state → IsChanged old new t (λ m. members.with_state m state) → (u : ℕ) → StatesGoOn (state_in old u) (state_in new u)
+pub reopened_states : (old new : List Member) (t : ℕ) (state : TxnState) → is_working (member_of old t) ≡ true → is_at_work state ≡ true → GoesOnTo (state_in old t) state → IsChanged old new t (λ m. members.with_state m state) → (u : ℕ) → StatesGoOn (state_in old u) (state_in new u)
 reopened_states old new t state was works goes changed u = go (u == t) refl
   where
     set : (v : ℕ) → state_in new v ≡ put (state_in old) t (Some state) v
     set v = states_set old new t state (there_open (member_of old t) was) changed v
 
-    uncommitted : (o : Option Member) → is_open o ≡ true → option_map (λ (m : Member). m.state) o ≡ Some Committing → ⊥
+    uncommitted : (o : Option Member) → is_working o ≡ true → option_map (λ (m : Member). m.state) o ≡ Some Committing → ⊥
     uncommitted None is h = absurd cc
     uncommitted (Some m) is h = let now : m.state ≡ Committing = cc in let works_not : is_at_work m.state ≡ false = ap is_at_work now in absurd cc
 
@@ -311,7 +309,7 @@ reopened_states old new t state was works goes changed u = go (u == t) refl
           commits = λ h. absurd (uncommitted (member_of old t) was (sym here ∙ h));
           committed = λ h. absurd (no_commit (let same : Some state ≡ Some Committing = sym now ∙ h in cc));
           aborts = λ h. now ∙ ap Some (goes.aborts (sym here ∙ h));
-          backwards = λ h. ap goes_back now ∙ goes.backwards (ap goes_back (sym here) ∙ h);
-          returns = λ back first h. here ∙ goes.returns (ap goes_back (sym here) ∙ back) first (let same : Some state ≡ Some (Returning first) = sym now ∙ h in cc);
+          backwards = λ h. ap is_undoing now ∙ goes.backwards (ap is_undoing (sym here) ∙ h);
+          returns = λ back first h. here ∙ goes.returns (ap is_undoing (sym here) ∙ back) first (let same : Some state ≡ Some (Returning first) = sym now ∙ h in cc);
         }
     go false is = same_goes (state_in old u) (state_in new u) (set u ∙ ap (λ (c : Bool). cond c (Some state) (state_in old u)) is)

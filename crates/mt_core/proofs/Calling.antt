@@ -33,7 +33,7 @@ use Rattle.mt_space.specs.Changes.{PageBytes}
 use Rattle.mt_slock.specs.declared.holders.Holder.{Holder}
 use Rattle.mt_steps.specs.Held.{Holds}
 use Rattle.mt_steps.specs.Plans.{own_needs, undo_pages}
-use Rattle.mt_core.specs.Runs.{running_in, AreApart, AreHeldBy, IsRunning, IsOwned, is_open, undo_bytes, pages_of, kept_bytes, taken_bytes}
+use Rattle.mt_core.specs.Runs.{running_in, AreApart, AreHeldBy, IsRunning, IsOwned, undo_bytes, pages_of, kept_bytes, taken_bytes, is_working}
 use Rattle.mt_op.specs.World.{left_of}
 use Rattle.mt_core.specs.Consistent.{Origin, state_of, IsNumbered, AreReported, IsQueued, IsFit, IsConsistent, IsGranted, IsIn}
 use Rattle.mt_core.specs.declared.parts.Core.{Core}
@@ -42,7 +42,7 @@ use Rattle.mt_core.proofs.Holders.{held_push, sums_push}
 use Rattle.mt_core.proofs.Numbers.{fresh}
 use Rattle.mt_core.proofs.Reported.{reported_last}
 
-pub open_some : (o : Option Member) → is_open o ≡ true → is_some o ≡ true
+pub open_some : (o : Option Member) → is_working o ≡ true → is_some o ≡ true
 open_some None is = absurd cc
 open_some (Some m) is = refl
 
@@ -93,12 +93,12 @@ needs_few (Scan r) split = omega arith
 
 module _ {D : Type 0} (g : Ghosts D) (origin : Origin) (base : Base) where
   -- a transaction that is open has a number that was given
-  pub txn_low : (k : Core D) (t : ℕ) → IsFit g origin base k → is_open (member_of k.live.members t) ≡ true → t ≤ k.live.begun
+  pub txn_low : (k : Core D) (t : ℕ) → IsFit g origin base k → is_working (member_of k.live.members t) ≡ true → t ≤ k.live.begun
   txn_low k t fit at_work =
       let live = mapped_some (member_of k.live.members t) (open_some (member_of k.live.members t) at_work) in
       ⊎_elim (λ (less : t < k.live.begun + 1). omega arith) (λ (above : k.live.begun + 1 ≤ t). absurd (fit.kept.owned.fresh t above live)) (cases_lt t (k.live.begun + 1))
 
-  pub txn_named : (k : Core D) (t : ℕ) → IsFit g origin base k → is_open (member_of k.live.members t) ≡ true → IsTxn t
+  pub txn_named : (k : Core D) (t : ℕ) → IsFit g origin base k → is_working (member_of k.live.members t) ≡ true → IsTxn t
   txn_named k t fit at_work =
       let there = open_some (member_of k.live.members t) at_work in
       let few = fit.numbered.few_transactions in
@@ -109,7 +109,7 @@ module _ {D : Type 0} (g : Ghosts D) (origin : Origin) (base : Base) where
       low u there = ⊎_elim (λ (zero_is : u ≡ 0). let none : is_some (member_of k.live.members u) ≡ false = ap (λ v. is_some (member_of k.live.members v)) zero_is ∙ fit.numbered.nobody in absurd cc) (λ (some : u ≡ 0 → ⊥). omega arith) (cases_eq u 0)
 
   -- the number that comes next is fresh
-  pub next_fresh : (k : Core D) (t n : ℕ) → IsFit g origin base k → is_open (member_of k.live.members t) ≡ true → k.last < n → IsFresh (world g origin.pages k.operations) t n 0
+  pub next_fresh : (k : Core D) (t n : ℕ) → IsFit g origin base k → is_working (member_of k.live.members t) ≡ true → k.last < n → IsFresh (world g origin.pages k.operations) t n 0
   next_fresh k t n fit at_work above = fresh k.last k.live.begun k.live.members origin.relations origin.counters (world g origin.pages k.operations) t n fit.right.sound above at_work fit.numbered
 
   pub called_in : (was : List (Object × List Holder)) (escrow : Escrowed) (k n : Core D) (t : ℕ) (op : Op) (split : Bool) (r : OpScope) → IsGranted g origin base was escrow k t op → n.running.items ≡ k.running.items ++ r ∷ []

@@ -25,7 +25,7 @@ use Rattle.mt_pool.proofs.Logged.{no_records}
 use Rattle.mt_space.specs.Changes.{PageBytes}
 use Rattle.mt_slock.specs.Views.{held_of}
 use Rattle.mt_steps.specs.Held.{Holds}
-use Rattle.mt_core.specs.Runs.{running_in, AreHeldBy, is_at_work, is_open, entry_pages, entry_bytes}
+use Rattle.mt_core.specs.Runs.{running_in, AreHeldBy, is_at_work, entry_pages, entry_bytes, is_working}
 use Rattle.mt_core.specs.Consistent.{Origin, state_of, IsNumbered, AreReported, IsQueued, IsWithinSchema, IsEscrowed, IsConsistent, IsIn}
 use Rattle.mt_core.specs.declared.parts.Core.{Core}
 use Rattle.mt_core.proofs.Calling.{txn_low}
@@ -38,18 +38,18 @@ use Rattle.std.specs.Vec.{vec_capacity}
 use Rattle.mt_model.specs.History.{after}
 
 -- what is open then was open before, and is another
-closed_other : (old new : List Member) (t : ℕ) → IsChanged old new t (λ m. with_state m Committing) → (u : ℕ) → is_open (member_of new u) ≡ true → u ≢ t
-closed_other old new t changed u h is = go (member_of old t) (sym (ap is_open (changed u ∙ at)) ∙ h)
+closed_other : (old new : List Member) (t : ℕ) → IsChanged old new t (λ m. with_state m Committing) → (u : ℕ) → is_working (member_of new u) ≡ true → u ≢ t
+closed_other old new t changed u h is = go (member_of old t) (sym (ap is_working (changed u ∙ at)) ∙ h)
   where
     at : cond (u == t) (option_map (λ (m : Member). with_state m Committing) (member_of old t)) (member_of old u) ≡ option_map (λ (m : Member). with_state m Committing) (member_of old t)
     at = let same : (u == t) ≡ true = eq-eqb u t is in rw same refl
 
-    go : (o : Option Member) → is_open (option_map (λ (m : Member). with_state m Committing) o) ≡ true → ⊥
+    go : (o : Option Member) → is_working (option_map (λ (m : Member). with_state m Committing) o) ≡ true → ⊥
     go None k = absurd cc
     go (Some m) k = absurd cc
 
 module _ {D : Type 0} (g : Ghosts D) (origin : Origin) (base : Base) where
-  pub committing_in : (k n : Core D) (c : Queued) → IsConsistent g origin base k → is_open (member_of k.live.members c.txn) ≡ true → All (λ (q : OpScope). q.txn ≢ c.txn) k.running.items
+  pub committing_in : (k n : Core D) (c : Queued) → IsConsistent g origin base k → is_working (member_of k.live.members c.txn) ≡ true → All (λ (q : OpScope). q.txn ≢ c.txn) k.running.items
       → IsRight g origin.pages origin.relations origin.counters n.operations → Notes (world g origin.pages k.operations) (world g origin.pages n.operations) (Commit c.txn)
       → ((u : OpScope) → IsUnderWay origin.relations origin.counters (world g origin.pages k.operations) u → u.txn ≢ c.txn → IsUnderWay origin.relations origin.counters (world g origin.pages n.operations) u)
       → claimed n.operations ≡ claimed k.operations → used n.operations.store.log ≡ used k.operations.store.log + 14 → area_size n.operations.store.log ≡ area_size k.operations.store.log
@@ -72,7 +72,7 @@ module _ {D : Type 0} (g : Ghosts D) (origin : Origin) (base : Base) where
         base = base;
       } in
       let other : (u : ℕ) → u ≢ t → member_of n.live.members u ≡ member_of k.live.members u = changed_other (λ m. with_state m Committing) k.live.members n.live.members t changed in
-      let old : (u : ℕ) → is_open (member_of n.live.members u) ≡ true → is_open (member_of k.live.members u) ≡ true = λ u h. sym (ap is_open (other u (closed_other k.live.members n.live.members t changed u h))) ∙ h in
+      let old : (u : ℕ) → is_working (member_of n.live.members u) ≡ true → is_working (member_of k.live.members u) ≡ true = λ u h. sym (ap is_working (other u (closed_other k.live.members n.live.members t changed u h))) ∙ h in
       let low = txn_low g origin base k t fit at_work in
       let numbered : IsNumbered k.last k.live.begun n.live.members k.operations.locks (appended k.operations.store.log ++ Commit t ∷ []) = record {
         locks = fit.numbered.locks;
@@ -124,11 +124,11 @@ module _ {D : Type 0} (g : Ghosts D) (origin : Origin) (base : Base) where
       put_own : (f : ℕ → Option Member) (u : ℕ) (x : Option Member) → put f u x u ≡ x
       put_own f u x = let same : (u == u) ≡ true = eq-eqb u u refl in rw same refl
 
-      working : (o : Option Member) → is_open o ≡ true → option_map (λ (m : Member). m.state) o ≡ Some Committing → ⊥
+      working : (o : Option Member) → is_working o ≡ true → option_map (λ (m : Member). m.state) o ≡ Some Committing → ⊥
       working None is h = absurd cc
       working (Some m) is h = let state : m.state ≡ Committing = cc in let closed : is_at_work m.state ≡ false = ap is_at_work state in absurd cc
 
-      now_commits : (o : Option Member) → is_open o ≡ true → (p : Option Member) → p ≡ option_map (λ (m : Member). with_state m Committing) o → option_map (λ (m : Member). m.state) p ≡ Some Committing
+      now_commits : (o : Option Member) → is_working o ≡ true → (p : Option Member) → p ≡ option_map (λ (m : Member). with_state m Committing) o → option_map (λ (m : Member). m.state) p ≡ Some Committing
       now_commits None is p h = absurd cc
       now_commits (Some m) is p h = ap (option_map (λ (x : Member). x.state)) h
 

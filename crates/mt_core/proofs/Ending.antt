@@ -14,7 +14,7 @@ use Rattle.mt_live.proofs.Keeping.{kept_ended, kept_undone}
 use Rattle.mt_live.proofs.Lasts.{last_within}
 use Rattle.mt_live.specs.Adds.{GivesBack}
 use Rattle.mt_live.specs.Entries.{Entry}
-use Rattle.mt_live.specs.Lives.{calls_in, member_of, has_room, IsChanged, IsAbove}
+use Rattle.mt_live.specs.Lives.{calls_in, member_of, IsChanged, IsAbove}
 use Rattle.mt_live.specs.Machine.{State, put, IsKept, ended, undone}
 use Rattle.mt_live.specs.Members.{Member, forward_count, noted, with_call, taken_back, cut_to, last_place, last_operation, has_inverse}
 use Rattle.mt_live.specs.Undoing.{cut_back}
@@ -41,7 +41,7 @@ use Rattle.mt_slock.specs.Views.{held_of}
 use Rattle.mt_steps.specs.Held.{Holds}
 use Rattle.mt_steps.specs.Logged.{logged_of}
 use Rattle.mt_steps.specs.Plans.{own_needs, undo_pages}
-use Rattle.mt_core.specs.Runs.{running_in, AreApart, AreHeldBy, IsRunning, IsOwned, is_open, undo_bytes, pages_of, entry_pages, entry_bytes, kept_bytes, taken_bytes}
+use Rattle.mt_core.specs.Runs.{running_in, AreApart, AreHeldBy, IsRunning, IsOwned, undo_bytes, pages_of, entry_pages, entry_bytes, kept_bytes, taken_bytes, is_working}
 use Rattle.mt_op.specs.World.{left_of}
 use Rattle.mt_core.specs.Consistent.{Origin, state_of, state_in, AreLeft, IsNumbered, IsDue, IsReported, AreReported, IsQueued, IsWithinSchema, IsFit, IsAlone, IsReady, IsIn, UndoesIn}
 use Rattle.mt_core.specs.declared.parts.Core.{Core}
@@ -127,7 +127,7 @@ module _ {D : Type 0} (g : Ghosts D) (origin : Origin) (base : Base) where
       }
 
   -- members that have changed, where no transaction is open that was not
-  pub numbered_members : (last begun : ℕ) (ms new : List Member) (locks : List PageLock) (records : List Record) → ((t : ℕ) → is_open (member_of new t) ≡ is_open (member_of ms t)) → is_some (member_of new 0) ≡ is_some (member_of ms 0) → IsNumbered last begun ms locks records → IsNumbered last begun new locks records
+  pub numbered_members : (last begun : ℕ) (ms new : List Member) (locks : List PageLock) (records : List Record) → ((t : ℕ) → is_working (member_of new t) ≡ is_working (member_of ms t)) → is_some (member_of new 0) ≡ is_some (member_of ms 0) → IsNumbered last begun ms locks records → IsNumbered last begun new locks records
   numbered_members last begun ms new locks records same nobody k = record { locks = k.locks; ops = k.ops; txns = λ t is. k.txns t (sym (same t) ∙ is); coming = k.coming; few_operations = k.few_operations; few_transactions = k.few_transactions; nobody = nobody ∙ k.nobody }
 
   -- ---- a forward operation
@@ -153,7 +153,7 @@ module _ {D : Type 0} (g : Ghosts D) (origin : Origin) (base : Base) where
       let l = left k n place r Ready fit alone items h in
       let sessions : (t : ℕ) → option_map (λ (m : Member). m.session) (member_of n.live.members t) ≡ option_map (λ (m : Member). m.session) (member_of k.live.members t) =
       changed_keeps (option_map (λ (m : Member). m.session)) (λ m. with_call m r.number (r.op, reply)) k.live.members n.live.members r.txn (λ m. refl) changed in
-      let open_same : (t : ℕ) → is_open (member_of n.live.members t) ≡ is_open (member_of k.live.members t) = changed_keeps is_open (λ m. with_call m r.number (r.op, reply)) k.live.members n.live.members r.txn (λ m. refl) changed in
+      let open_same : (t : ℕ) → is_working (member_of n.live.members t) ≡ is_working (member_of k.live.members t) = changed_keeps is_working (λ m. with_call m r.number (r.op, reply)) k.live.members n.live.members r.txn (λ m. refl) changed in
       let states : (t : ℕ) → state_in n.live.members t ≡ state_in k.live.members t = changed_keeps (option_map (λ (m : Member). m.state)) (λ m. with_call m r.number (r.op, reply)) k.live.members n.live.members r.txn (λ m. refl) changed in
       let stands : k.live.standing ++ record { txn = r.txn; op = r.op; reply = reply_of base r.op; role = Stands } ∷ [] ≡ n.live.standing =
       (λ i. k.live.standing ++ record { txn = r.txn; op = r.op; reply = y.replies i; role = Stands } ∷ []) ∙ sym standing in
@@ -261,7 +261,7 @@ module _ {D : Type 0} (g : Ghosts D) (origin : Origin) (base : Base) where
       let l = left k n place r Ready fit alone items h in
       let sessions : (u : ℕ) → option_map (λ (m : Member). m.session) (member_of n.live.members u) ≡ option_map (λ (m : Member). m.session) (member_of k.live.members u) =
       changed_keeps (option_map (λ (m : Member). m.session)) taken_back k.live.members n.live.members r.txn (λ m. cut_keeps (option_map (λ (x : Member). x.session)) (λ x v. refl) m (last_place m.calls)) changed in
-      let open_same : (u : ℕ) → is_open (member_of n.live.members u) ≡ is_open (member_of k.live.members u) = changed_keeps is_open taken_back k.live.members n.live.members r.txn (λ m. cut_keeps is_open (λ x v. refl) m (last_place m.calls)) changed in
+      let open_same : (u : ℕ) → is_working (member_of n.live.members u) ≡ is_working (member_of k.live.members u) = changed_keeps is_working taken_back k.live.members n.live.members r.txn (λ m. cut_keeps is_working (λ x v. refl) m (last_place m.calls)) changed in
       let states : (u : ℕ) → state_in n.live.members u ≡ state_in k.live.members u = changed_keeps (option_map (λ (m : Member). m.state)) taken_back k.live.members n.live.members r.txn (λ m. cut_keeps (option_map (λ (x : Member). x.state)) (λ x v. refl) m (last_place m.calls)) changed in
       let gone : (u : ℕ) → running_in k.running.items u ≡ running_in n.running.items u =
       λ u. sym (running_without k.running.items place r alone.within alone.there back u) ∙ ap (λ (rs : List OpScope). running_in rs u) (sym items) in

@@ -20,7 +20,7 @@ use Rattle.std.specs.Prelude.{take}
 use Rattle.std.proofs.lemmas.List.{length-map, length-take}
 use Rattle.std.proofs.lemmas.List.Sums.{count_by-le-length}
 use Rattle.mt_steps.specs.Plans.{own_needs, undo_pages}
-use Rattle.mt_core.specs.Runs.{is_at_work, is_open, undo_bytes, pages_of, entry_pages, entry_bytes, kept_bytes, taken_bytes}
+use Rattle.mt_core.specs.Runs.{is_at_work, undo_bytes, pages_of, entry_pages, entry_bytes, kept_bytes, taken_bytes, is_working}
 use Rattle.mt_core.specs.Consistent.{Origin, state_in, IsFit, IsConsistent}
 use Rattle.mt_core.specs.declared.parts.Core.{Core}
 use Rattle.mt_op.specs.declared.scope.OpScope.{OpScope}
@@ -32,14 +32,14 @@ pub stated_some : (o : Option Member) → option_map (λ (m : Member). m.state) 
 stated_some None is = absurd cc
 stated_some (Some m) is = refl
 
-open_apart : (ms : List Member) (t u : ℕ) → is_open (member_of ms t) ≡ true → state_in ms u ≡ Some Committing → u ≢ t
+open_apart : (ms : List Member) (t u : ℕ) → is_working (member_of ms t) ≡ true → state_in ms u ≡ Some Committing → u ≢ t
 open_apart ms t u at_work is same = go (member_of ms t) at_work (ap (λ (v : ℕ). state_in ms v) (sym same) ∙ is)
   where
-    go : (o : Option Member) → is_open o ≡ true → option_map (λ (m : Member). m.state) o ≡ Some Committing → ⊥
+    go : (o : Option Member) → is_working o ≡ true → option_map (λ (m : Member). m.state) o ≡ Some Committing → ⊥
     go None a b = absurd cc
     go (Some m) a b = let state : m.state ≡ Committing = cc in let closed : is_at_work m.state ≡ false = ap is_at_work state in absurd cc
 
-open_member : (o : Option Member) → is_open o ≡ true → is_some o ≡ true
+open_member : (o : Option Member) → is_working o ≡ true → is_some o ≡ true
 open_member None is = absurd cc
 open_member (Some m) is = refl
 
@@ -55,7 +55,7 @@ module _ {D : Type 0} (g : Ghosts D) (origin : Origin) (base : Base) where
   commits_few k fit = members_many k.commits.items k.live.members fit.queued.apart (λ i d lt. stated_some (member_of k.live.members (get_or k.commits.items i d).txn) (fit.queued.each i d lt))
 
   -- with one that is at work besides
-  commits_fewer : (k : Core D) (t : ℕ) → IsFit g origin base k → is_open (member_of k.live.members t) ≡ true → length k.commits.items + 1 ≤ length k.live.members
+  commits_fewer : (k : Core D) (t : ℕ) → IsFit g origin base k → is_working (member_of k.live.members t) ≡ true → length k.commits.items + 1 ≤ length k.live.members
   commits_fewer k t fit at_work = members_more t k.commits.items k.live.members (open_member (member_of k.live.members t) at_work) (λ i d lt. open_apart k.live.members t (get_or k.commits.items i d).txn at_work (fit.queued.each i d lt)) fit.queued.apart
       (λ i d lt. stated_some (member_of k.live.members (get_or k.commits.items i d).txn) (fit.queued.each i d lt))
 
@@ -99,7 +99,7 @@ module _ {D : Type 0} (g : Ghosts D) (origin : Origin) (base : Base) where
       let reserves = fit.reserves in omega arith
 
   -- for the end of a transaction at work
-  pub end_enough : (k : Core D) (t : ℕ) → IsFit g origin base k → is_open (member_of k.live.members t) ≡ true → 128 ≤ k.reserved
+  pub end_enough : (k : Core D) (t : ℕ) → IsFit g origin base k → is_working (member_of k.live.members t) ≡ true → 128 ≤ k.reserved
   end_enough k t fit at_work =
       let taken = taken_within k.running.items k.live.standing fit.apart (entries_have k fit) in
       let few = commits_fewer k t fit at_work in

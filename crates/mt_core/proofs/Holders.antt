@@ -19,7 +19,7 @@ use Rattle.mt_plock.specs.Holding.{lock_of, IsLeastHolder}
 use Rattle.mt_plock.specs.Releasing.{locks_without}
 use Rattle.mt_plock.specs.declared.guards.PageLock.{PageLock}
 use Rattle.mt_core.specs.Consistent.{IsOwnerOf}
-use Rattle.mt_core.specs.Runs.{AreApart, AreHeldBy, IsOwned, is_open, is_under_way, kept_bytes, pages_of, taken_bytes}
+use Rattle.mt_core.specs.Runs.{AreApart, AreHeldBy, IsOwned, is_under_way, kept_bytes, pages_of, taken_bytes, is_working}
 use Rattle.mt_op.specs.World.{left_of}
 use Rattle.mt_core.specs.Steps.{IsOfOther, TellsOther}
 use Rattle.mt_op.specs.declared.scope.OpScope.{OpScope}
@@ -150,9 +150,9 @@ owners_same (y ∷ ys) n t u pairs (i, within, one) (j, inside, two) =
     ⊎_elim (λ (same : j ≡ i). sym first.1 ∙ ap (λ (k : ℕ). (get_or (y ∷ ys) k y).txn) (sym same) ∙ second.1)
     (λ (away : j ≡ i → ⊥). absurd ((pair_at AreApart (y ∷ ys) apart_flip pairs i j y within inside away).number (second.0 ∙ sym first.0))) (cases_eq j i)
 
-pub owner_works : (ms : List Member) (standing : List Entry) (rs : List OpScope) (n u : ℕ) → All (IsOwned ms standing) rs → IsOwnerOf rs n (Some u) → is_open (member_of ms u) ≡ true
+pub owner_works : (ms : List Member) (standing : List Entry) (rs : List OpScope) (n u : ℕ) → All (IsOwned ms standing) rs → IsOwnerOf rs n (Some u) → is_working (member_of ms u) ≡ true
 owner_works ms standing [] n u owned (i, within, is) = absurd (omega (arith, within))
 owner_works ms standing (y ∷ ys) n u owned (i, within, is) =
     let a : OpScope = get_or (y ∷ ys) i y in
     let own = is a (get_or_default (y ∷ ys) i y a within) in
-    ap (λ (t : ℕ). is_open (member_of ms t)) (sym own.1) ∙ (owned i y within).at_work
+    ap (λ (t : ℕ). is_working (member_of ms t)) (sym own.1) ∙ (owned i y within).at_work

@@ -28,7 +28,7 @@ use Rattle.mt_model.specs.declared.operations.Reply.TheVariants.{Done, Was}
 use Rattle.mt_op.specs.Operations.{world}
 use Rattle.mt_op.specs.World.{IsFresh}
 use Rattle.mt_steps.specs.Logged.{HasSmallReply}
-use Rattle.mt_core.specs.Runs.{is_open}
+use Rattle.mt_core.specs.Runs.{is_working}
 use Rattle.mt_core.specs.Consistent.{Origin, IsDue, IsReported, IsConsistent}
 use Rattle.mt_core.specs.declared.parts.Core.{Core}
 use Rattle.mt_core.proofs.Calling.{next_fresh}
@@ -97,7 +97,7 @@ reported_due last records t u m k named = go (last_place m.calls) refl named
 
 module _ {D : Type 0} (g : Ghosts D) (origin : Origin) (base : Base) where
   -- the number that comes next is fresh for the inverse of a transaction's last effect
-  pub undo_fresh : (k : Core D) (t n u : ℕ) → IsConsistent g origin base k → is_open (member_of k.live.members t) ≡ true → k.last < n → last_operation (member_of k.live.members t) ≡ Some u → IsFresh (world g origin.pages k.operations) t n u × (u ≢ 0)
+  pub undo_fresh : (k : Core D) (t n u : ℕ) → IsConsistent g origin base k → is_working (member_of k.live.members t) ≡ true → k.last < n → last_operation (member_of k.live.members t) ≡ Some u → IsFresh (world g origin.pages k.operations) t n u × (u ≢ 0)
   undo_fresh k t n u safe at_work above named = go (member_of k.live.members t) refl named
     where
       go : (o : Option Member) → member_of k.live.members t ≡ o → last_operation o ≡ Some u → IsFresh (world g origin.pages k.operations) t n u × (u ≢ 0)

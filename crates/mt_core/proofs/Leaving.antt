@@ -30,7 +30,7 @@ use Rattle.mt_model.specs.Model.{Base}
 use Rattle.mt_plock.specs.declared.guards.PageLock.{PageLock}
 use Rattle.mt_frame.specs.declared.records.Record.{Record}
 use Rattle.mt_slock.specs.Views.{held_of}
-use Rattle.mt_core.specs.Runs.{running_in, AreHeldBy, is_at_work, IsOwned, is_open, entry_pages, entry_bytes, undo_bytes}
+use Rattle.mt_core.specs.Runs.{running_in, AreHeldBy, is_at_work, IsOwned, entry_pages, entry_bytes, undo_bytes, is_working}
 use Rattle.mt_op.specs.World.{left_of}
 use Rattle.mt_steps.specs.Plans.{undo_pages}
 use Rattle.mt_core.specs.Consistent.{Origin, state_of, state_in, IsNumbered, AreReported, IsQueued, IsWithinSchema, IsFit, IsConsistent, IsIn}
@@ -42,16 +42,15 @@ use Rattle.mt_core.proofs.Effects.{last_kept, weighs_apart, weighs_others}
 use Rattle.mt_core.proofs.Reported.{reported_put}
 use Rattle.mt_core.proofs.Queued.{queued_first, queued_members}
 use Rattle.mt_live.proofs.Alone.{put_other}
-use Rattle.mt_live.specs.declared.transactions.Role.TheVariants.{Stands}
 
 -- nothing runs of a transaction that is not at work
-pub none_runs : (ms : List Member) (standing : List Entry) (rs : List OpScope) (t : ℕ) → is_open (member_of ms t) ≡ false → All (IsOwned ms standing) rs → All (λ (r : OpScope). r.txn ≢ t) rs
-none_runs ms standing rs t closed owned i d lt = λ is. let at_work = (owned i d lt).at_work in let here : is_open (member_of ms (get_or rs i d).txn) ≡ false = ap (λ (u : ℕ). is_open (member_of ms u)) is ∙ closed in absurd cc
+pub none_runs : (ms : List Member) (standing : List Entry) (rs : List OpScope) (t : ℕ) → is_working (member_of ms t) ≡ false → All (IsOwned ms standing) rs → All (λ (r : OpScope). r.txn ≢ t) rs
+none_runs ms standing rs t closed owned i d lt = λ is. let at_work = (owned i d lt).at_work in let here : is_working (member_of ms (get_or rs i d).txn) ≡ false = ap (λ (u : ℕ). is_working (member_of ms u)) is ∙ closed in absurd cc
 
-put_none : (f : ℕ → Option Member) (t u : ℕ) → is_open (put f t None u) ≡ true → is_open (f u) ≡ true
+put_none : (f : ℕ → Option Member) (t u : ℕ) → is_working (put f t None u) ≡ true → is_working (f u) ≡ true
 put_none f t u h = go (u == t) h
   where
-    go : (c : Bool) → is_open (cond c None (f u)) ≡ true → is_open (f u) ≡ true
+    go : (c : Bool) → is_working (cond c None (f u)) ≡ true → is_working (f u) ≡ true
     go true k = absurd cc
     go false k = k
 
@@ -77,7 +76,7 @@ left_numbered : (last begun : ℕ) (ms new : List Member) (t : ℕ) (locks : Lis
 left_numbered last begun ms new t locks records gone k = record {
   locks = k.locks;
   ops = k.ops;
-  txns = λ u is. k.txns u (put_none (member_of ms) t u (sym (ap is_open (gone u)) ∙ is));
+  txns = λ u is. k.txns u (put_none (member_of ms) t u (sym (ap is_working (gone u)) ∙ is));
   coming = k.coming;
   few_operations = k.few_operations;
   few_transactions = k.few_transactions;
@@ -91,7 +90,7 @@ gone_state ms new t gone = let same : (t == t) ≡ true = eq-eqb t t refl in let
 other_state : (ms new : List Member) (t : ℕ) → ((u : ℕ) → member_of new u ≡ put (member_of ms) t None u) → (u : ℕ) → u ≢ t → state_in new u ≡ state_in ms u
 other_state ms new t gone u apart = ap (option_map (λ (m : Member). m.state)) (gone u ∙ put_other (member_of ms) t None u apart)
 
-committing_closed : (o : Option Member) → option_map (λ (m : Member). m.state) o ≡ Some Committing → is_open o ≡ false
+committing_closed : (o : Option Member) → option_map (λ (m : Member). m.state) o ≡ Some Committing → is_working o ≡ false
 committing_closed None is = refl
 committing_closed (Some m) is = let state : m.state ≡ Committing = cc in ap is_at_work state
 
@@ -111,7 +110,7 @@ module _ {D : Type 0} (g : Ghosts D) (origin : Origin) (base : Base) where
       let z : Core D = record k { operations = n.operations; live = n.live; book = n.book; locks = n.locks; escrow = n.escrow; commits = n.commits; reserved = n.reserved } in
       let s : State = state_of k base in
       let in_queue : IsQueued k.live.members (appended k.operations.store.log) (c ∷ cs) = subst (IsQueued k.live.members (appended k.operations.store.log)) queue fit.queued in
-      let closed : is_open (member_of k.live.members t) ≡ false = committing_closed (member_of k.live.members t) (All-head (λ (x : Commit). state_in k.live.members x.txn ≡ Some Committing) c cs in_queue.each) in
+      let closed : is_working (member_of k.live.members t) ≡ false = committing_closed (member_of k.live.members t) (All-head (λ (x : Commit). state_in k.live.members x.txn ≡ Some Committing) c cs in_queue.each) in
       let none = none_runs k.live.members k.live.standing k.running.items t closed fit.owned in
       let idle : s.running t ≡ None = runs_none k.running.items t none in
       let whole : s.book ++ record { session = done.session; calls = calls (kept (only t) s.standing) } ∷ [] ≡ n.book.items = (λ i. k.book.items ++ record { session = done.session; calls = sym its i } ∷ []) ∙ sym book in
@@ -173,7 +172,7 @@ module _ {D : Type 0} (g : Ghosts D) (origin : Origin) (base : Base) where
       none_runs k.live.members k.live.standing k.running.items c.txn (committing_closed (member_of k.live.members c.txn) (All-head (λ (x : Commit). state_in k.live.members x.txn ≡ Some Committing) c cs in_queue.each)) fit.owned
 
   -- a transaction of which nothing is left to undo goes
-  pub gone_in : (k n : Core D) (t : ℕ) → IsConsistent g origin base k → is_open (member_of k.live.members t) ≡ true → All (λ (r : OpScope). r.txn ≢ t) k.running.items → last_effect t k.live.standing ≡ None
+  pub gone_in : (k n : Core D) (t : ℕ) → IsConsistent g origin base k → is_working (member_of k.live.members t) ≡ true → All (λ (r : OpScope). r.txn ≢ t) k.running.items → last_effect t k.live.standing ≡ None
       → n.live.standing ≡ kept (others t) k.live.standing → ((u : ℕ) → member_of n.live.members u ≡ put (member_of k.live.members) t None u) → n.live.begun ≡ k.live.begun → length n.live.members + 1 ≡ length k.live.members
       → held_of n.locks ≡ without_holder (held_of k.locks) t → n.escrow.committed ≡ k.escrow.committed → n.escrow.pending ≡ pending_without t k.escrow.pending → n.escrow.aside ≡ pending_without t k.escrow.aside → n.reserved + 128 ≡ k.reserved
       → IsIn g origin base (gone (state_of k base) t) (record k { live = n.live; locks = n.locks; escrow = n.escrow; reserved = n.reserved })
@@ -227,7 +226,7 @@ module _ {D : Type 0} (g : Ghosts D) (origin : Origin) (base : Base) where
       -- it was open, and did not commit
       away : (u : ℕ) → state_in k.live.members u ≡ Some Committing → u ≢ t
       away u is same =
-          let closed : is_open (member_of k.live.members t) ≡ false = committing_closed (member_of k.live.members t) (ap (λ (v : ℕ). state_in k.live.members v) (sym same) ∙ is) in absurd cc
+          let closed : is_working (member_of k.live.members t) ≡ false = committing_closed (member_of k.live.members t) (ap (λ (v : ℕ). state_in k.live.members v) (sym same) ∙ is) in absurd cc
 
       stays : (u : ℕ) → state_in k.live.members u ≡ Some Committing → state_in n.live.members u ≡ Some Committing
       stays u is = other_state k.live.members n.live.members t members u (away u is) ∙ is
@@ -235,5 +234,5 @@ module _ {D : Type 0} (g : Ghosts D) (origin : Origin) (base : Base) where
       stayed : (u : ℕ) → state_in n.live.members u ≡ Some Committing → state_in k.live.members u ≡ Some Committing
       stayed u is = sym (other_state k.live.members n.live.members t members u (λ same. let gone_now = gone_state k.live.members n.live.members t members in let here : state_in n.live.members u ≡ None = ap (λ (v : ℕ). state_in n.live.members v) same ∙ gone_now in absurd cc)) ∙ is
 
-pub gone_closed : (f : ℕ → Option Member) (t : ℕ) → is_open (put f t None t) ≡ false
+pub gone_closed : (f : ℕ → Option Member) (t : ℕ) → is_working (put f t None t) ≡ false
 gone_closed f t = let same : (t == t) ≡ true = eq-eqb t t refl in rw same refl

@@ -14,7 +14,7 @@ use Rattle.mt_live.specs.Lives.{calls_in, has_room, IsAbove}
 use Rattle.mt_live.specs.Members.{forward_count, last_operation}
 use Rattle.mt_live.specs.Undoing.{last_effect}
 use Rattle.mt_op.specs.declared.scope.OpScope.{OpScope}
-use Rattle.mt_core.specs.Runs.{state_in, did_after, goes_back, is_open, is_returning, IsOwned}
+use Rattle.mt_core.specs.Runs.{state_in, did_after, is_returning, IsOwned, is_working, is_undoing}
 
 -- of every one, what the change leaves
 pub changed_keeps : {B : Type 0} (h : Option Member → B) (f : Member → Member) (old new : List Member) (t : ℕ) → ((m : Member) → h (Some (f m)) ≡ h (Some m)) → IsChanged old new t f → (u : ℕ) → h (member_of new u) ≡ h (member_of old u)
@@ -68,7 +68,7 @@ states_set old new t state lives changed u = states_put old new t (option_map (�
     now (Some m) is = refl
 
 -- one that goes back and not on is to be undone
-pub backwards_aborting : (state : Option TxnState) → goes_back state ≡ true → ((first : ℕ) → state ≢ Some (Returning first)) → state ≡ Some Aborting
+pub backwards_aborting : (state : Option TxnState) → is_undoing state ≡ true → ((first : ℕ) → state ≢ Some (Returning first)) → state ≡ Some Aborting
 backwards_aborting None is stays = absurd cc
 backwards_aborting (Some Open) is stays = absurd cc
 backwards_aborting (Some Committing) is stays = absurd cc
@@ -78,14 +78,14 @@ backwards_aborting (Some Aborting) is stays = refl
 -- an operation is its transaction's as before, if that and its last effect are as before
 pub owned_as : (ms new : List Member) (old standing : List Entry) (q : OpScope) → member_of new q.txn ≡ member_of ms q.txn → last_effect q.txn standing ≡ last_effect q.txn old → IsOwned ms old q → IsOwned new standing q
 owned_as ms new old standing q same stands o = record {
-  at_work = ap is_open same ∙ o.at_work;
+  at_work = ap is_working same ∙ o.at_work;
   room = λ fore. ap has_room same ∙ o.room fore;
   inverse = λ back. let e = o.inverse back in record { named = ap last_operation same ∙ e.named; entry = e.entry; last = stands ∙ e.last; inverse = e.inverse; unsplit = e.unsplit };
   newest = λ fore. subst (IsAbove q.number) (sym same) (o.newest fore);
   few = λ fore. subst (λ (m : Option Member). forward_count (calls_in m) < 256) (sym same) (o.few fore);
   taken = λ is. let t = o.taken is in (t.0, states ∙ t.1);
   forwards = λ fore. ap is_returning states ∙ o.forwards fore;
-  backwards = λ back. ap goes_back states ∙ o.backwards back;
+  backwards = λ back. ap is_undoing states ∙ o.backwards back;
   returns = λ back first is. let was = o.returns back first (sym states ∙ is) in record { room = ap has_room same ∙ was.room; newest = subst (IsAbove q.number) (sym same) was.newest; after = ap (did_after first) same ∙ was.after };
 }
   where

@@ -27,7 +27,7 @@ use Rattle.mt_plock.specs.declared.guards.PageLock.{PageLock}
 use Rattle.mt_pool.proofs.Logged.{no_records}
 use Rattle.mt_frame.specs.PageRecords.{change_records}
 use Rattle.mt_steps.specs.Repeated.{Change, by}
-use Rattle.mt_core.specs.Runs.{is_open}
+use Rattle.mt_core.specs.Runs.{is_working}
 use Rattle.mt_core.specs.Consistent.{IsNumbered}
 
 -- ---- what records end
@@ -160,7 +160,7 @@ module _ (last begun : ℕ) (ms : List Member) where
       let apart : (c.op == n) ≡ false = ne_eqb c.op n (λ is. absurd (omega (arith, is, above, low))) in
       rw apart (none_by n cs above (All-tail (λ (x : Change). x.op ≤ last) c cs k))
 
-  pub fresh : (relations counters : ℕ) (w : World) (t n : ℕ) → IsWorld relations counters w → last < n → is_open (member_of ms t) ≡ true → IsNumbered last begun ms w.locks w.records → IsFresh w t n 0
+  pub fresh : (relations counters : ℕ) (w : World) (t n : ℕ) → IsWorld relations counters w → last < n → is_working (member_of ms t) ≡ true → IsNumbered last begun ms w.locks w.records → IsFresh w t n 0
   fresh relations counters w t n sound above at_work k = record {
     locks = none_of n w.locks above k.locks;
     nothing = none_by n (unfinished_in w) above (λ i d lt. All-contains (λ (l : PageLock). l.op ≤ last) w.locks (lock_of _ _ Write) k.locks (sound.covered i d lt));

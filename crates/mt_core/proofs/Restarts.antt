@@ -63,7 +63,7 @@ use Rattle.mt_core.proofs.Between.{appends_none}
 use Rattle.mt_core.specs.Booked.{txns_of}
 use Rattle.mt_core.specs.Consistent.{Origin, session_in, state_in, state_of, IsConsistent, IsReported, InvertsIn}
 use Rattle.mt_core.specs.Restartable.{did, did_call, effects_of, its_effects, HasEnds, entry_of, numbers_did, numbers_of, TellsOf, Recovers, IsRestartable, TellsBook, Lasts, SameArea, IsQuiet, AppendsQuietly, AppendsEnd, QuietlyAppends, SameBook, NotesEnd, NotesUndone, NotesBack, NotesInverse}
-use Rattle.mt_core.specs.Runs.{is_at_work, is_open, TakesBack, goes_back}
+use Rattle.mt_core.specs.Runs.{is_at_work, TakesBack, is_working, is_undoing}
 use Rattle.mt_core.specs.declared.parts.Commit.{Commit}
 use Rattle.mt_core.specs.declared.parts.Core.{Core}
 use Rattle.mt_op.specs.declared.scope.OpScope.{OpScope}
@@ -117,7 +117,7 @@ record AtWork (o : Option Member) : Type 0 where
   is : o ≡ Some member
   working : is_at_work member.state ≡ true
 
-at_work_of : (o : Option Member) → is_open o ≡ true → AtWork o
+at_work_of : (o : Option Member) → is_working o ≡ true → AtWork o
 at_work_of None is = absurd cc
 at_work_of (Some m) is = record { member = m; is = refl; working = is }
 
@@ -125,11 +125,11 @@ open_did : (m : Member) → is_at_work m.state ≡ true → numbers_of (Some m) 
 open_did m working = ap (λ (c : Bool). cond c (numbers_did m.calls m.operations) []) working
 
 -- in another state at work it has the same
-pub same_at_work : (o : Option Member) (s : TxnState) → is_open o ≡ true → is_at_work s ≡ true → numbers_of (option_map (λ m. with_state m s) o) ≡ numbers_of o
+pub same_at_work : (o : Option Member) (s : TxnState) → is_working o ≡ true → is_at_work s ≡ true → numbers_of (option_map (λ m. with_state m s) o) ≡ numbers_of o
 same_at_work None s here now = refl
 same_at_work (Some m) s here now = ap (λ (c : Bool). cond c (numbers_did m.calls m.operations) []) (now ∙ sym here)
 
-pub open_works : (o : Option Member) → option_map (λ (m : Member). m.state) o ≡ Some Open → is_open o ≡ true
+pub open_works : (o : Option Member) → option_map (λ (m : Member). m.state) o ≡ Some Open → is_working o ≡ true
 open_works None is = absurd cc
 open_works (Some m) is = let state : m.state ≡ Open = cc in ap is_at_work state
 
@@ -139,14 +139,14 @@ with_room_num (Some m) = refl
 
 -- ---- none that commits is at work
 
-closed_of : (o : Option Member) → option_map (λ (m : Member). m.state) o ≡ Some Committing → is_open o ≡ false
+closed_of : (o : Option Member) → option_map (λ (m : Member). m.state) o ≡ Some Committing → is_working o ≡ false
 closed_of None is = refl
 closed_of (Some m) is = let state : m.state ≡ Committing = cc in ap is_at_work state
 
-pub apart_from : (ms : List Member) (cs : List Commit) (t : ℕ) → All (λ (c : Commit). state_in ms c.txn ≡ Some Committing) cs → is_open (member_of ms t) ≡ true → AreApartFrom t (txns_of cs)
+pub apart_from : (ms : List Member) (cs : List Commit) (t : ℕ) → All (λ (c : Commit). state_in ms c.txn ≡ Some Committing) cs → is_working (member_of ms t) ≡ true → AreApartFrom t (txns_of cs)
 apart_from ms [] t all working = tt
 apart_from ms (c ∷ cs) t all working = (
-  λ same. let closed : is_open (member_of ms t) ≡ false = ap (λ (u : ℕ). is_open (member_of ms u)) (sym same) ∙ closed_of (member_of ms c.txn) (All-head (λ (d : Commit). state_in ms d.txn ≡ Some Committing) c cs all) in cc,
+  λ same. let closed : is_working (member_of ms t) ≡ false = ap (λ (u : ℕ). is_working (member_of ms u)) (sym same) ∙ closed_of (member_of ms c.txn) (All-head (λ (d : Commit). state_in ms d.txn ≡ Some Committing) c cs all) in cc,
   apart_from ms cs t (All-tail (λ (d : Commit). state_in ms d.txn ≡ Some Committing) c cs all) working,
 )
 
@@ -347,7 +347,7 @@ module _ {D : Type 0} (g : Ghosts D) (origin : Origin) where
   -- ---- an operation has ended
 
   -- of one that is at work the records have one end more
-  more_ends : (o : Option Member) → is_open o ≡ true → (ends mine now : List Call) (c : Call) → now ≡ mine ++ c ∷ [] → HasEnds (option_map (λ (x : Member). x.state) o) ends mine → HasEnds (option_map (λ (x : Member). x.state) o) (ends ++ c ∷ []) now
+  more_ends : (o : Option Member) → is_working o ≡ true → (ends mine now : List Call) (c : Call) → now ≡ mine ++ c ∷ [] → HasEnds (option_map (λ (x : Member). x.state) o) ends mine → HasEnds (option_map (λ (x : Member). x.state) o) (ends ++ c ∷ []) now
   more_ends None working ends mine now c is h = absurd cc
   more_ends (Some x) working ends mine now c is h = go x.state refl h
     where
@@ -359,7 +359,7 @@ module _ {D : Type 0} (g : Ghosts D) (origin : Origin) where
 
   pub ended : (k n : Core D) (base later : Base) (r : OpScope) (reply : Reply) → IsConsistent g origin base k → IsConsistent g origin later n → SameArea k n
       → AppendsEnd origin (pages k.operations.store.pool) (appended k.operations.store.log) (appended n.operations.store.log) r reply → NotesEnd k n r reply → r.undoes ≡ 0
-      → is_open (member_of k.live.members r.txn) ≡ true → reply_of base r.op ≡ reply → IsRestartable origin k → IsRestartable origin n
+      → is_working (member_of k.live.members r.txn) ≡ true → reply_of base r.op ≡ reply → IsRestartable origin k → IsRestartable origin n
   ended k n base later r reply safe_k safe_n same a e fore working replies restartable = go (logged_of r.op reply) refl
     where
       old : List Record
@@ -496,7 +496,7 @@ module _ {D : Type 0} (g : Ghosts D) (origin : Origin) where
 
   pub inverted : (k n : Core D) (base : Base) (r : OpScope) (reply : Reply) → IsConsistent g origin base k → IsConsistent g origin (base_after base r.op) n → SameArea k n
       → AppendsEnd origin (pages k.operations.store.pool) (appended k.operations.store.log) (appended n.operations.store.log) r reply → Inverted k n r reply → r.undoes ≢ 0
-      → is_open (member_of k.live.members r.txn) ≡ true → TakesBack k.live.members k.live.standing r → reply_of base r.op ≡ reply → IsRestartable origin k → IsRestartable origin n
+      → is_working (member_of k.live.members r.txn) ≡ true → TakesBack k.live.members k.live.standing r → reply_of base r.op ≡ reply → IsRestartable origin k → IsRestartable origin n
   inverted k n base r reply safe_k safe_n same a e back working takes replies restartable = go (logged_of r.op reply) refl
     where
       old : List Record
@@ -618,11 +618,11 @@ module _ {D : Type 0} (g : Ghosts D) (origin : Origin) where
         effects = λ u apart. effects_beside u t k.live.standing n.live.standing others_same apart;
         states = λ u. states_kept taken_back k.live.members n.live.members t taken_state e.members u;
         ends = λ ends had. subst (λ (o : Option TxnState). HasEnds o (ends ++ (r.op, reply) ∷ []) (its_effects t n.live.standing)) (sym aborting) tt;
-      }) back (backwards_open (member_of k.live.members t) (ap goes_back aborting)) takes replies restartable
+      }) back (backwards_open (member_of k.live.members t) (ap is_undoing aborting)) takes replies restartable
 
   pub returned : (k n : Core D) (base : Base) (r : OpScope) (reply : Reply) → IsConsistent g origin base k → IsConsistent g origin (base_after base r.op) n → SameArea k n
       → AppendsEnd origin (pages k.operations.store.pool) (appended k.operations.store.log) (appended n.operations.store.log) r reply → NotesBack k n r reply → r.undoes ≢ 0
-      → is_open (member_of k.live.members r.txn) ≡ true → TakesBack k.live.members k.live.standing r → reply_of base r.op ≡ reply → IsRestartable origin k → IsRestartable origin n
+      → is_working (member_of k.live.members r.txn) ≡ true → TakesBack k.live.members k.live.standing r → reply_of base r.op ≡ reply → IsRestartable origin k → IsRestartable origin n
   returned k n base r reply safe_k safe_n same a e back working takes replies restartable =
       let t = r.txn in
       let b : Entry = record { txn = r.txn; op = r.op; reply = reply; role = Back } in
@@ -646,14 +646,14 @@ module _ {D : Type 0} (g : Ghosts D) (origin : Origin) where
   -- an inverse, in a transaction of either kind
   pub inverse_restarts : (k m n : Core D) (base : Base) (r : OpScope) (reply : Reply) (state : Option TxnState) → state_in k.live.members r.txn ≡ state → IsConsistent g origin base k → IsConsistent g origin (base_after base r.op) n → SameArea k n
       → AppendsEnd origin (pages k.operations.store.pool) (appended k.operations.store.log) (appended n.operations.store.log) r reply → m.book ≡ k.book → m.commits ≡ k.commits → m.live ≡ k.live → NotesInverse m n r reply state → r.undoes ≢ 0
-      → goes_back (state_in k.live.members r.txn) ≡ true → is_open (member_of k.live.members r.txn) ≡ true → TakesBack k.live.members k.live.standing r → reply_of base r.op ≡ reply → IsRestartable origin k → IsRestartable origin n
+      → is_undoing (state_in k.live.members r.txn) ≡ true → is_working (member_of k.live.members r.txn) ≡ true → TakesBack k.live.members k.live.standing r → reply_of base r.op ≡ reply → IsRestartable origin k → IsRestartable origin n
   inverse_restarts k m n base r reply (Some (Returning first)) at safe_k safe_n same a book commits live e back backwards working takes replies restartable =
       returned k n base r reply safe_k safe_n same a (back_then k m n r reply book commits live e) back working takes replies restartable
   inverse_restarts k m n base r reply (Some Aborting) at safe_k safe_n same a book commits live e back backwards working takes replies restartable =
       undone k n base r reply safe_k safe_n same a (undone_then k m n r book commits live e) back at takes replies restartable
-  inverse_restarts k m n base r reply None at safe_k safe_n same a book commits live e back backwards working takes replies restartable = let not : goes_back (state_in k.live.members r.txn) ≡ false = ap goes_back at in absurd cc
-  inverse_restarts k m n base r reply (Some Open) at safe_k safe_n same a book commits live e back backwards working takes replies restartable = let not : goes_back (state_in k.live.members r.txn) ≡ false = ap goes_back at in absurd cc
-  inverse_restarts k m n base r reply (Some Committing) at safe_k safe_n same a book commits live e back backwards working takes replies restartable = let not : goes_back (state_in k.live.members r.txn) ≡ false = ap goes_back at in absurd cc
+  inverse_restarts k m n base r reply None at safe_k safe_n same a book commits live e back backwards working takes replies restartable = let not : is_undoing (state_in k.live.members r.txn) ≡ false = ap is_undoing at in absurd cc
+  inverse_restarts k m n base r reply (Some Open) at safe_k safe_n same a book commits live e back backwards working takes replies restartable = let not : is_undoing (state_in k.live.members r.txn) ≡ false = ap is_undoing at in absurd cc
+  inverse_restarts k m n base r reply (Some Committing) at safe_k safe_n same a book commits live e back backwards working takes replies restartable = let not : is_undoing (state_in k.live.members r.txn) ≡ false = ap is_undoing at in absurd cc
 
   -- ---- a transaction's end
 
@@ -691,7 +691,7 @@ module _ {D : Type 0} (g : Ghosts D) (origin : Origin) where
 
   pub aborted : (k n : Core D) (base later : Base) (t : ℕ) → IsConsistent g origin base k → IsConsistent g origin later n → SameArea k n
       → appended n.operations.store.log ≡ appended k.operations.store.log ++ AbortEnd t ∷ [] → ((u : ℕ) → member_of n.live.members u ≡ put (member_of k.live.members) t None u) → length n.live.members + 1 ≡ length k.live.members
-      → n.live.standing ≡ kept (others t) k.live.standing → SameBook k n → is_open (member_of k.live.members t) ≡ true → last_effect t k.live.standing ≡ None → IsRestartable origin k → IsRestartable origin n
+      → n.live.standing ≡ kept (others t) k.live.standing → SameBook k n → is_working (member_of k.live.members t) ≡ true → last_effect t k.live.standing ≡ None → IsRestartable origin k → IsRestartable origin n
   aborted k n base later t safe_k safe_n same records members count standing book working idle r =
       let old = appended k.operations.store.log in
       let was = now_of k old base safe_k r.tells in

@@ -27,7 +27,7 @@ use Rattle.mt_slock.specs.Views.{held_of}
 use Rattle.mt_steps.specs.Held.{Holds}
 use Rattle.mt_live.specs.declared.transactions.TxnState.{TxnState}
 use Rattle.mt_live.specs.declared.transactions.TxnState.TheVariants.{Open, Committing, Returning, Aborting}
-use Rattle.mt_core.specs.Runs.{running_in, is_for, state_in, AreApart, AreHeldBy, IsRunning, IsOwned, IsNotedAfter, goes_back, is_at_work, is_open, pages_of, kept_bytes, taken_bytes}
+use Rattle.mt_core.specs.Runs.{running_in, is_for, state_in, AreApart, AreHeldBy, IsRunning, IsOwned, IsNotedAfter, is_at_work, pages_of, kept_bytes, taken_bytes, is_working, is_undoing}
 use Rattle.mt_op.specs.World.{left_of}
 use Rattle.mt_core.specs.Consistent.{Origin, state_of, IsNumbered, AreReported, IsQueued, IsConsistent, IsFit, IsIn}
 use Rattle.mt_core.specs.declared.parts.Core.{Core}
@@ -37,11 +37,11 @@ use Rattle.mt_core.proofs.Holders.{held_push, sums_push}
 use Rattle.mt_core.proofs.Reported.{reported_last}
 
 -- one that goes back is at work
-pub backwards_open : (o : Option Member) → goes_back (option_map (λ (m : Member). m.state) o) ≡ true → is_open o ≡ true
+pub backwards_open : (o : Option Member) → is_undoing (option_map (λ (m : Member). m.state) o) ≡ true → is_working o ≡ true
 backwards_open None is = absurd cc
 backwards_open (Some m) is = go m.state is
   where
-    go : (s : TxnState) → goes_back (Some s) ≡ true → is_at_work s ≡ true
+    go : (s : TxnState) → is_undoing (Some s) ≡ true → is_at_work s ≡ true
     go Open h = absurd cc
     go Committing h = absurd cc
     go (Returning first) h = refl
@@ -93,7 +93,7 @@ module _ {D : Type 0} (g : Ghosts D) (origin : Origin) (base : Base) where
   running_also (x ∷ xs) r u back = ap (λ (o : Option Op). cond (is_for u x) (Some x.op) o) (running_also xs r u back)
 
   -- an inverse begins, of the last entry of its transaction that did something
-  pub undoing_in : (k n : Core D) (t : ℕ) (e : Entry) (r : OpScope) → IsConsistent g origin base k → goes_back (state_in k.live.members t) ≡ true → ((first : ℕ) → state_in k.live.members t ≡ Some (Returning first) → IsNotedAfter first (k.last + 1) (member_of k.live.members t)) → All (λ (q : OpScope). q.txn ≢ t) k.running.items
+  pub undoing_in : (k n : Core D) (t : ℕ) (e : Entry) (r : OpScope) → IsConsistent g origin base k → is_undoing (state_in k.live.members t) ≡ true → ((first : ℕ) → state_in k.live.members t ≡ Some (Returning first) → IsNotedAfter first (k.last + 1) (member_of k.live.members t)) → All (λ (q : OpScope). q.txn ≢ t) k.running.items
       → last_effect t k.live.standing ≡ Some e → inverse_of e.op e.reply ≡ Some r.op → n.running.items ≡ k.running.items ++ r ∷ [] → last_operation (member_of k.live.members t) ≡ Some r.undoes
       → IsUnderWay origin.relations origin.counters (world g origin.pages k.operations) r → HasBudget r → r.txn ≡ t → r.number ≡ k.last + 1 → r.undoes ≢ 0 → r.split ≡ false → r.stage ≡ Planning
       → r.left ≡ 106496 → n.reserved + 106496 ≡ k.reserved → IsIn g origin base (state_of k base) (record k { running = n.running; last = k.last + 1; reserved = n.reserved })

@@ -39,8 +39,8 @@ use Rattle.mt_space.specs.Changes.{PageBytes}
 use Rattle.mt_steps.specs.Held.{Holds}
 use Rattle.mt_steps.specs.Logged.{logged_of}
 use Rattle.mt_steps.specs.Plans.{own_needs, undo_pages}
-use Rattle.mt_core.specs.Runs.{running_in, AreApart, IsOwned, is_open, did_after, undo_bytes, pages_of, entry_pages, entry_bytes, kept_bytes, taken_bytes}
-use Rattle.mt_core.specs.Consistent.{Origin, state_of, state_in, AreLeft, IsNumbered, IsReported, AreReported, IsWithinSchema, IsReady, IsIn, UndoesIn, ReturnsIn, InvertsIn}
+use Rattle.mt_core.specs.Runs.{running_in, AreApart, IsOwned, did_after, undo_bytes, pages_of, entry_pages, entry_bytes, kept_bytes, taken_bytes, is_working}
+use Rattle.mt_core.specs.Consistent.{Origin, state_of, state_in, AreLeft, IsNumbered, IsReported, AreReported, IsWithinSchema, IsReady, UndoesIn, ReturnsIn, InvertsIn}
 use Rattle.mt_core.specs.Restartable.{NotesUndone, NotesInverse}
 use Rattle.mt_core.specs.declared.parts.Core.{Core}
 use Rattle.mt_core.proofs.Effects.{weighs_effect, weighs_push, last_push, inverse_pages, inverse_bytes}
@@ -112,7 +112,7 @@ module _ {D : Type 0} (g : Ghosts D) (origin : Origin) (base : Base) where
       let l = left g origin base k n place r Ready fit alone items h in
       let sessions : (u : ℕ) → option_map (λ (m : Member). m.session) (member_of n.live.members u) ≡ option_map (λ (m : Member). m.session) (member_of k.live.members u) =
       changed_keeps (option_map (λ (m : Member). m.session)) f k.live.members n.live.members r.txn (λ m. back_keeps (option_map (λ (x : Member). x.session)) (λ x cs os. refl) m r.number (r.op, reply)) changed in
-      let open_same : (u : ℕ) → is_open (member_of n.live.members u) ≡ is_open (member_of k.live.members u) = changed_keeps is_open f k.live.members n.live.members r.txn (λ m. back_keeps is_open (λ x cs os. refl) m r.number (r.op, reply)) changed in
+      let open_same : (u : ℕ) → is_working (member_of n.live.members u) ≡ is_working (member_of k.live.members u) = changed_keeps is_working f k.live.members n.live.members r.txn (λ m. back_keeps is_working (λ x cs os. refl) m r.number (r.op, reply)) changed in
       let states : (u : ℕ) → state_in n.live.members u ≡ state_in k.live.members u = changed_keeps (option_map (λ (m : Member). m.state)) f k.live.members n.live.members r.txn (λ m. back_keeps (option_map (λ (x : Member). x.state)) (λ x cs os. refl) m r.number (r.op, reply)) changed in
       let gone : (u : ℕ) → running_in k.running.items u ≡ running_in n.running.items u =
       λ u. sym (running_without k.running.items place r alone.within alone.there back u) ∙ ap (λ (rs : List OpScope). running_in rs u) (sym items) in

@@ -1,5 +1,5 @@
 -- A transaction is back where its first so many operations had ended: what of its entries, calls and numbers stays.
-use Rattle.std.proofs.Common.{◌≡◌, ◌≢◌, ◌⊎◌, inl, inr, ⊎_elim, ℕ, zero, suc, ◌≤◌, ◌+◌, ◌*◌, if◌then◌else◌, ◌&&◌, ◌==◌, cond, Bool, true, false, List, [], ◌∷◌, ◌++◌, Option, Some, None, is_some, length, get_or, filter, refl, sym, ap, ◌∙◌, subst, arith}
+use Rattle.std.proofs.Common.{◌≡◌, ◌≢◌, ◌⊎◌, inl, inr, ℕ, zero, suc, ◌≤◌, ◌+◌, ◌*◌, if◌then◌else◌, ◌&&◌, ◌==◌, cond, Bool, true, false, List, [], ◌∷◌, Option, Some, None, is_some, length, get_or, filter, refl, sym, ap, ◌∙◌, subst, arith}
 use Rattle.std.specs.Prelude.{All}
 use Rattle.std.specs.List.{sum_by}
 use Rattle.std.specs.Option.{option_map}
@@ -11,10 +11,10 @@ use Rattle.mt_live.proofs.Keeping.{kept_settled}
 use Rattle.mt_live.proofs.Reaching.{last_after}
 use Rattle.mt_live.proofs.Settling.{IsEased, Eased, settled_eased, eased_calls, eased_kept}
 use Rattle.mt_live.specs.Entries.{Entry, with_role, is_standing, calls, kept}
-use Rattle.mt_live.specs.Lives.{member_of, has_room, IsChanged}
+use Rattle.mt_live.specs.Lives.{member_of, IsChanged}
 use Rattle.mt_live.proofs.Alone.{put_own}
 use Rattle.mt_live.specs.Machine.{State, IsKept, put, settled}
-use Rattle.mt_live.specs.Members.{Member, Noted, has_inverse, later, last_place, noted_after, settle_calls, settled_at, standing_count, with_state}
+use Rattle.mt_live.specs.Members.{Member, Noted, has_inverse, last_place, noted_after, settle_calls, settled_at, standing_count, with_state}
 use Rattle.mt_live.specs.Roles.{settled_role, left_after}
 use Rattle.mt_live.specs.Undoing.{only, is_counted, is_effect, last_of, last_effect, after_first, settle_after}
 use Rattle.mt_live.specs.declared.transactions.Role.{Role}
@@ -27,7 +27,7 @@ use Rattle.mt_op.specs.declared.scope.OpScope.{OpScope}
 use Rattle.mt_slock.specs.Views.{held_of}
 use Rattle.mt_core.specs.Consistent.{Origin, state_of, state_in, AreLeft, IsNumbered, IsWithinSchema, IsConsistent, IsIn}
 use Rattle.mt_core.specs.Restartable.{did, did_call, its_effects, numbers_did, numbers_of}
-use Rattle.mt_core.specs.Runs.{running_in, is_at_work, is_open, weighed, count_in, did_after, entry_pages, entry_bytes, IsOwned}
+use Rattle.mt_core.specs.Runs.{running_in, is_at_work, weighed, count_in, did_after, entry_pages, entry_bytes, is_working}
 use Rattle.mt_core.specs.Work.{effect_steps, effects_left}
 use Rattle.mt_core.specs.declared.parts.Core.{Core}
 use Rattle.mt_core.proofs.Ending.{numbered_members}
@@ -199,15 +199,15 @@ module _ (old new : List Member) (t first : ℕ) (returning : state_in old t ≡
       now (Some m) is = refl
 
   -- it is at work as before
-  pub settled_open : (u : ℕ) → is_open (member_of new u) ≡ is_open (member_of old u)
-  settled_open u = ap is_open (changed u) ∙ go (u == t) refl
+  pub settled_open : (u : ℕ) → is_working (member_of new u) ≡ is_working (member_of old u)
+  settled_open u = ap is_working (changed u) ∙ go (u == t) refl
     where
-      works : (o : Option Member) → option_map (λ (m : Member). m.state) o ≡ Some (Returning first) → is_open (option_map (settled_member first) o) ≡ is_open o
+      works : (o : Option Member) → option_map (λ (m : Member). m.state) o ≡ Some (Returning first) → is_working (option_map (settled_member first) o) ≡ is_working o
       works None is = refl
       works (Some m) is = let state : m.state ≡ Returning first = cc in sym (ap is_at_work state)
 
-      go : (c : Bool) → (u == t) ≡ c → is_open (cond c (option_map (settled_member first) (member_of old t)) (member_of old u)) ≡ is_open (member_of old u)
-      go true is = works (member_of old t) returning ∙ ap (λ (v : ℕ). is_open (member_of old v)) (sym (eqb-true u t is))
+      go : (c : Bool) → (u == t) ≡ c → is_working (cond c (option_map (settled_member first) (member_of old t)) (member_of old u)) ≡ is_working (member_of old u)
+      go true is = works (member_of old t) returning ∙ ap (λ (v : ℕ). is_working (member_of old v)) (sym (eqb-true u t is))
       go false is = refl
 
   pub settled_commits : (u : ℕ) → (state_in old u ≡ Some Committing → state_in new u ≡ Some Committing) × (state_in new u ≡ Some Committing → state_in old u ≡ Some Committing)

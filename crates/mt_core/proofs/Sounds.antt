@@ -19,7 +19,7 @@ use Rattle.mt_op.specs.declared.scope.Stage.{Stage}
 use Rattle.mt_op.specs.declared.scope.Stage.TheVariants.{Planning, Writing, Ready, Taking, Cleared}
 use Rattle.mt_pool.proofs.Steady.{IsSteady, steady}
 use Rattle.mt_pool.specs.Kept.{HasOpening}
-use Rattle.mt_core.specs.Runs.{is_open, IsMoving}
+use Rattle.mt_core.specs.Runs.{IsMoving, is_working}
 use Rattle.mt_core.specs.Consistent.{state_in, IsSound}
 use Rattle.mt_core.specs.declared.parts.Commit.{Commit}
 use Rattle.mt_core.specs.declared.parts.Core.{Core}
@@ -42,10 +42,10 @@ module _ {D : Type 0} (g : Ghosts D) (k : Core D) (sound : IsSound g k) where
   steady_of = steady g k.operations.store opening_of
 
   -- a transaction at work has a number that a record may have, and has not ended
-  pub named_of : (t : ℕ) → is_open (member_of k.live.members t) ≡ true → IsTxn t
+  pub named_of : (t : ℕ) → is_working (member_of k.live.members t) ≡ true → IsTxn t
   named_of t at_work = ∥∥₁_elim sound (hlevel props) (λ (origin, base, safe). txn_named g origin base k t safe.fit at_work)
 
-  pub unended_of : (t : ℕ) → is_open (member_of k.live.members t) ≡ true → some_record (ends_txn t) (appended k.operations.store.log) ≡ false
+  pub unended_of : (t : ℕ) → is_working (member_of k.live.members t) ≡ true → some_record (ends_txn t) (appended k.operations.store.log) ≡ false
   unended_of t at_work = ∥∥₁_elim sound (hlevel props) (λ (origin, base, safe). safe.fit.numbered.txns t at_work)
 
   pub few_of : k.last ≤ 2 ^ 41

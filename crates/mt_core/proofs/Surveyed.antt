@@ -2,7 +2,7 @@
 use Rattle.std.proofs.Common.{◌≡◌, List, [], ◌∷◌, true, refl, subst}
 use Rattle.std.specs.Prelude.{All}
 use Rattle.std.proofs.lemmas.List.Elements.{All-head}
-use Rattle.mt_core.specs.Runs.{AreHeldBy, IsOwned, is_open, is_under_way}
+use Rattle.mt_core.specs.Runs.{AreHeldBy, IsOwned, is_under_way, is_working}
 use Rattle.mt_op.specs.declared.scope.OpScope.{OpScope}
 use Rattle.mt_live.specs.Entries.{Entry}
 use Rattle.mt_live.specs.Lives.{member_of}
@@ -11,7 +11,7 @@ use Rattle.mt_plock.specs.declared.guards.PageLock.{PageLock}
 
 nobody_runs : (standing : List Entry) (rs : List OpScope) → All (IsOwned [] standing) rs → rs ≡ []
 nobody_runs standing [] owned = refl
-nobody_runs standing (r ∷ rs) owned = absurd (let works : is_open (member_of [] r.txn) ≡ true = (All-head (IsOwned [] standing) r rs owned).at_work in cc)
+nobody_runs standing (r ∷ rs) owned = absurd (let works : is_working (member_of [] r.txn) ≡ true = (All-head (IsOwned [] standing) r rs owned).at_work in cc)
 
 nobody_holds : (locks : List PageLock) → AreHeldBy [] locks → locks ≡ []
 nobody_holds [] held = refl

@@ -24,7 +24,7 @@ use Rattle.mt_space.specs.Changes.{PageBytes}
 use Rattle.mt_steps.specs.Held.{Holds}
 use Rattle.mt_core.proofs.Imaged.{images_end_nothing, images_held}
 use Rattle.mt_core.proofs.Restarts.{starts}
-use Rattle.mt_core.specs.Runs.{running_in, IsOwned, is_open, pages_of, entry_pages, entry_bytes, kept_bytes, taken_bytes}
+use Rattle.mt_core.specs.Runs.{running_in, IsOwned, pages_of, entry_pages, entry_bytes, kept_bytes, taken_bytes, is_working}
 use Rattle.mt_op.specs.World.{left_of}
 use Rattle.mt_core.specs.Consistent.{Origin, state_of, state_in, IsNumbered, IsQueued, IsEscrowed, IsFresh, IsIn, IsConsistent}
 use Rattle.mt_core.specs.Restartable.{IsRestartable}
@@ -59,7 +59,7 @@ module _ {D : Type 0} (g : Ghosts D) (origin : Origin) (base : Base) (k : Core D
     where
       go : (rs : List OpScope) → All (IsOwned k.live.members k.live.standing) rs → rs ≡ []
       go [] all = refl
-      go (r ∷ rs) all = absurd (let at_work = (all 0 r (omega arith)).at_work in let none : is_open (member_of k.live.members r.txn) ≡ false = ap is_open (none_lives r.txn) in cc)
+      go (r ∷ rs) all = absurd (let at_work = (all 0 r (omega arith)).at_work in let none : is_working (member_of k.live.members r.txn) ≡ false = ap is_working (none_lives r.txn) in cc)
 
   pub none_commits : k.commits.items ≡ []
   none_commits = go k.commits.items safe.fit.queued.each

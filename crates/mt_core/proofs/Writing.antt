@@ -9,12 +9,14 @@ use Rattle.mt_frame.specs.PageRecords.{change_records}
 use Rattle.mt_frame.specs.declared.records.LoggedOp.{LoggedOp}
 use Rattle.mt_frame.specs.declared.records.Record.{Record}
 use Rattle.mt_model.specs.declared.operations.Reply.{Reply}
-use Rattle.mt_op.specs.Records.{end_of, end_with, KeepsRecords}
+use Rattle.mt_op.specs.Records.{dropped_with, end_of, end_with, KeepsRecords, TellsDropped}
 use Rattle.mt_op.specs.declared.answers.Stepped.{Stepped}
 use Rattle.mt_op.specs.declared.answers.Stepped.TheVariants as stepped
+use Rattle.mt_op.specs.declared.answers.TakenBack.{TakenBack}
+use Rattle.mt_op.specs.declared.answers.TakenBack.TheVariants as taken
 use Rattle.mt_op.specs.declared.scope.OpScope.{OpScope}
 use Rattle.mt_steps.specs.Logged.{logged_of}
-use Rattle.mt_core.specs.Writes.{WritesOnce}
+use Rattle.mt_core.specs.Writes.{BackWrites, WritesOnce}
 
 page_records : (txn op page : ℕ) (image : Option (List ℕ)) (old new : List ℕ) (es : List Edit) → All (λ (r : Record). is_of_page page r ≡ true) (change_records txn op page image old new es)
 page_records txn op page image old new [] k d lt = absurd (omega (arith, lt))
@@ -37,3 +39,15 @@ writes_once s old new (Ok (stepped.Again holder)) same ended = same
 writes_once s old new (Ok stepped.Flush) same ended = same
 writes_once s old new (Ok (stepped.Ready first second)) any ended = ended first second refl
 writes_once s old new (Err why) same ended = same
+
+-- and so is what says that an operation was taken back
+drop_short : (txn number standing : ℕ) (old new : List Record) → new ≡ old ++ dropped_with txn number standing → length new ≤ length old + 1
+drop_short txn number zero old new is = let all = ap length is in let parts = length-append old [] in omega (arith, all, parts)
+drop_short txn number (suc standing) old new is =
+    let all = ap length is in let parts = length-append old (dropped_with txn number (suc standing)) in omega (arith, all, parts)
+
+pub back_writes : (s : OpScope) (old new : List Record) (r : Result TakenBack Refusal) → TellsDropped s old new r → BackWrites old new r
+back_writes s old new (Ok taken.Clear) is = drop_short s.txn s.number s.standing old new is
+back_writes s old new (Ok taken.More) is = is
+back_writes s old new (Ok taken.Flush) is = is
+back_writes s old new (Err why) is = is

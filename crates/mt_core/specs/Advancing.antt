@@ -11,7 +11,7 @@ use Rattle.mt_model.specs.declared.operations.Op.{Op}
 use Rattle.mt_op.specs.declared.scope.OpScope.{OpScope}
 use Rattle.mt_log.specs.Words.{appended, durable}
 use Rattle.mt_core.specs.Work.{KeepsOthers, LeavesStanding, LeavesUndo, CallRuns, DrawsNumber, RunsBehind, TakesNumber}
-use Rattle.mt_core.specs.Writes.{WritesOnce}
+use Rattle.mt_core.specs.Writes.{BackWrites, WritesOnce}
 use Rattle.mt_model.specs.Model.{Base}
 use Rattle.mt_op.specs.Faults.{TellsFaults}
 use Rattle.mt_op.specs.Holds.{IsNext, KeepsLocks}
@@ -27,6 +27,7 @@ use Rattle.mt_plock.specs.Releasing.{locks_without}
 use Rattle.std.specs.List.{remove}
 use Rattle.mt_core.specs.declared.parts.Commit.{Commit}
 use Rattle.mt_core.specs.Causes.{IsAnswered, HasReserves, IsUnreserved, IsAdmittedBy, IsRefusedBehind}
+use Rattle.mt_pool.specs.Reads.{ReadsOnce}
 use Rattle.mt_pool.specs.Views.{pages}
 use Rattle.mt_escrow.specs.Seen.{Escrowed}
 use Rattle.mt_live.specs.Adds.{add_before}
@@ -67,7 +68,7 @@ module _ {D : Type 0} (g : Ghosts D) where
     pub book : n.book ≡ k.book
     pub durable : durable (core_log n) ≡ durable (core_log k)
     pub moments : LeavesExplained g k n
-    pub once : g.moment (core_device n) ≤ g.moment (core_device k) + 1
+    pub reads : ReadsOnce g (core_device k) (core_device n)
     pub others : AtPlace k.running.items place (λ r. KeepsOthers r.txn k.running.items n.running.items)
     pub writes : WritesOnce (appended (core_log k)) (appended (core_log n)) result
     pub appends : (origin : Origin) (base : Base) → IsConsistent g origin base k
@@ -86,6 +87,7 @@ module _ {D : Type 0} (g : Ghosts D) where
         → r ≡ slice_index_or k.running.items place r → q ≡ slice_index_or n.running.items place q → SameOp r q
     pub puts : (r q : OpScope) → r ≡ slice_index_or k.running.items place r → q ≡ slice_index_or n.running.items place q
         → LeavesStanding r q result
+    pub writes : BackWrites (appended (core_log k)) (appended (core_log n)) result
     pub why : IfErr result IsCause
     pub faults : TellsFaults (g.faults (core_device k)) (g.faults (core_device n)) result
     pub back : (origin : Origin) (base : Base) → IsConsistent g origin base k
@@ -93,7 +95,7 @@ module _ {D : Type 0} (g : Ghosts D) where
     pub book : n.book ≡ k.book
     pub durable : durable (core_log n) ≡ durable (core_log k)
     pub moments : LeavesExplained g k n
-    pub once : g.moment (core_device n) ≤ g.moment (core_device k) + 1
+    pub reads : ReadsOnce g (core_device k) (core_device n)
     pub others : AtPlace k.running.items place (λ r. KeepsOthers r.txn k.running.items n.running.items)
     pub appends : (origin : Origin) (base : Base) → IsConsistent g origin base k → QuietlyAppends origin.pages k n
 

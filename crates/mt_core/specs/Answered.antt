@@ -1,5 +1,5 @@
 -- What calls of the core did, and what each left of it: parts k before, and n after the call.
-use Rattle.std.specs.Prelude.{ℕ, ◌≡◌, ◌≤◌, ◌+◌, ◌++◌, ◌∷◌, [], IfErr, None, Ok, Result, Some, false, length}
+use Rattle.std.specs.Prelude.{ℕ, ◌≡◌, ◌<◌, ◌≤◌, ◌+◌, ◌++◌, ◌∷◌, [], Bool, IfErr, None, Ok, OnErr, Result, Some, false, length, true}
 use Rattle.mt_disk.specs.declared.device.Device.{Ghosts}
 use Rattle.mt_base.specs.declared.refusal.Refusal.{Refusal}
 use Rattle.mt_frame.specs.declared.records.Record.TheVariants as record_of
@@ -10,6 +10,7 @@ use Rattle.mt_op.specs.Faults.{TellsFaults}
 use Rattle.mt_op.specs.Operations.{IsCause}
 use Rattle.mt_op.specs.declared.answers.TakenBack.{TakenBack}
 use Rattle.mt_op.specs.declared.answers.TakenBack.TheVariants as taken
+use Rattle.mt_pool.specs.Reads.{ReadsOnce}
 use Rattle.mt_pool.specs.Views.{pages}
 use Rattle.mt_core.specs.Consistent.{AtPlace, IsConsistent, Origin, SameCommits, SameRunning, SameStates, SameStatesBut, SetsState}
 use Rattle.mt_core.specs.PageLocks.{GivesLocksBack, KeepsPageLocks}
@@ -19,7 +20,7 @@ use Rattle.mt_core.specs.Runs.{did_after, state_in}
 use Rattle.mt_core.specs.Seen.{core_device, core_log, core_page_locks, core_pool, core_store}
 use Rattle.mt_core.specs.Steps.{LeavesExplained, NamesOther, WantsFrame}
 use Rattle.mt_core.specs.Work.{KeepsOthers, Lowers, LowersBack, steps_in, undo_steps}
-use Rattle.mt_core.specs.Writes.{StepWrites}
+use Rattle.mt_core.specs.Writes.{BackWrites, StepWrites}
 use Rattle.mt_core.specs.declared.parts.Commit.{Commit}
 use Rattle.mt_core.specs.declared.parts.Core.{Core}
 use Rattle.mt_core.specs.declared.steps.Going.TheVariants.{Flush}
@@ -44,7 +45,7 @@ module _ {D : Type 0} (g : Ghosts D) where
     pub why : IfErr result IsCause
     pub faults : TellsFaults (g.faults (core_device k)) (g.faults (core_device n)) result
     pub moments : LeavesExplained g k n
-    pub once : g.moment (core_device n) ≤ g.moment (core_device k) + 1
+    pub reads : ReadsOnce g (core_device k) (core_device n)
 
   -- A step of the taking back of the operation at a place answered this.
   pub record IsPutBack (k n : Core D) (place : ℕ) (result : Result TakenBack Refusal) : Type 0 where
@@ -54,12 +55,13 @@ module _ {D : Type 0} (g : Ghosts D) where
     pub commits : n.commits ≡ k.commits
     pub numbers : n.last ≡ k.last
     pub locks : AtPlace k.running.items place (λ r. GivesLocksBack k n r result)
+    pub writes : BackWrites (appended (core_log k)) (appended (core_log n)) result
     pub durable : durable (core_log n) ≡ durable (core_log k)
     pub full : result ≡ Ok taken.Flush → WantsFrame k n
     pub why : IfErr result IsCause
     pub faults : TellsFaults (g.faults (core_device k)) (g.faults (core_device n)) result
     pub moments : LeavesExplained g k n
-    pub once : g.moment (core_device n) ≤ g.moment (core_device k) + 1
+    pub reads : ReadsOnce g (core_device k) (core_device n)
 
 module _ {D : Type 0} where
   -- what stays as an inverse of a transaction begins, or none does
@@ -69,6 +71,15 @@ module _ {D : Type 0} where
     pub live : n.live ≡ k.live
     pub commits : n.commits ≡ k.commits
     pub others : KeepsOthers t k.running.items n.running.items
+
+  -- An inverse of a transaction begins, which takes the next number and a step of what is left to undo; or none does,
+  -- and all stays; or it is refused.
+  pub record BeginsInverse (k n : Core D) (t : ℕ) (result : Result Bool Refusal) : Type 0 where
+    pub fewer : result ≡ Ok true → undo_steps n t < undo_steps k t
+    pub drawn : result ≡ Ok true → n.last ≡ k.last + 1
+    pub same : result ≡ Ok false → n ≡ k
+    pub err_left : OnErr result (undo_steps n t ≤ undo_steps k t)
+    pub undrawn : OnErr result (n.last ≡ k.last)
 
   -- no operation of a transaction after its first so many stands and did something
   pub record NoneAfter (k : Core D) (t first : ℕ) : Type 0 where

@@ -48,7 +48,7 @@ use Rattle.mt_slock.specs.declared.holders.Holder.{Holder}
 use Rattle.mt_steps.specs.Held.{Holds}
 use Rattle.mt_steps.specs.Logged.{HasSmallReply}
 use Rattle.mt_steps.specs.Plans.{own_needs}
-use Rattle.mt_core.specs.Runs.{running_in, AreApart, AreHeldBy, IsRunning, IsOwned, is_open, is_returning, pages_of, entry_pages, entry_bytes, kept_bytes, taken_bytes}
+use Rattle.mt_core.specs.Runs.{running_in, AreApart, AreHeldBy, IsRunning, IsOwned, is_returning, pages_of, entry_pages, entry_bytes, kept_bytes, taken_bytes, is_working}
 use Rattle.mt_op.specs.World.{left_of}
 pub use Rattle.mt_core.specs.Runs.{state_in}
 use Rattle.mt_core.specs.declared.calls.Called.{Called}
@@ -96,7 +96,7 @@ pub record IsNumbered (last begun : ℕ) (ms : List Member) (page_locks : List P
     (records : List Record) : Type 0 where
   pub locks : All (λ (l : PageLock). l.op ≤ last) page_locks
   pub ops : (n : ℕ) → last < n → some_record (ends_op n) records ≡ false
-  pub txns : (t : ℕ) → is_open (member_of ms t) ≡ true → some_record (ends_txn t) records ≡ false
+  pub txns : (t : ℕ) → is_working (member_of ms t) ≡ true → some_record (ends_txn t) records ≡ false
   pub coming : (t : ℕ) → begun < t → some_record (ends_txn t) records ≡ false
   pub few_operations : last ≤ 2 * MAX_BEGUN
   pub few_transactions : begun ≤ MAX_BEGUN
@@ -324,7 +324,7 @@ GoesBack g origin base s k place (Err why) = IsIn g origin base s k
 -- idle, does not go back, has room, and may call one more.
 pub record MayRun {D : Type 0} (origin : Origin) (k : Core D) (t : ℕ) (op : Op) : Type 0 where
   pub within : IsWithin origin.relations origin.counters op
-  pub at_work : is_open (member_of k.live.members t) ≡ true
+  pub at_work : is_working (member_of k.live.members t) ≡ true
   pub forwards : is_returning (state_in k.live.members t) ≡ false
   pub room : has_room (member_of k.live.members t) ≡ true
   pub idle : All (λ (r : OpScope). r.txn ≢ t) k.running.items
@@ -333,7 +333,7 @@ pub record MayRun {D : Type 0} (origin : Origin) (k : Core D) (t : ℕ) (op : Op
 -- but for room for its end
 pub record MayBeCalled {D : Type 0} (origin : Origin) (k : Core D) (t : ℕ) (op : Op) : Type 0 where
   pub within : IsWithin origin.relations origin.counters op
-  pub at_work : is_open (member_of k.live.members t) ≡ true
+  pub at_work : is_working (member_of k.live.members t) ≡ true
   pub forwards : is_returning (state_in k.live.members t) ≡ false
   pub idle : All (λ (r : OpScope). r.txn ≢ t) k.running.items
   pub few : forward_count (calls_of k.live.members t) < MAX_OPERATIONS

@@ -57,20 +57,20 @@ is_at_work Committing = false
 is_at_work (Returning first) = true
 is_at_work Aborting = true
 
-abbrev pub is_open : Option Member → Bool
-is_open None = false
-is_open (Some m) = is_at_work m.state
+abbrev pub is_working : Option Member → Bool
+is_working None = false
+is_working (Some m) = is_at_work m.state
 
 abbrev pub state_in : List Member → ℕ → Option TxnState
 state_in ms t = option_map (λ (m : Member). m.state) (member_of ms t)
 
 -- in which its operations are undone one after the other, the last one first
-abbrev pub goes_back : Option TxnState → Bool
-goes_back None = false
-goes_back (Some Open) = false
-goes_back (Some Committing) = false
-goes_back (Some (Returning first)) = true
-goes_back (Some Aborting) = true
+abbrev pub is_undoing : Option TxnState → Bool
+is_undoing None = false
+is_undoing (Some Open) = false
+is_undoing (Some Committing) = false
+is_undoing (Some (Returning first)) = true
+is_undoing (Some Aborting) = true
 
 -- how many operations of a transaction stand, if it lives
 abbrev pub count_in : List Member → ℕ → Option ℕ
@@ -107,14 +107,14 @@ is_returning (Some Aborting) = false
 -- Only what a transaction that is to be undone has called is taken back. Inverses are there of one that goes back, and
 -- while it goes on after that, nothing but these.
 pub record IsOwned (ms : List Member) (standing : List Entry) (r : OpScope) : Type 0 where
-  pub at_work : is_open (member_of ms r.txn) ≡ true
+  pub at_work : is_working (member_of ms r.txn) ≡ true
   pub room : undoes_of r ≡ 0 → has_room (member_of ms r.txn) ≡ true
   pub inverse : undoes_of r ≢ 0 → TakesBack ms standing r
   pub newest : undoes_of r ≡ 0 → IsAbove r.number (member_of ms r.txn)
   pub few : undoes_of r ≡ 0 → forward_count (calls_of ms r.txn) < MAX_OPERATIONS
   pub taken : r.stage ≡ Taking → (undoes_of r ≡ 0) × (state_in ms r.txn ≡ Some Aborting)
   pub forwards : undoes_of r ≡ 0 → is_returning (state_in ms r.txn) ≡ false
-  pub backwards : undoes_of r ≢ 0 → goes_back (state_in ms r.txn) ≡ true
+  pub backwards : undoes_of r ≢ 0 → is_undoing (state_in ms r.txn) ≡ true
   pub returns : undoes_of r ≢ 0 → (first : ℕ) → state_in ms r.txn ≡ Some (Returning first)
       → IsNotedAfter first r.number (member_of ms r.txn)
 

@@ -5,6 +5,8 @@ use Rattle.mt_area_rules.specs.History.{is_of_page}
 use Rattle.mt_frame.specs.declared.records.Record.{Record}
 use Rattle.mt_op.specs.declared.answers.Stepped.{Stepped}
 use Rattle.mt_op.specs.declared.answers.Stepped.TheVariants as stepped
+use Rattle.mt_op.specs.declared.answers.TakenBack.{TakenBack}
+use Rattle.mt_op.specs.declared.answers.TakenBack.TheVariants as taken
 use Rattle.mt_core.specs.PageLocks.{step_of}
 use Rattle.mt_core.specs.declared.steps.Stepping.{Stepping}
 use Rattle.mt_core.specs.declared.steps.Stepping.TheVariants.{Going, Ended}
@@ -29,3 +31,10 @@ abbrev pub StepWrites : List Record → List Record → Result Stepping Refusal 
 StepWrites old new (Ok (Ended reply)) = length new ≤ length old + 1
 StepWrites old new (Ok (Going g)) = WritesOnce old new (Ok (step_of g))
 StepWrites old new (Err why) = new ≡ old
+
+-- A step that takes an operation back appends a record at most, and only if it is the last.
+abbrev pub BackWrites : List Record → List Record → Result TakenBack Refusal → Type 0
+BackWrites old new (Ok taken.Clear) = length new ≤ length old + 1
+BackWrites old new (Ok taken.More) = new ≡ old
+BackWrites old new (Ok taken.Flush) = new ≡ old
+BackWrites old new (Err why) = new ≡ old

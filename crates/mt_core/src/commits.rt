@@ -3,7 +3,7 @@ ghost use Rattle.std.specs.Prelude.{ℕ, IfSome, ◌≡◌, ◌≢◌, ◌⊎◌
 ghost use Rattle.mt_live.specs.Lives.{member_of};
 ghost use Rattle.mt_live.specs.Machine.{begun};
 ghost use Rattle.mt_live.specs.declared.transactions.TxnState.TheVariants.{Open, Returning, Aborting};
-ghost use Rattle.mt_disk.specs.Disk.{HasCause};
+ghost use Rattle.mt_disk.specs.Disk.{HasCause, LeavesTheSame};
 ghost use Rattle.mt_log.specs.Forcing.{ReportsFault};
 ghost use Rattle.mt_log.specs.Steps.{ForceSteps};
 ghost use Rattle.mt_log.specs.Words.{appended, durable, area_size, seen_of};
@@ -20,7 +20,7 @@ ghost use Rattle.mt_core.specs.Consistent.{log_kept, SameCommits, SameRunning, S
 ghost use Rattle.mt_core.specs.Restartable.{StaysRestartable};
 ghost use Rattle.mt_core.specs.Steps.{LeavesExplained};
 ghost use Rattle.mt_core.specs.Booked.{booked_each, durable_count, durable_txns};
-ghost use Rattle.mt_core.specs.Runs.{count_in, is_open};
+ghost use Rattle.mt_core.specs.Runs.{count_in, is_working};
 ghost use Rattle.mt_core.specs.Work.{LeavesUndo, most_steps, undo_steps};
 ghost use Rattle.std.specs.Vec.{vec_len, vec_capacity};
 ghost use Rattle.mt_base.specs.declared.limits.TheConstants.{MAX_BEGUN, MAX_LIVE, TRANSACTION_LOG_BYTES};
@@ -94,11 +94,11 @@ impl<D: Device> Core<D> {
     /// Begins to undo a transaction that is open or goes back. An inverse of it that is under way is one of the abort
     /// then. It takes no memory.
     pub fn abort_begin(&mut self, txn: TxnNo)
-        requires { is_open (member_of self.old.live.members txn) ≡ true }
+        requires { is_working (member_of self.old.live.members txn) ≡ true }
         ensures state { StaysIn D.Device self.old self.new }
         ensures aborts { SetsState self.old self.new txn (Some Aborting) }
         ensures rest { self.new ≡ record self.old { live = self.new.live } }
-        ensures same_commits { SameCommits self.old self.new }
+        ensures count { (t : ℕ) → count_in self.new.live.members t ≡ count_in self.old.live.members t }
         ensures few { (origin : Origin) (base : Base) → IsConsistent D.Device origin base self.old
             → undo_steps self.new txn ≤ most_steps self.old txn }
         ensures restartable { StaysRestartable D.Device self.old self.new }
@@ -247,6 +247,7 @@ impl<D: Device> Core<D> {
         ensures log { core_log self.new ≡ core_log self.old }
         ensures pool { core_pool self.new ≡ core_pool self.old }
         ensures content { D.seen (core_device self.new) ≡ D.seen (core_device self.old) }
+        ensures crash { LeavesTheSame (D.may_leave (core_device self.old)) (D.may_leave (core_device self.new)) }
         ensures calls { D.moment (core_device self.new)
             ≤ D.moment (core_device self.old) + pages (core_pool self.old) + 2 }
         ensures cause { IfErr result (λ why. (why ≡ Refusal.NoMemory) ⊎ (why ≡ Refusal.DeviceFailed)

@@ -7,11 +7,13 @@ ghost use Rattle.mt_live.specs.Members.{with_room};
 ghost use Rattle.mt_live.specs.Undoing.{after_first, last_effect};
 ghost use Rattle.mt_model.specs.Model.{Base};
 ghost use Rattle.mt_live.specs.declared.transactions.TxnState.TheVariants.{Open, Returning, Aborting};
-ghost use Rattle.mt_core.specs.Answered.{EndsAbort, KeepsAtAbort, KeepsToReturn, KeepsToUndo, NoneAfter};
+ghost use Rattle.mt_core.specs.Answered.{BeginsInverse, EndsAbort, KeepsAtAbort, KeepsToReturn, KeepsToUndo, NoneAfter};
 ghost use Rattle.mt_core.specs.Consistent.{IsSound, SameStates, SetsState, StaysIn, state_in, Origin, state_of, IsConsistent, IsIn};
 ghost use Rattle.mt_core.specs.Restartable.{StaysRestartable};
-ghost use Rattle.mt_core.specs.Runs.{count_in, did_after, goes_back, is_open};
+ghost use Rattle.mt_core.specs.Runs.{count_in, did_after, is_working, is_undoing};
+ghost use Rattle.mt_core.specs.Seen.{core_log};
 ghost use Rattle.mt_core.specs.Work.{undo_steps};
+ghost use Rattle.mt_log.specs.Words.{appended};
 ghost use Rattle.mt_op.specs.declared.scope.OpScope.{OpScope};
 
 use crate::parts::Core;
@@ -28,19 +30,15 @@ impl<D: Device> Core<D> {
     // it goes on after that, there is room to note its end.
     fn inverse_begin(&mut self, alloc: Global, txn: TxnNo) -> Result<bool, Refusal>
         requires safe { IsSound D.Device self.old }
-        requires backwards { goes_back (state_in self.old.live.members txn) ≡ true }
+        requires backwards { is_undoing (state_in self.old.live.members txn) ≡ true }
         requires noted { (first : ℕ) → state_in self.old.live.members txn ≡ Some (Returning first)
             → (has_room (member_of self.old.live.members txn) ≡ true)
             × (did_after first (member_of self.old.live.members txn) ≡ true) }
         requires idle { All (λ (r : OpScope). r.txn ≢ txn) self.old.running.items }
         ensures state { StaysIn D.Device self.old self.new }
         ensures nothing { result ≡ Ok false → last_effect txn self.old.live.standing ≡ None }
-        ensures same { result ≡ Ok false → self.new ≡ self.old }
-        ensures fewer { result ≡ Ok true → undo_steps self.new txn < undo_steps self.old txn }
-        ensures err_left { OnErr result (undo_steps self.new txn ≤ undo_steps self.old txn) }
+        ensures begins { BeginsInverse self.old self.new txn result }
         ensures keeps { KeepsToUndo self.old self.new txn }
-        ensures drawn { result ≡ Ok true → self.new.last ≡ self.old.last + 1 }
-        ensures undrawn { OnErr result (self.new.last ≡ self.old.last) }
         ensures only_memory { IfErr result (λ why. why ≡ Refusal.NoMemory) }
         ensures restartable { StaysRestartable D.Device self.old self.new }
     {
@@ -78,12 +76,8 @@ impl<D: Device> Core<D> {
         requires idle { All (λ (r : OpScope). r.txn ≢ txn) self.old.running.items }
         ensures state { StaysIn D.Device self.old self.new }
         ensures nothing { result ≡ Ok false → last_effect txn self.old.live.standing ≡ None }
-        ensures same { result ≡ Ok false → self.new ≡ self.old }
-        ensures fewer { result ≡ Ok true → undo_steps self.new txn < undo_steps self.old txn }
-        ensures err_left { OnErr result (undo_steps self.new txn ≤ undo_steps self.old txn) }
+        ensures begins { BeginsInverse self.old self.new txn result }
         ensures keeps { KeepsToUndo self.old self.new txn }
-        ensures drawn { result ≡ Ok true → self.new.last ≡ self.old.last + 1 }
-        ensures undrawn { OnErr result (self.new.last ≡ self.old.last) }
         ensures only_memory { IfErr result (λ why. why ≡ Refusal.NoMemory) }
         ensures restartable { StaysRestartable D.Device self.old self.new }
     {
@@ -105,12 +99,8 @@ impl<D: Device> Core<D> {
         ensures needed { OnErr result
             (is_some (last_effect txn (after_first txn first self.old.live.standing)) ≡ true) }
         ensures nothing { result ≡ Ok false → NoneAfter self.old txn first }
-        ensures same { result ≡ Ok false → self.new ≡ self.old }
-        ensures fewer { result ≡ Ok true → undo_steps self.new txn < undo_steps self.old txn }
-        ensures err_left { OnErr result (undo_steps self.new txn ≤ undo_steps self.old txn) }
+        ensures begins { BeginsInverse self.old self.new txn result }
         ensures keeps { KeepsToReturn self.old self.new txn }
-        ensures drawn { result ≡ Ok true → self.new.last ≡ self.old.last + 1 }
-        ensures undrawn { OnErr result (self.new.last ≡ self.old.last) }
         ensures only_memory { IfErr result (λ why. why ≡ Refusal.NoMemory) }
         ensures restartable { StaysRestartable D.Device self.old self.new }
     {
@@ -124,7 +114,7 @@ impl<D: Device> Core<D> {
     // Makes room for one more end of a transaction at work.
     fn make_room(&mut self, txn: TxnNo) -> Result<(), Refusal>
         requires safe { IsSound D.Device self.old }
-        requires at_work { is_open (member_of self.old.live.members txn) ≡ true }
+        requires at_work { is_working (member_of self.old.live.members txn) ≡ true }
         ensures state { StaysIn D.Device self.old self.new }
         ensures member { OnOk result (IsChanged self.old.live.members self.new.live.members txn with_room) }
         ensures rest { self.new ≡ record self.old { live = self.new.live } }
@@ -163,7 +153,7 @@ impl<D: Device> Core<D> {
     /// Refused with 1 for want of memory; the transaction lives then.
     pub fn abort_end(&mut self, txn: TxnNo) -> Result<(), Refusal>
         requires safe { IsSound D.Device self.old }
-        requires at_work { is_open (member_of self.old.live.members txn) ≡ true }
+        requires at_work { is_working (member_of self.old.live.members txn) ≡ true }
         requires idle { All (λ (r : OpScope). r.txn ≢ txn) self.old.running.items }
         requires nothing { last_effect txn self.old.live.standing ≡ None }
         ensures gone { (origin : Origin) (base : Base) → IsConsistent D.Device origin base self.old
@@ -172,6 +162,7 @@ impl<D: Device> Core<D> {
         ensures keeps { KeepsAtAbort self.old self.new txn }
         ensures err_states { OnErr result (SameStates self.old self.new) }
         ensures err_left { OnErr result (undo_steps self.new txn ≤ undo_steps self.old txn) }
+        ensures unappended { OnErr result (appended (core_log self.new) ≡ appended (core_log self.old)) }
         ensures err { (origin : Origin) (base : Base) → IsConsistent D.Device origin base self.old
             → OnErr result (IsIn D.Device origin base (state_of self.old base) self.new) }
         ensures only_memory { IfErr result (λ why. why ≡ Refusal.NoMemory) }

@@ -4,7 +4,7 @@ use Rattle.std.proofs.lemmas.Bool.{cases_eq, cases_lt}
 use Rattle.std.proofs.lemmas.List.{get_or-set_same, get_or-set_other, get_or_append_left, get_or_push, get_or_past}
 use Rattle.mt_slots.specs.Page.{IsShaped}
 use Rattle.mt_space.specs.Kinds.{kind}
-use Rattle.mt_file.specs.Copies.{copied, AreWhole}
+use Rattle.mt_space.specs.PageLists.{AreWhole, bytes_of}
 use Rattle.mt_file.specs.File.{IsFile}
 
 pub whole_set : (pages : List (List ℕ)) (i : ℕ) (page : List ℕ) → AreWhole pages → i < length pages → length page ≡ 4096 → AreWhole (set pages i page)
@@ -23,12 +23,12 @@ whole_push pages page whole long = λ p lt.
     (λ (past : length pages ≤ p). ap length (get_or_push pages page [] p (omega arith)) ∙ long)
     (cases_lt p (length pages))
 
-pub is_file : (pages : List (List ℕ)) → AreWhole pages → 0 < length pages → kind (copied pages) 0 ≡ 1 → ((p : ℕ) → p < 4096 → kind (copied pages) p ≡ 3 → IsShaped (copied pages p)) → IsFile (copied pages)
+pub is_file : (pages : List (List ℕ)) → AreWhole pages → 0 < length pages → kind (bytes_of pages) 0 ≡ 1 → ((p : ℕ) → p < 4096 → kind (bytes_of pages) p ≡ 3 → IsShaped (bytes_of pages p)) → IsFile (bytes_of pages)
 is_file pages whole some fixed each = record {
   whole = whole 0 some;
   fixed = fixed;
   each = λ p is. ⊎_elim
       (λ (lt : p < 4096). each p lt is)
-      (λ (le : 4096 ≤ p). let long = whole 0 some in let past = get_or_past (copied pages 0) p 0 (omega arith) in absurd (omega arith))
+      (λ (le : 4096 ≤ p). let long = whole 0 some in let past = get_or_past (bytes_of pages 0) p 0 (omega arith) in absurd (omega arith))
       (cases_lt p 4096);
 }

@@ -1,4 +1,3 @@
-pub mod Copies
 pub mod File
 pub mod Plans
 pub mod Rooms

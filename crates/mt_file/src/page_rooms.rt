@@ -4,7 +4,7 @@ ghost use Rattle.std.specs.Prelude.{◌≡◌, ◌≢◌, ◌<◌, ◌≤◌, le
 ghost use Rattle.mt_base.specs.declared.limits.TheConstants.{MAX_PAGES, PAGE_BYTES};
 ghost use Rattle.mt_slots.specs.Page.{IsShaped};
 ghost use Rattle.mt_space.specs.Changes.{PageBytes, after, AreShort};
-ghost use Rattle.mt_file.specs.Copies.{copied};
+ghost use Rattle.mt_space.specs.PageLists.{bytes_of};
 ghost use Rattle.mt_file.specs.File.{IsFile};
 ghost use Rattle.mt_file.specs.Rooms.{fits_of, AreRooms};
 
@@ -16,10 +16,10 @@ use std::alloc::{AllocError, Global};
 
 /// What each of these pages takes. The only error is want of memory.
 pub fn rooms_of(alloc: Global, pages: &[[u8; 4096]]) -> Result<Rooms, AllocError>
-    requires file { ∥ IsFile (copied pages.now) ∥₁ }
+    requires file { ∥ IsFile (bytes_of pages.now) ∥₁ }
     requires few { length pages.now ≤ MAX_PAGES }
     ensures size { IfOk result (λ rooms. length rooms ≡ length pages.now) }
-    ensures noted { IfOk result (λ rooms. AreRooms rooms (copied pages.now)) }
+    ensures noted { IfOk result (λ rooms. AreRooms rooms (bytes_of pages.now)) }
 {
     let map = &pages[usize::from(MAP)];
     let mut rooms = Rooms::of(alloc, pages.len() as u16)?;

@@ -2,7 +2,7 @@
 ghost use Rattle.std.specs.Prelude.{◌≡◌, ◌+◌, ◌≤◌, ◌<◌, ℕ, length, IfOk};
 ghost use Rattle.mt_base.specs.declared.limits.TheConstants.{MAX_COUNTERS, PAGE_BYTES};
 ghost use Rattle.mt_base.specs.Ranges.{Torn};
-ghost use Rattle.mt_index.specs.Checks.{bytes_of};
+ghost use Rattle.mt_space.specs.PageLists.{bytes_of};
 ghost use Rattle.mt_index.specs.Pages.{AreZero};
 ghost use Rattle.mt_model.specs.Tables.{IsLimited};
 ghost use Rattle.mt_counters.specs.Counters.{place_of, count_in};

@@ -5,4 +5,3 @@ pub mod Laws
 pub mod Codec
 pub mod Readers
 pub mod PageRecords
-pub mod Kinds

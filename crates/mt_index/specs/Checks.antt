@@ -23,9 +23,6 @@ pub record AreWhole (pages : List (List ℕ)) : Type 0 where
   pub few : length pages ≤ PAGE_BYTES
   pub each : (p : ℕ) → p < length pages → length (get_or pages p []) ≡ PAGE_BYTES
 
-abbrev pub bytes_of : List (List ℕ) → PageBytes
-bytes_of pages p = get_or pages p []
-
 -- So many pages are an index, well formed in each byte; each bucket page stands in the chain of some key.
 pub record IsSound (relations total : ℕ) (pages : PageBytes) : Type 0 where
   pub formed : AreFormed relations total pages

@@ -1,7 +1,8 @@
 // Which bucket each bucket page is of. `index_rules` asks this of pages in memory that may have any bytes.
 ghost use Rattle.std.specs.Prelude.{◌≡◌, ◌≢◌, ◌<◌, ◌≤◌, ◌^◌, ℕ, length, get_or, MatchOption, MatchBool};
 ghost use Rattle.mt_index.specs.Pages.{depth_in, pointer_at};
-ghost use Rattle.mt_index.specs.Checks.{AreWhole, bytes_of, AreKinds, ArePointers, IsMarked, AreMarked, Marks, IsStuck, IsSound, AreNexts, CanFollow, CannotFollow};
+ghost use Rattle.mt_index.specs.Checks.{AreWhole, AreKinds, ArePointers, IsMarked, AreMarked, Marks, IsStuck, IsSound, AreNexts, CanFollow, CannotFollow};
+ghost use Rattle.mt_space.specs.PageLists.{bytes_of};
 ghost use Rattle.mt_space.specs.Kinds.{kind};
 ghost use Rattle.mt_index.specs.Broken.{IsAstray};
 

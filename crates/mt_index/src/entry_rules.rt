@@ -3,7 +3,8 @@ ghost use Rattle.std.specs.Prelude.{◌≡◌, ◌≢◌, ◌<◌, ◌^◌, ℕ,
 ghost use Rattle.mt_bucket.specs.Page.{next_of, IsBucket};
 ghost use Rattle.mt_space.specs.Kinds.{kind};
 ghost use Rattle.mt_index.specs.Pages.{depth_in, IsOn};
-ghost use Rattle.mt_index.specs.Checks.{AreWhole, bytes_of, AreKinds, AreBuckets, IsMarked, AreMarked, IsFinite, AreAlone, IsSettled, Settles, holder_in, ArePassed, IsMisplaced};
+ghost use Rattle.mt_index.specs.Checks.{AreWhole, AreKinds, AreBuckets, IsMarked, AreMarked, IsFinite, AreAlone, IsSettled, Settles, holder_in, ArePassed, IsMisplaced};
+ghost use Rattle.mt_space.specs.PageLists.{bytes_of};
 
 use crate::directory::pointer;
 use crate::index_rules::{is_bucket, page_at};

@@ -4,7 +4,8 @@ ghost use Rattle.mt_base.specs.declared.limits.TheConstants.{PAGE_BYTES};
 ghost use Rattle.mt_bucket.specs.Page.{IsBucket};
 ghost use Rattle.mt_space.specs.Kinds.{kind};
 ghost use Rattle.mt_index.specs.Pages.{IsDirectory};
-ghost use Rattle.mt_index.specs.Checks.{AreWhole, bytes_of, IsSound, AreKinds, AreBuckets, AreNexts, ArePointers, HasNext};
+ghost use Rattle.mt_index.specs.Checks.{AreWhole, IsSound, AreKinds, AreBuckets, AreNexts, ArePointers, HasNext};
+ghost use Rattle.mt_space.specs.PageLists.{bytes_of};
 ghost use Rattle.mt_index.specs.Broken.{IsBroken};
 
 use crate::bucket_marks::mark_buckets;

@@ -2,7 +2,8 @@
 ghost use Rattle.std.specs.Prelude.{◌≡◌, ◌<◌, ◌≤◌, ◌^◌, ℕ, length, MatchBool};
 ghost use Rattle.mt_base.specs.declared.limits.TheConstants.{PAGE_BYTES};
 ghost use Rattle.mt_index.specs.Pages.{depth_in, pointer_at};
-ghost use Rattle.mt_index.specs.Checks.{AreWhole, bytes_of, AreKinds, IsPattern, IsPointer, ArePointers};
+ghost use Rattle.mt_index.specs.Checks.{AreWhole, AreKinds, IsPattern, IsPointer, ArePointers};
+ghost use Rattle.mt_space.specs.PageLists.{bytes_of};
 
 use crate::directory::{depth, pointer_of};
 use crate::index_rules::{is_bucket, page_at};

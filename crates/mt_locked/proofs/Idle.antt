@@ -5,7 +5,7 @@ use Rattle.std.specs.Prelude.{All}
 use Rattle.std.specs.Option.{option_map}
 use mathlib.Core.Logic.{∥∥₁_elim}
 use Rattle.mt_disk.specs.declared.device.Device.{Ghosts}
-use Rattle.mt_core.specs.Runs.{AreHeldBy, IsOwned, is_open}
+use Rattle.mt_core.specs.Runs.{AreHeldBy, IsOwned, is_working}
 use Rattle.mt_op.specs.declared.scope.OpScope.{OpScope}
 use Rattle.mt_live.specs.Entries.{Entry}
 use Rattle.mt_live.specs.Lives.{member_of}
@@ -35,7 +35,7 @@ none_runs : (ms : List Member) (standing : List Entry) (rs : List OpScope) → m
 none_runs ms standing [] none owned = refl
 none_runs ms standing (r ∷ rs) none owned =
     let works = (owned 0 r (omega arith)).at_work in
-    let wrong : ◌≡◌ {A = Bool} false true = ap (λ (l : List Member). is_open (member_of l r.txn)) (sym none) ∙ works in absurd cc
+    let wrong : ◌≡◌ {A = Bool} false true = ap (λ (l : List Member). is_working (member_of l r.txn)) (sym none) ∙ works in absurd cc
 
 none_held : (rs : List OpScope) (locks : List PageLock) → rs ≡ [] → AreHeldBy rs locks → length locks ≡ 0
 none_held rs [] none held = refl

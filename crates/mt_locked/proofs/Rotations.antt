@@ -88,9 +88,9 @@ module _ {D : Type 0} (g : Ghosts D) where
       late early = fault_late (length k.core.live.members) (sym (ap (λ (b : Bool). survey_cause b k.core) well) ∙ early)
 
       by : (w : Refusal) → IsKeptCause n w → ((w ≡ refusal.DeviceFailed → ⊥) → g.faults n.core.operations.store.device ≡ g.faults k.core.operations.store.device) → IsLeftAfter g w (Some (seen_of k)) (Some (seen_of n))
-      by refusal.NoMemory kept quiet = (kept, (left.keeps.parts, left.keeps.schema.0, left.keeps.schema.1, quiet (λ e. absurd cc)))
+      by refusal.NoMemory kept quiet = (kept, (left.keeps.parts, left.keeps.schema.0, left.keeps.schema.1, quiet (λ e. absurd cc), left.keeps.state))
       by refusal.DeviceFailed kept quiet = kept
-      by refusal.LogFull kept quiet = (kept.0, (left.keeps.parts, left.keeps.schema.0, left.keeps.schema.1, quiet (λ e. absurd cc)))
+      by refusal.LogFull kept quiet = (kept.0, (left.keeps.parts, left.keeps.schema.0, left.keeps.schema.1, quiet (λ e. absurd cc), left.keeps.state))
       by _ kept quiet = absurd kept
 
   left_so : (k n : Kernel D g) (r : Result (Unit {0}) Refusal) (outcome : Result Bool Refusal) → is_failed k ≡ false → IfErr outcome IsTurnFault → IfErr outcome (λ why. r ≡ Err why)

@@ -1,7 +1,7 @@
 -- What stands under the lock keeps the history, and what a crash leaves of it has the book.
 use Rattle.std.proofs.Common.{◌≡◌, ◌∙◌, ◌+◌, ◌-◌, ◌++◌, ◌∷◌, [], ℕ, List, length, take, slice_get, Option, Some, None, Result, Ok, Err, refl, sym, ap, subst, arith}
 use Rattle.std.proofs.Math.Seq.{take-append-add}
-use Rattle.std.specs.Prelude.{IfOk, OnErr}
+use Rattle.std.specs.Prelude.{IfOk, OnErr, OnOk}
 use mathlib.Core.List.{IsPrefix}
 use mathlib.Core.Logic.{∥∥₁_map}
 use Rattle.mt_base.specs.declared.refusal.Refusal.{Refusal}
@@ -13,6 +13,7 @@ use Rattle.mt_core.specs.declared.calls.Called.{Called}
 use Rattle.mt_core.specs.declared.calls.Called.TheVariants as call
 use Rattle.mt_live.specs.Laws.{in_turn}
 use Rattle.mt_live.specs.Machine.{State}
+use Rattle.mt_live.specs.declared.transactions.TxnState.{TxnState}
 use Rattle.mt_mark.specs.Legal.{IsLegal}
 use Rattle.mt_mark.specs.Rule.{dones}
 use Rattle.mt_mark.specs.declared.view.Entry.{Entry}
@@ -29,6 +30,7 @@ use Rattle.mt_restart.specs.Standings.{IsFoundAfter, device_at}
 use Rattle.mt_restart.specs.declared.standing.Standing.{Standing}
 use Rattle.mt_restart.specs.declared.standing.Standing.TheVariants.{Stands, Ended}
 use Rattle.mt_txn.specs.Causes.{IsRefusedAtOnce}
+use Rattle.mt_txn.specs.Effects.{BeginsUndoing}
 use Rattle.mt_txn.specs.Events.{HasCalled, HasForced}
 use Rattle.mt_txn.specs.Restarted.{all_commits, FindsCommits}
 use Rattle.mt_txn.specs.Seen.{KernelSeen, ShowsSeen, seen_of}
@@ -41,7 +43,7 @@ use Rattle.mt_txn.specs.declared.answers.KernelForced.{KernelForced}
 use Rattle.mt_txn.specs.declared.answers.Stepped.{Stepped}
 use Rattle.mt_txn.specs.declared.answers.Stepped.TheVariants as step
 use Rattle.mt_txn.specs.declared.kernel.Kernel.{Kernel}
-use Rattle.mt_locked.specs.Asked.{CallsTo, IsAbortHeldUp, IsFaultless, IsHeldUp, ReportsEachFault}
+use Rattle.mt_locked.specs.Asked.{CallsTo, IsAbortHeldUp, IsFaultless, IsHeldUp, KeepsParts, ReportsEachFault}
 use Rattle.mt_locked.specs.Began.{BeganOn}
 use Rattle.mt_locked.specs.Seen.{IsAskedOf, LockedSeen}
 use Rattle.mt_locked.specs.Standings.{HasBook, IsDeviceSeen, KeepsHistory, LeavesBook, book_in, kernel_in, seen_in}
@@ -53,6 +55,16 @@ use Rattle.mt_locked.proofs.Keeping.{Goes, forced_began, forced_grows, legal_boo
 pub on_err_led : {T : Type 0} {P Q : Type 0} → (r : Result T Refusal) → (P → Q) → OnErr r P → OnErr r Q
 on_err_led (Ok x) leads did = did
 on_err_led (Err why) leads did = leads did
+
+-- a fact of an answered one
+pub on_ok_led : {T : Type 0} {P Q : Type 0} → (r : Result T Refusal) → (P → Q) → OnOk r P → OnOk r Q
+on_ok_led (Ok x) leads did = leads did
+on_ok_led (Err why) leads did = did
+
+-- and of one that is either
+pub on_either : {T : Type 0} {P Q R : Type 0} → (r : Result T Refusal) → (P → R) → (Q → R) → OnOk r P → OnErr r Q → R
+on_either (Ok x) answered refused did kept = answered did
+on_either (Err why) answered refused did kept = refused kept
 
 module _ {D : Type 0} {g : Ghosts D} where
   -- ---- a kernel that stands
@@ -123,6 +135,13 @@ module _ {D : Type 0} {g : Ghosts D} where
   calls_to first s t op (Ok call.Started) n did = did
   calls_to first s t op (Ok (call.Wait holder)) n did = did
   calls_to first s t op (Err why) n did = did
+
+  -- that an abort or going back began, or was refused, leaves all parts
+  pub keeps_parts : {T : Type 0} → (k n : Kernel D g) (t : ℕ) (state : TxnState) (r : Result T Refusal) → OnOk r (BeginsUndoing k t state n) → OnErr r (n ≡ k) → KeepsParts g (seen_of k) (seen_of n)
+  keeps_parts k n t state r begins stays = on_either r
+      (λ (b : BeginsUndoing k t state n). record { store = b.store; locks = b.locks; counts = b.counts; numbers = b.numbers })
+      (λ (same : n ≡ k). subst (λ (x : Kernel D g). KeepsParts g (seen_of k) (seen_of x)) (sym same) (record { store = refl; locks = refl; counts = λ u. refl; numbers = refl }))
+      begins stays
 
   -- how it reports the device's faults
   faultless : {T : Type 0} → (k n : Kernel D g) (r : Result T Refusal) → (r ≡ Err DeviceFailed → ⊥) → FailsForGood k r n → TellsEachFault k r n → IsFaultless g (seen_of k) (seen_of n)

@@ -15,6 +15,7 @@ use Rattle.mt_live.specs.Undoing.{is_counted}
 use Rattle.mt_log.specs.Words.{appended, durable}
 use Rattle.mt_model.specs.Model.{Base}
 use Rattle.mt_model.specs.declared.operations.Op.{Op}
+use Rattle.mt_pool.specs.Reads.{ReadsOnce}
 use Rattle.mt_pool.specs.Views.{AreClean, Cleans, IsWaiting, pages}
 use Rattle.mt_pool.specs.declared.flushes.Flushed.{Flushed}
 use Rattle.mt_pool.specs.declared.flushes.Flushed.TheVariants as flushed
@@ -22,8 +23,8 @@ use Rattle.mt_txn.specs.Answered.{AnswersAbort, AnswersAbortStep, AnswersBack, A
 use Rattle.mt_txn.specs.Causes.{IsSavepoint, abort_cause, is_busy, return_cause, step_cause}
 use Rattle.mt_txn.specs.PageLocks.{AbortsLocks, OfRunning, StepsLocks}
 use Rattle.mt_txn.specs.Seen.{KernelSeen, ShowsSeen, has_failed_in}
-use Rattle.mt_txn.specs.Work.{IsAbortForOther, IsForOther, LowersAbort, LowersReturn, LowersSteps}
-use Rattle.mt_txn.specs.Writes.{InverseWrites, WritesOnePage}
+use Rattle.mt_txn.specs.Work.{IsAbortForOther, IsForOther, LowersSteps, LowersUndoing, NoMoreAreLeft, NoneAreLeft}
+use Rattle.mt_txn.specs.Writes.{LogsEnd, LogsNothing, UndoingWrites, WritesOnePage}
 use Rattle.mt_txn.specs.declared.answers.AbortStepped.{AbortStepped}
 use Rattle.mt_txn.specs.declared.answers.AbortStepped.TheVariants as abort
 use Rattle.mt_txn.specs.declared.answers.KernelForced.{KernelForced}
@@ -58,6 +59,13 @@ module _ {D : Type 0} where
     pub store : core_store n.core ≡ core_store k.core
     pub locks : core_page_locks n.core ≡ core_page_locks k.core
 
+  -- A step of an abort did so too, but that its end is logged. It called no device.
+  pub record AbortsIdle (k : KernelSeen D) (result : Result AbortStepped Refusal) (n : KernelSeen D) : Type 0 where
+    pub goes : IfOk result (λ stepped. (stepped ≡ abort.More) ⊎ (stepped ≡ abort.Ended))
+    pub store : result ≡ Ok abort.More → core_store n.core ≡ core_store k.core
+    pub device : core_device n.core ≡ core_device k.core
+    pub locks : core_page_locks n.core ≡ core_page_locks k.core
+
 -- ---- what was done
 
 module _ {D : Type 0} (g : Ghosts D) where
@@ -83,6 +91,17 @@ module _ {D : Type 0} (g : Ghosts D) where
   abbrev pub SameDevice : KernelSeen D → KernelSeen D → Type 0
   SameDevice k n = core_device n.core ≡ core_device k.core
 
+  -- no operation has taken a number
+  abbrev pub NoneBegan : KernelSeen D → KernelSeen D → Type 0
+  NoneBegan k n = core_last n.core ≡ core_last k.core
+
+  -- Log, pages and page locks stay, and so does how many operations of each transaction count.
+  pub record KeepsParts (k n : KernelSeen D) : Type 0 where
+    pub store : core_store n.core ≡ core_store k.core
+    pub locks : core_page_locks n.core ≡ core_page_locks k.core
+    pub counts : (u : ℕ) → count_in n.core.live.members u ≡ count_in k.core.live.members u
+    pub numbers : NoneBegan k n
+
   -- whatever state it was in
   abbrev pub StaysSeen : KernelSeen D → KernelSeen D → Type 0
   StaysSeen k n = (first : Base) (s : State) → ShowsSeen g first s k → ShowsSeen g first s n
@@ -93,17 +112,19 @@ module _ {D : Type 0} (g : Ghosts D) where
     pub number : IfOk result (λ txn. txn ≡ k.core.live.begun + 1)
     pub state : (first : Base) (s : State) → ShowsSeen g first s k
         → OnOk result (ShowsSeen g first (begun s session) n)
+    pub numbers : NoneBegan k n
     pub device : SameDevice k n
 
   pub record DidCommit (k : KernelSeen D) (t : ℕ) (result : Result ℕ Refusal) (n : KernelSeen D) : Type 0 where
     pub answers : AnswersCommit k t result n
     pub state : StaysSeen k n
+    pub numbers : NoneBegan k n
     pub device : SameDevice k n
 
   pub record DidAbort (k : KernelSeen D) (t : ℕ) (result : Result (Unit {0}) Refusal) (n : KernelSeen D) : Type 0 where
     pub answers : AnswersAbort k t result n
     pub state : StaysSeen k n
-    pub device : SameDevice k n
+    pub keeps : KeepsParts k n
 
   -- an operation that is started has made no step
   pub record DidCall (k : KernelSeen D) (t : ℕ) (op : Op) (result : Result Called Refusal)
@@ -127,55 +148,63 @@ module _ {D : Type 0} (g : Ghosts D) where
     pub durable : durable (core_log n.core) ≡ durable (core_log k.core)
     pub states : SameStates k.core n.core
     pub commits : SameCommits k.core n.core
-    pub device : AsksDevice k result n
+    pub numbers : NoneBegan k n
+    pub reads : ReadsOnce g (core_device k.core) (core_device n.core)
+    pub faults : ReportsEachFault k result n
 
   pub record DidAbortStep (k : KernelSeen D) (t : ℕ) (result : Result AbortStepped Refusal)
       (n : KernelSeen D) : Type 0 where
     pub answers : AnswersAbortStep g k t result n
-    pub work : LowersAbort (pages (core_pool k.core)) result (undo_steps k.core t) (undo_steps n.core t)
+    pub work : LowersUndoing NoneAreLeft (pages (core_pool k.core)) result (undo_steps k.core t) (undo_steps n.core t)
     pub others : KeepsOthers t k.core.running.items n.core.running.items
     pub waits : IsAbortHeldUp k t result n
     pub locks : abort_cause (has_failed_in k) k.core t ≡ None → is_busy k.core t ≡ true
         → OfRunning k.core.running.items t (λ r. AbortsLocks k.core n.core r result)
-    pub idle : is_busy k.core t ≡ false → core_page_locks n.core ≡ core_page_locks k.core
+    pub idle : is_busy k.core t ≡ false → AbortsIdle k result n
+    pub writes : UndoingWrites (LogsEnd t) (appended (core_log k.core)) (appended (core_log n.core)) result
     pub durable : durable (core_log n.core) ≡ durable (core_log k.core)
     pub states : IfOk result (λ stepped. stepped ≢ abort.Ended → SameStates k.core n.core)
     pub err : OnErr result (SameStates k.core n.core)
     pub commits : SameCommits k.core n.core
-    pub device : AsksDevice k result n
+    pub numbers : is_busy k.core t ≡ true → NoneBegan k n
+    pub numbered : is_busy k.core t ≡ false → result ≡ Ok abort.More → core_last n.core ≡ core_last k.core + 1
+    pub unbegun : result ≢ Ok abort.More → NoneBegan k n
+    pub reads : ReadsOnce g (core_device k.core) (core_device n.core)
+    pub faults : ReportsEachFault k result n
 
   -- so many operations of it count; if none stands, the call is refused with 2
   abbrev pub DidSave : Option (KernelSeen D) → ℕ → Result ℕ Refusal → Type 0
   DidSave None t result = result ≡ Err DeviceFailed
   DidSave (Some k) t result = AnswersSave g k t result
 
-  -- Log and pages stay, and so does how many operations of each transaction count.
   pub record DidBack (k : KernelSeen D) (t first : ℕ) (result : Result (Unit {0}) Refusal)
       (n : KernelSeen D) : Type 0 where
     pub answers : AnswersBack k t first result n
     pub savepoint : (base : Base) (s : State) → ShowsSeen g base s k
         → IsSavepoint (length (filter (is_counted t) s.standing)) first result
     pub state : StaysSeen k n
-    pub store : core_store n.core ≡ core_store k.core
-    pub locks : core_page_locks n.core ≡ core_page_locks k.core
-    pub counts : (u : ℕ) → count_in n.core.live.members u ≡ count_in k.core.live.members u
+    pub keeps : KeepsParts k n
 
   -- It does as a step of an abort. Of a transaction that runs nothing it waits for nobody, and log and pages stay.
   pub record DidBackStep (k : KernelSeen D) (t : ℕ) (result : Result AbortStepped Refusal)
       (n : KernelSeen D) : Type 0 where
     pub answers : AnswersBackStep g k t result n
-    pub work : LowersReturn (pages (core_pool k.core)) result (undo_steps k.core t) (undo_steps n.core t)
+    pub work : LowersUndoing NoMoreAreLeft (pages (core_pool k.core)) result (undo_steps k.core t) (undo_steps n.core t)
     pub others : KeepsOthers t k.core.running.items n.core.running.items
     pub waits : IsAbortHeldUp k t result n
     pub locks : return_cause (has_failed_in k) k.core t ≡ None → is_busy k.core t ≡ true
         → OfRunning k.core.running.items t (λ r. AbortsLocks k.core n.core r result)
     pub idle : is_busy k.core t ≡ false → StepsIdle k result n
-    pub writes : InverseWrites (appended (core_log k.core)) (appended (core_log n.core)) result
+    pub writes : UndoingWrites LogsNothing (appended (core_log k.core)) (appended (core_log n.core)) result
     pub durable : durable (core_log n.core) ≡ durable (core_log k.core)
     pub states : IfOk result (λ stepped. stepped ≢ abort.Ended → SameStates k.core n.core)
     pub err : OnErr result (SameStates k.core n.core)
     pub commits : SameCommits k.core n.core
-    pub device : AsksDevice k result n
+    pub numbers : is_busy k.core t ≡ true → NoneBegan k n
+    pub numbered : is_busy k.core t ≡ false → result ≡ Ok abort.More → core_last n.core ≡ core_last k.core + 1
+    pub unbegun : result ≢ Ok abort.More → NoneBegan k n
+    pub reads : ReadsOnce g (core_device k.core) (core_device n.core)
+    pub faults : ReportsEachFault k result n
 
   -- Pages stay, and so does what is under way; and who is active and the book too, if it is refused. For want of memory
   -- nothing is done.
@@ -185,6 +214,7 @@ module _ {D : Type 0} (g : Ghosts D) where
     pub running : SameRunning k.core n.core
     pub states : SameUncommitted k.core n.core
     pub err : OnErr result (SameStates k.core n.core × SameCommits k.core n.core)
+    pub numbers : NoneBegan k n
     pub memory : result ≡ Err NoMemory → n ≡ k
     pub device : AsksDevice k result n
 

@@ -2,7 +2,7 @@
 use Rattle.std.specs.Prelude.{ℕ, ◌<◌, ◌≤◌, ◌++◌, ◌∷◌, [], All, List, drop, get_or, length, map, take}
 use Rattle.mt_inverse.specs.Steps.{IsWithinSteps}
 use Rattle.mt_mark.specs.declared.view.Entry.{Entry}
-use Rattle.mt_model.specs.Backwards.{calls_back}
+use Rattle.mt_model.specs.Backwards.{OpenCalls, back_to, no_calls, with_one}
 use Rattle.mt_model.specs.History.{Call}
 use Rattle.mt_model.specs.declared.history.Committed.{Committed}
 use Rattle.mt_model.specs.declared.operations.Op.{Op}
@@ -34,10 +34,13 @@ pub record HasRoom (c : CallsSeen) : Type 0 where
 abbrev pub entry_of : TxnSeen → Entry
 entry_of t = record { pass = t.pass; done = t.done }
 
--- the token with these calls in place of its own, of which these count
-abbrev pub with_calls : TxnSeen → List Call → List Call → TxnSeen
-with_calls t calls standing =
-    record { pass = t.pass; done = record { session = t.done.session; calls = calls }; standing = standing }
+-- the calls of its transaction, and the token with these calls in place of its own
+abbrev pub open_calls : TxnSeen → OpenCalls
+open_calls t = record { all = t.done.calls; counted = t.standing }
+
+abbrev pub with_calls : TxnSeen → OpenCalls → TxnSeen
+with_calls t calls =
+    record { pass = t.pass; done = record { session = t.done.session; calls = calls.all }; standing = calls.counted }
 
 -- the token of a transaction that has just begun
 abbrev pub fresh : ℕ → ℕ → TxnSeen
@@ -45,12 +48,11 @@ fresh pass session = record { pass = pass; done = record { session = session; ca
 
 -- the token after a call and its reply
 abbrev pub with_call : TxnSeen → Op → Reply → TxnSeen
-with_call t op reply = with_calls t (t.done.calls ++ (op, reply) ∷ []) (t.standing ++ (op, reply) ∷ [])
+with_call t op reply = with_calls t (with_one (open_calls t) (op, reply))
 
--- The token after its transaction went back to the first so many calls that count: the inverses of the others are calls
--- then, the last one's first.
+-- the token after its transaction went back to the first so many calls that count
 abbrev pub went_back : TxnSeen → ℕ → TxnSeen
-went_back t first = with_calls t (t.done.calls ++ calls_back (drop first t.standing)) (take first t.standing)
+went_back t first = with_calls t (back_to (open_calls t) first)
 
 -- ---- how a token keeps which of its calls count
 

@@ -11,6 +11,7 @@ use Rattle.mt_model.specs.declared.history.Committed.{Committed}
 use Rattle.mt_model.specs.declared.tables.Base.{Base}
 use Rattle.mt_op.specs.Begun.{AreImages}
 use Rattle.mt_restart.specs.Rotated.{HasTurnedOnce, SameParts, early_cause}
+use Rattle.mt_locked.specs.Asked.{StaysSeen}
 use Rattle.mt_locked.specs.Began.{BeganOn}
 use Rattle.mt_restart.specs.TurnFaults.{IsTurnFault}
 use Rattle.mt_restart.specs.declared.standing.Standing.{Standing}
@@ -85,10 +86,10 @@ IsBusyIn (Some k) = length k.core.live.members ≢ 0
 abbrev pub IsTooEarlyIn : {D : Type 0} → LockedSeen D → Type 0
 IsTooEarlyIn l = (length l.book ≢ length l.list) ⊎ IsBusyIn l.kernel
 
--- the same kernel goes on with the same parts, and the device failed in no call
+-- the same kernel goes on with the same parts, in whatever state it was, and the device failed in no call
 abbrev pub GoesOnAs : {D : Type 0} → Ghosts D → Option (KernelSeen D) → Option (KernelSeen D) → Type 0
 GoesOnAs g (Some k) (Some n) = SameParts k n × (n.relations ≡ k.relations) × (n.counters ≡ k.counters)
-    × (g.faults (core_device n.core) ≡ g.faults (core_device k.core))
+    × (g.faults (core_device n.core) ≡ g.faults (core_device k.core)) × StaysSeen g k n
 GoesOnAs g old left = ⊥
 
 -- What is left if a rotation was refused so: after 2 no kernel goes on, and after 1 and 11 that one does.

@@ -1,6 +1,7 @@
 // The token of an open transaction.
 ghost use Rattle.std.specs.Prelude.{◌≡◌, [], length};
 ghost use Rattle.mt_locked.specs.Tokens.{fresh, with_calls};
+ghost use Rattle.mt_model.specs.Backwards.{no_calls};
 
 use crate::names::Naming;
 use crate::pass::Pass;
@@ -126,7 +127,7 @@ pub fn spend_token<J: Naming>(pass: &mut Pass<J>, txn: Txn<J>)
 pub fn take_calls<J: Naming>(txn: &mut Txn<J>) -> TxnCalls
     ensures calls { result.calls ≡ txn.old.done.calls }
     ensures standing { result.standing ≡ txn.old.standing }
-    ensures rest { txn.new ≡ with_calls txn.old [] [] }
+    ensures rest { txn.new ≡ with_calls txn.old no_calls }
 {
     let alloc = *txn.standing.allocator();
     let standing = replace(&mut txn.standing, Vec::new(alloc));
@@ -136,7 +137,7 @@ pub fn take_calls<J: Naming>(txn: &mut Txn<J>) -> TxnCalls
 
 /// Gives a token these calls, in place of those that it has.
 pub fn put_calls<J: Naming>(txn: &mut Txn<J>, calls: TxnCalls)
-    ensures { txn.new ≡ with_calls txn.old calls.calls calls.standing }
+    ensures { txn.new ≡ with_calls txn.old (record { all = calls.calls; counted = calls.standing }) }
 {
     let TxnCalls { calls, standing } = calls;
     txn.entry.done.calls = Calls::new(calls);

@@ -73,16 +73,6 @@ impl Base {
         self.counters.as_slice()
     }
 
-    /// A counter: its bounds and its number.
-    pub fn counter(&self, counter: CtrNo) -> Count
-        requires { counter < length (counters_of self.now) }
-        ensures count { result ≡ (base_of self.now).counts counter }
-        ensures bounds { IsInBounds result }
-        ensures limited { IsLimited result }
-    {
-        self.counters.get(counter)
-    }
-
     /// Makes one operation on the base, and answers its reply.
     ///
     /// | operation | a value is under the key | none is |
@@ -115,44 +105,6 @@ impl Base {
             Op::Add(counter, step) => Ok(self.add(*counter, *step)),
             Op::Read(counter) => Ok(Reply::Value(self.counters.get(*counter).number)),
             Op::Scan(relation) => self.scan(*relation),
-        }
-    }
-
-    /// What the operation would reply now. Nothing is changed. The conditions are those of
-    /// [`Base::act`], and the only error is [`Refusal::NoMemory`].
-    pub fn answer(&self, op: &Op) -> Result<Reply, Refusal>
-        requires { IsWithin (relations_of self.now) (length (counters_of self.now)) op.now }
-        ensures reply { IfOk result (λ reply. reply ≡ reply_of (base_of self.now) op.now) }
-        ensures only_memory { IfErr result (λ why. why ≡ Refusal.NoMemory) }
-    {
-        match op {
-            Op::Get(relation, key) => self.get(*relation, key),
-            Op::Insert(relation, key, _) => Ok(match self.rows.get(*relation, key) {
-                Some(_) => Reply::Exists,
-                None => Reply::Done,
-            }),
-            Op::Update(relation, key, _) | Op::Delete(relation, key) => {
-                match self.rows.get(*relation, key) {
-                    Some(old) => Ok(Reply::Was(old.try_clone()?)),
-                    None => Ok(Reply::Missing),
-                }
-            }
-            Op::Add(counter, step) => Ok(self.answer_add(*counter, *step)),
-            Op::Read(counter) => Ok(Reply::Value(self.counter(*counter).number)),
-            Op::Scan(relation) => self.scan(*relation),
-        }
-    }
-
-    // What an add would reply now.
-    fn answer_add(&self, counter: CtrNo, step: i64) -> Reply
-        requires there { counter < length (counters_of self.now) }
-        requires step { IsStep step }
-        ensures { result ≡ reply_of (base_of self.now) (Op.Add counter step) }
-    {
-        if self.counter(counter).takes(step) {
-            Reply::Done
-        } else {
-            Reply::OutOfBounds
         }
     }
 

@@ -1,5 +1,5 @@
 -- An operation that writes goes ahead: what a call of it does behind the bringing of its page, and what is left where it does nothing.
-use Rattle.std.proofs.Common.{◌≡◌, ◌≤◌, ◌+◌, ℕ, List, [], inr, refl, sym, ap, ◌∙◌, subst, arith}
+use Rattle.std.proofs.Common.{◌≡◌, ◌+◌, ℕ, List, [], inr, refl, sym, ap, ◌∙◌, subst, arith}
 use Rattle.std.specs.Prelude.{Result, Ok, Err, IfErr, OnErr}
 use Rattle.mt_disk.specs.declared.device.Device.{Ghosts}
 use Rattle.mt_base.specs.declared.refusal.Refusal.{Refusal}
@@ -11,6 +11,7 @@ use Rattle.mt_pool.specs.Kept.{IsKept, Explains}
 use Rattle.mt_pool.specs.Views.{IsFull}
 use Rattle.mt_space.specs.Rooms.{reserved_of}
 use Rattle.mt_steps.specs.Plans.{own_needs}
+use Rattle.mt_pool.specs.Reads.{ReadsOnce}
 use Rattle.mt_op.specs.World.{World}
 use Rattle.mt_op.specs.Moves.{Rests}
 use Rattle.mt_op.specs.Operations.{world, IsRight, Goes, Steps, GivesBack, HasBudget, IsCause}
@@ -92,7 +93,7 @@ module _ {D : Type 0} (g : Ghosts D) (o m : Operations D) (s : OpScope)
     (right : (opening : PageBytes) (relations counters : ℕ) → IsRight g opening relations counters o → IsRight g opening relations counters m)
     (rests : (opening : PageBytes) → Rests (world g opening o) (world g opening m))
     (moments : (opening : PageBytes) → IsKept g opening o.store → LeavesOnly g.moment g.left_since o.store.device m.store.device (Explains opening o.store))
-    (once : g.moment m.store.device ≤ g.moment o.store.device + 1)
+    (reads : ReadsOnce g o.store.device m.store.device)
     (spent : used m.store.log ≡ used o.store.log) (area : area_size m.store.log ≡ area_size o.store.log) (lasting : durable m.store.log ≡ durable o.store.log) (map : m.map ≡ o.map) (locks : m.locks ≡ o.locks) where
   records : appended m.store.log ≡ appended o.store.log
   records = (rests (λ n. [])).records
@@ -121,7 +122,7 @@ module _ {D : Type 0} (g : Ghosts D) (o m : Operations D) (s : OpScope)
     flush = λ is. refl;
     why = why;
     faults = outcome;
-    once = once;
+    reads = reads;
   }
 
   -- a call behind it that does not touch the device
@@ -150,5 +151,5 @@ module _ {D : Type 0} (g : Ghosts D) (o m : Operations D) (s : OpScope)
     flush = a.flush;
     why = a.why;
     faults = reported_behind (g.faults o.store.device) (g.faults m.store.device) (g.faults n.store.device) r unfailed a.faults;
-    once = subst (λ (d : D). g.moment d ≤ g.moment o.store.device + 1) (sym device) once;
+    reads = subst (ReadsOnce g o.store.device) (sym device) reads;
   }

@@ -12,6 +12,8 @@ use Rattle.mt_space.specs.Changes.{PageBytes}
 use Rattle.mt_pool.specs.Kept.{IsKept, Explains}
 use Rattle.mt_pool.specs.Views.{IsFull}
 use Rattle.mt_space.specs.Rooms.{reserved_of}
+use Rattle.mt_pool.specs.Reads.{ReadsOnce}
+use Rattle.mt_pool.proofs.Reading.{reads_nothing}
 use Rattle.mt_op.specs.Moves.{Rests}
 use Rattle.mt_op.specs.Operations.{world, IsRight, HasBudget, IsCause, claimed}
 use Rattle.mt_op.specs.Records.{TellsDropped, dropped_with}
@@ -79,14 +81,14 @@ module _ {D : Type 0} (g : Ghosts D) (o : Operations D) (s : OpScope) where
     full = λ is. absurd cc;
     why = tt;
     faults = no_fault_ok (g.faults o.store.device) (g.faults o.store.device) taken.Clear refl;
-    once = omega arith;
+    reads = reads_nothing g o.store.device o.store.device refl;
   }
 
 module _ {D : Type 0} (g : Ghosts D) (o m : Operations D) (s : OpScope)
     (right : (opening : PageBytes) (relations counters : ℕ) → IsRight g opening relations counters o → IsRight g opening relations counters m)
     (rests : (opening : PageBytes) → Rests (world g opening o) (world g opening m))
     (moments : (opening : PageBytes) → IsKept g opening o.store → LeavesOnly g.moment g.left_since o.store.device m.store.device (Explains opening o.store))
-    (once : g.moment m.store.device ≤ g.moment o.store.device + 1)
+    (reads : ReadsOnce g o.store.device m.store.device)
     (log : m.store.log ≡ o.store.log) (map : m.map ≡ o.map) (locks : m.locks ≡ o.locks) (few : s.standing ≤ 8) where
   same_claims : claimed m ≡ claimed o
   same_claims = ap (λ (x : SpaceMap). reserved_of x.space) map
@@ -112,7 +114,7 @@ module _ {D : Type 0} (g : Ghosts D) (o m : Operations D) (s : OpScope)
     full = full;
     why = why;
     faults = outcome;
-    once = once;
+    reads = reads;
   }
 
   -- a page that is in a frame is put back
@@ -138,5 +140,5 @@ module _ {D : Type 0} (g : Ghosts D) (o m : Operations D) (s : OpScope)
     full = λ is. absurd (b.never is);
     why = cause_of r b.only_memory;
     faults = reported_behind (g.faults o.store.device) (g.faults m.store.device) (g.faults n.store.device) r unfailed (no_fault (g.faults m.store.device) (g.faults n.store.device) r b.only_memory (ap g.faults b.device));
-    once = subst (λ (d : D). g.moment d ≤ g.moment o.store.device + 1) (sym b.device) once;
+    reads = subst (ReadsOnce g o.store.device) (sym b.device) reads;
   }

@@ -16,6 +16,8 @@ use Rattle.mt_pool.specs.declared.store.Store.{Store}
 use Rattle.mt_space.specs.Rooms.{reserved_of}
 use Rattle.mt_model.specs.declared.operations.Op.TheVariants.{Get, Insert, Update, Delete, Add, Read, Scan}
 use Rattle.mt_steps.specs.Plans.{own_needs, IsReading}
+use Rattle.mt_pool.specs.Reads.{ReadsOnce}
+use Rattle.mt_pool.proofs.Reading.{reads_nothing}
 use Rattle.mt_op.specs.World.{World, IsUnderWay, IsAt, IsPlanning}
 use Rattle.mt_op.specs.Moves.{Rests, SameOp}
 use Rattle.mt_op.specs.Operations.{world, IsRight, Goes, GoesOn, GivesBack, HasBudget, IsAsFar, IsCause, claimed, only_reads, needs}
@@ -70,7 +72,7 @@ module _ {D : Type 0} (g : Ghosts D) (o m : Operations D) (s : OpScope)
     (right : (opening : PageBytes) (relations counters : ℕ) → IsRight g opening relations counters o → IsRight g opening relations counters m)
     (rests : (opening : PageBytes) → Rests (world g opening o) (world g opening m))
     (moments : (opening : PageBytes) → IsKept g opening o.store → LeavesOnly g.moment g.left_since o.store.device m.store.device (Explains opening o.store))
-    (once : g.moment m.store.device ≤ g.moment o.store.device + 1)
+    (reads : ReadsOnce g o.store.device m.store.device)
     (log : m.store.log ≡ o.store.log) (map : m.map ≡ o.map) (locks : m.locks ≡ o.locks) (rooms : m.rooms ≡ o.rooms) where
   -- nothing but what is in frames has changed
   pub idle_locks : (r : Result Stepped Refusal) → IsIdle r → (r ≡ Ok stepped.Flush → IsFull o.store.pool × (m ≡ o)) → IfErr r IsCause
@@ -88,7 +90,7 @@ module _ {D : Type 0} (g : Ghosts D) (o m : Operations D) (s : OpScope)
     scope = same_scope s r (idle_asks r idle);
     why = why;
     faults = outcome;
-    once = once;
+    reads = reads;
   }
 
   -- it is asked for behind it
@@ -112,7 +114,7 @@ module _ {D : Type 0} (g : Ghosts D) (o m : Operations D) (s : OpScope)
     scope = scope;
     why = cause_memory r memory;
     faults = reported_behind (g.faults o.store.device) (g.faults m.store.device) (g.faults n.store.device) r unfailed (no_fault (g.faults m.store.device) (g.faults n.store.device) r memory (ap (λ (x : Store D). g.faults x.device) store));
-    once = subst (λ (x : Store D). g.moment x.device ≤ g.moment o.store.device + 1) (sym store) once;
+    reads = subst (λ (x : Store D). ReadsOnce g o.store.device x.device) (sym store) reads;
   }
 
 -- ---- a step that plans
@@ -173,7 +175,7 @@ module _ {D : Type 0} (g : Ghosts D) (o : Operations D) (s : OpScope) where
     scope = inl (stays_same s);
     why = inl refl;
     faults = no_fault (g.faults o.store.device) (g.faults o.store.device) (Err refusal.NoMemory) refl refl;
-    once = omega arith;
+    reads = reads_nothing g o.store.device o.store.device refl;
   }
 
 module _ {D : Type 0} (g : Ghosts D) (o n : Operations D) (s t : OpScope) (planning : s.stage ≡ Planning) where
@@ -193,7 +195,7 @@ module _ {D : Type 0} (g : Ghosts D) (o n : Operations D) (s t : OpScope) (plann
     scope = l.scope;
     why = tt;
     faults = reported_ok (g.faults o.store.device) (g.faults n.store.device) (Ok a) a (Some a) refl l.faults;
-    once = l.once;
+    reads = l.reads;
   }
 
   pub locked_err : (why : Refusal) → HasBudget s → LocksPage g o n s t (Err why) → PlansOn g o n s t (Err why)
@@ -212,7 +214,7 @@ module _ {D : Type 0} (g : Ghosts D) (o n : Operations D) (s t : OpScope) (plann
     scope = l.scope;
     why = l.why;
     faults = reported_err (g.faults o.store.device) (g.faults n.store.device) (Err why) (Err why) why refl refl l.faults;
-    once = l.once;
+    reads = l.reads;
   }
 
 -- ---- a page of the plan is locked to be written
@@ -278,7 +280,7 @@ module _ {D : Type 0} (g : Ghosts D) (o n : Operations D) (s t : OpScope) where
     went = λ writing. a.went;
     why = a.why;
     faults = a.faults;
-    once = a.once;
+    reads = a.reads;
   }
 
   -- it is refused while it plans
@@ -301,7 +303,7 @@ module _ {D : Type 0} (g : Ghosts D) (o n : Operations D) (s t : OpScope) where
     went = λ writing is. absurd cc;
     why = p.why;
     faults = reported_err (g.faults o.store.device) (g.faults n.store.device) (Err why) (Err why) why refl refl p.faults;
-    once = p.once;
+    reads = p.reads;
   }
 
   -- it goes on planning
@@ -325,7 +327,7 @@ module _ {D : Type 0} (g : Ghosts D) (o n : Operations D) (s t : OpScope) where
     went = λ writing. absurd (not_writing s planning writing);
     why = tt;
     faults = reported_ok (g.faults o.store.device) (g.faults n.store.device) (Ok (Some a)) (Some a) a refl p.faults;
-    once = p.once;
+    reads = p.reads;
   }
 
   -- its plan is made, and it goes ahead
@@ -355,5 +357,5 @@ module _ {D : Type 0} (g : Ghosts D) (o n : Operations D) (s t : OpScope) where
         went = λ writing. absurd (not_writing s planning writing);
         why = a.why;
         faults = reported_behind (g.faults o.store.device) (g.faults n.store.device) (g.faults z.store.device) r (ap (λ (x : Operations D). g.faults x.store.device) made.0) a.faults;
-        once = subst (λ (x : Operations D). g.moment z.store.device ≤ g.moment x.store.device + 1) made.0 a.once;
+        reads = subst (λ (x : Operations D). ReadsOnce g x.store.device z.store.device) made.0 a.reads;
       }

@@ -10,7 +10,7 @@ use Rattle.mt_plock.specs.Holding.{lock_of}
 use Rattle.mt_space.specs.Changes.{PageBytes, IsUntouched, after}
 use Rattle.mt_space.specs.declared.changes.Changes.{Changes}
 use Rattle.mt_space.specs.declared.changes.PageChange.{PageChange}
-use Rattle.mt_steps.specs.Overlays.{AreAtHand}
+use Rattle.mt_overlay.specs.Overlays.{AreAtHand}
 use Rattle.mt_steps.specs.Held.{Holds}
 use Rattle.mt_steps.specs.Logged.{logged_of}
 use Rattle.mt_steps.specs.Plans.{InPages, IsPlanned, TakesPages}

@@ -1,5 +1,5 @@
 -- Faults of the device, and the refusal that tells of them.
-use Rattle.std.proofs.Common.{◌≡◌, ◌+◌, ◌≤◌, ℕ, ap, ◌∙◌, subst, arith}
+use Rattle.std.proofs.Common.{◌≡◌, ℕ, ap, ◌∙◌, subst, arith}
 use Rattle.std.specs.Prelude.{◌<◌, Result, Ok, Err, IsOk, IsErr, IfErr, is_ok, is_err}
 use Rattle.mt_base.specs.declared.refusal.Refusal.{Refusal}
 use Rattle.mt_base.specs.declared.refusal.Refusal.TheVariants as refusal
@@ -14,11 +14,7 @@ no_fault before now r only same = record { later = omega arith; failed = λ is. 
     never (Ok x) only is = cc
     never (Err why) only is = cc
 
--- where the device is as it was no call of it was made
-pub once_same : (before now : ℕ) → now ≡ before → now ≤ before + 1
-once_same before now same = omega arith
-
--- and nor where something is answered
+-- nor where something is answered
 pub no_fault_ok : {T : Type 0} (before now : ℕ) (x : T) → now ≡ before → TellsFaults before now (Ok x)
 no_fault_ok before now x same = record { later = omega arith; failed = λ is. absurd cc; quiet = λ other. same }
 

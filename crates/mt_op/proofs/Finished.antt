@@ -17,12 +17,12 @@ use Rattle.mt_space.specs.declared.changes.Changes.{Changes}
 use Rattle.mt_space.specs.declared.changes.PageChange.{PageChange}
 use Rattle.mt_pool.specs.declared.store.Store.{Store}
 use Rattle.mt_slots.specs.Page.{IsShaped}
-use Rattle.mt_steps.specs.Overlays.{copied}
+use Rattle.mt_overlay.specs.Overlays.{copied}
 use Rattle.mt_steps.specs.Held.{Holds}
 use Rattle.mt_steps.specs.Logged.{logged_of}
 use Rattle.mt_space.specs.Rooms.{mapped, free_in, free_of, reserved_of}
 use Rattle.mt_steps.specs.Plans.{IsPlanned, TakesPages, free_pages, own_needs}
-use Rattle.mt_steps.specs.declared.page_copies.PageCopies.{PageCopies}
+use Rattle.mt_overlay.specs.declared.page_copies.PageCopies.{PageCopies}
 use Rattle.mt_op.specs.World.{World, held_in, looked, changes_in, IsWorld, IsOpen, IsWriting, IsAt, IsUnderWay, IsOther}
 use Rattle.mt_op.specs.Moves.{Notes, SameOp}
 use Rattle.mt_op.specs.Operations.{world, IsRight, Acts}

@@ -10,9 +10,9 @@ use Rattle.mt_pool.specs.Views.{IsPool, IsThere, view, held, framed, frame_whole
 use Rattle.mt_pool.specs.declared.pool.Pool.{Pool}
 use Rattle.mt_steps.specs.Asks.{HasSearched}
 use Rattle.mt_steps.specs.Repeated.{by}
-use Rattle.mt_steps.specs.declared.overlay.PageCopy.{PageCopy}
+use Rattle.mt_overlay.specs.declared.overlay.PageCopy.{PageCopy}
 use Rattle.mt_op.specs.World.{World, held_in, unfinished_in, looked, HasNothing, IsWorld, IsUnderWay, IsAt, IsPlanning}
-use Rattle.mt_steps.specs.declared.page_copies.PageCopies.{PageCopies}
+use Rattle.mt_overlay.specs.declared.page_copies.PageCopies.{PageCopies}
 use Rattle.mt_op.specs.Moves.{SameOp, Rests, Locks, Leaves, Gains, IsLed}
 use Rattle.mt_op.specs.Holds.{Stays, Holds, IsAnew, IsHeld}
 use Rattle.mt_op.specs.Operations.{Goes, GoesOn}

@@ -23,7 +23,7 @@ use Rattle.mt_space.specs.Changes.{PageBytes}
 use Rattle.mt_space.specs.Kinds.{kind}
 use Rattle.mt_space.specs.declared.changes.PageChange.{PageChange}
 use Rattle.mt_steps.specs.Plans.{record_bytes}
-use Rattle.mt_steps.proofs.Overlaid.{some_is}
+use Rattle.mt_overlay.proofs.Overlaid.{some_is}
 use Rattle.mt_op.specs.World.{World, looked, held_in, changes_in, IsAt, IsWriting, IsUnderWay}
 use Rattle.mt_op.specs.Holds.{IsUnlocked}
 use Rattle.mt_op.specs.Moves.{Rests}

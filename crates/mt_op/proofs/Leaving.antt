@@ -12,9 +12,9 @@ use Rattle.mt_plock.specs.declared.guards.PageLock.{PageLock}
 use Rattle.mt_plock.specs.Holding.{lock_of, DoAgree, AreTogether}
 use Rattle.mt_plock.specs.Releasing.{locks_of, locks_without}
 use Rattle.mt_steps.specs.Asks.{HasSearched}
-use Rattle.mt_steps.specs.Overlays.{copied}
+use Rattle.mt_overlay.specs.Overlays.{copied}
 use Rattle.mt_steps.specs.Repeated.{Change, held, by}
-use Rattle.mt_steps.specs.declared.overlay.PageCopy.{PageCopy}
+use Rattle.mt_overlay.specs.declared.overlay.PageCopy.{PageCopy}
 use Rattle.mt_op.specs.World.{World, held_in, unfinished_in, IsCovered, IsWorld, looked, HasNothing, IsOpen, IsPlanning, IsAt, IsUnderWay}
 use Rattle.mt_op.specs.Moves.{Leaves, SameOp}
 use Rattle.mt_op.specs.declared.scope.OpScope.{OpScope}

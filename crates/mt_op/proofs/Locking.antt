@@ -11,10 +11,10 @@ use Rattle.mt_plock.specs.declared.guards.PageLock.{PageLock}
 use Rattle.mt_plock.specs.Holding.{lock_of, DoAgree, AreTogether}
 use Rattle.mt_plock.specs.Releasing.{locks_of}
 use Rattle.mt_space.specs.Kinds.{kind}
-use Rattle.mt_steps.specs.Overlays.{copied, or_below}
+use Rattle.mt_overlay.specs.Overlays.{copied, or_below}
 use Rattle.mt_steps.specs.Repeated.{Repeated, held, by, on}
-use Rattle.mt_steps.specs.declared.overlay.PageCopy.{PageCopy}
-use Rattle.mt_steps.proofs.Overlaid.{some_is, some_value, copied_append, test_yes, test_no}
+use Rattle.mt_overlay.specs.declared.overlay.PageCopy.{PageCopy}
+use Rattle.mt_overlay.proofs.Overlaid.{some_is, some_value, copied_append, test_yes, test_no}
 use Rattle.mt_op.specs.World.{World, repeated_in, held_in, unfinished_in, IsCovered, IsWorld, looked, IsPlanning, IsAt, IsUnderWay}
 use Rattle.mt_op.specs.Moves.{Locks, IsLed, Gains}
 use Rattle.mt_op.specs.declared.scope.OpScope.{OpScope}

@@ -5,7 +5,7 @@ use Rattle.std.proofs.lemmas.List.{length-take}
 use Rattle.std.proofs.lemmas.List.Elements.{All-head, All-tail, All-take, All-weaker, recursion_from_All}
 use Rattle.mt_space.specs.Changes.{IsUntouched}
 use Rattle.mt_space.specs.declared.changes.PageChange.{PageChange}
-use Rattle.mt_steps.specs.Overlays.{AreAtHand}
+use Rattle.mt_overlay.specs.Overlays.{AreAtHand}
 use Rattle.mt_steps.specs.Repeated.{by, changes_of}
 use Rattle.mt_steps.proofs.Ranged.{changes_same}
 use Rattle.mt_op.specs.World.{World, held_in, unfinished_in, looked, looked_bytes, changes_in, HasWritten, HasPlan, IsOpen, Sees, AreBack, IsWriting, IsTaking, IsAt, IsUnderWay}

@@ -7,9 +7,9 @@ use Rattle.mt_index.specs.declared.answers.Search.TheVariants as search
 use Rattle.mt_model.specs.declared.operations.Op.{Op}
 use Rattle.mt_model.specs.declared.operations.Op.TheVariants.{Get, Insert, Update, Delete, Add, Read, Scan}
 use Rattle.mt_steps.specs.Asks.{HasSearched}
-use Rattle.mt_steps.specs.Overlays.{copied, or_below}
-use Rattle.mt_steps.specs.declared.overlay.PageCopy.{PageCopy}
-use Rattle.mt_steps.proofs.Overlaid.{copied_append}
+use Rattle.mt_overlay.specs.Overlays.{copied, or_below}
+use Rattle.mt_overlay.specs.declared.overlay.PageCopy.{PageCopy}
+use Rattle.mt_overlay.proofs.Overlaid.{copied_append}
 use Rattle.mt_op.specs.World.{looked}
 use Rattle.mt_op.specs.Moves.{SameOp}
 use Rattle.mt_op.specs.declared.scope.OpScope.{OpScope}

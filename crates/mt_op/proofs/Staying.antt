@@ -15,12 +15,12 @@ use Rattle.mt_space.specs.Changes.{PageBytes, Agrees, after}
 use Rattle.mt_space.specs.declared.changes.PageChange.{PageChange}
 use Rattle.mt_space.specs.Kinds.{kind}
 use Rattle.mt_file.specs.Plans.{IsNamed}
-use Rattle.mt_steps.specs.Overlays.{copied, AreAtHand}
+use Rattle.mt_overlay.specs.Overlays.{copied, AreAtHand}
 use Rattle.mt_steps.specs.Logged.{logged_of}
 use Rattle.mt_steps.specs.Plans.{IsGood, IsPlanned, TakesPages}
-use Rattle.mt_steps.specs.declared.overlay.PageCopy.{PageCopy}
+use Rattle.mt_overlay.specs.declared.overlay.PageCopy.{PageCopy}
 use Rattle.mt_steps.specs.Repeated.{Repeated, held, by, on, repeat, logged, IsRepeated}
-use Rattle.mt_steps.proofs.Overlaid.{some_is}
+use Rattle.mt_overlay.proofs.Overlaid.{some_is}
 use Rattle.mt_steps.proofs.Repeating.{logged_more, held_alone}
 use Rattle.mt_op.specs.World.{World, repeated_in, held_in, unfinished_in, IsCovered, IsWorld, looked, changes_in, HasPlan, IsOpen, Sees, IsAt, IsUnderWay}
 use Rattle.mt_op.specs.Moves.{SameOp, SamePlan, Rests}

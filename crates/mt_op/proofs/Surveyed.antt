@@ -5,6 +5,7 @@ use Rattle.std.proofs.lemmas.Int.{ints}
 use mathlib.Core.Logic.{∥∥₁_elim, ∥∥₁_map}
 use Rattle.mt_base.specs.declared.limits.TheConstants.{MAX_VALUE_BYTES}
 use Rattle.mt_disk.specs.declared.device.Device.{Ghosts}
+use Rattle.mt_disk.specs.Disk.{LeavesTheSame}
 use Rattle.mt_disk.proofs.Frame.{leaves_more, runs_both, started}
 use Rattle.mt_file.proofs.Filed.{record_kind, record_records}
 use Rattle.mt_file.specs.File.{record_in}
@@ -32,6 +33,10 @@ use Rattle.mt_counters.specs.Counters.{AreCounters, count_in}
 use Rattle.mt_steps.specs.Held.{Holds}
 use Rattle.mt_steps.specs.Listed.{HasListed, IsSame}
 use Rattle.mt_steps.specs.Plans.{IsGood}
+
+-- a crash leaves the same after two runs of reads
+pub same_twice : (a b c : List ℕ → Type 0) → LeavesTheSame a b → LeavesTheSame b c → LeavesTheSame a c
+same_twice a b c first second k = (λ left. (first k).0 ((second k).0 left), λ left. (second k).1 ((first k).1 left))
 
 module _ {D : Type 0} (g : Ghosts D) where
   pub idle_opening : (relations : ℕ) (o : Operations D) → IsIdle g relations o → HasOpening g o.store

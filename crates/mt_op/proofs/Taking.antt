@@ -13,7 +13,7 @@ use Rattle.mt_plock.specs.Releasing.{locks_of}
 use Rattle.mt_space.specs.Changes.{PageBytes, IsUntouched}
 use Rattle.mt_space.specs.declared.changes.PageChange.{PageChange}
 use Rattle.mt_space.specs.Kinds.{kind}
-use Rattle.mt_steps.specs.Overlays.{copied, or_bytes}
+use Rattle.mt_overlay.specs.Overlays.{copied, or_bytes}
 use Rattle.mt_steps.specs.Plans.{IsGood}
 use Rattle.mt_steps.specs.Repeated.{Repeated, Change, held, by, on, dropped, changes_of}
 use Rattle.mt_steps.proofs.Picking.{by_other, by_gone}

@@ -12,9 +12,9 @@ use Rattle.mt_plock.specs.Holding.{lock_of}
 use Rattle.mt_plock.specs.Releasing.{locks_of}
 use Rattle.mt_plock.specs.declared.guards.PageLock.{PageLock}
 use Rattle.mt_space.specs.declared.changes.Changes.{Changes}
-use Rattle.mt_steps.specs.Overlays.{copied, or_below}
-use Rattle.mt_steps.specs.declared.overlay.PageCopy.{PageCopy}
-use Rattle.mt_steps.proofs.Overlaid.{copied_append, some_value, test_yes}
+use Rattle.mt_overlay.specs.Overlays.{copied, or_below}
+use Rattle.mt_overlay.specs.declared.overlay.PageCopy.{PageCopy}
+use Rattle.mt_overlay.proofs.Overlaid.{copied_append, some_value, test_yes}
 use Rattle.mt_file.specs.Rooms.{fits_of}
 use Rattle.mt_model.specs.Model.{IsWithin}
 use Rattle.mt_space.specs.Changes.{PageBytes}

@@ -17,11 +17,11 @@ use Rattle.mt_space.specs.Changes.{PageBytes, IsUntouched, IsShort, AreShort, af
 use Rattle.mt_frame.specs.PageRecords.{change_records}
 use Rattle.mt_space.specs.declared.changes.PageChange.{PageChange}
 use Rattle.mt_space.specs.Kinds.{kind}
-use Rattle.mt_steps.specs.Overlays.{copied, or_bytes}
+use Rattle.mt_overlay.specs.Overlays.{copied, or_bytes}
 use Rattle.mt_steps.specs.Plans.{IsGood, IsPlanned, TakesPages}
 use Rattle.mt_steps.specs.Repeated.{Repeated, Change, held, by, but, on, redo, put_back, changed, ranges_of, changes_of}
-use Rattle.mt_steps.specs.declared.overlay.PageCopy.{PageCopy}
-use Rattle.mt_steps.proofs.Overlaid.{some_value, named_at}
+use Rattle.mt_overlay.specs.declared.overlay.PageCopy.{PageCopy}
+use Rattle.mt_overlay.proofs.Overlaid.{some_value, named_at}
 use Rattle.mt_space.proofs.Changing.{short_at}
 use Rattle.mt_steps.proofs.Picking.{by_append, by_own, by_others, on_absent}
 use Rattle.mt_steps.proofs.Ranged.{ranges_by, ranges_elsewhere, changes_elsewhere, records_repeated, ranges_redone, ranges_stay, ranges_restored, changes_snoc, short_within}

@@ -17,6 +17,7 @@ use Rattle.mt_log.specs.Words.{appended, durable, used, area_size, seen_of}
 use Rattle.mt_space.specs.Changes.{PageBytes, Agrees, AreShort}
 use Rattle.mt_space.specs.declared.changes.PageChange.{PageChange}
 use Rattle.mt_pool.specs.Kept.{IsKept, Explains}
+use Rattle.mt_pool.specs.Reads.{ReadsOnce}
 use Rattle.mt_plock.specs.Releasing.{locks_without}
 use Rattle.mt_pool.specs.Views.{IsFull, IsThere, SameDirty, SameWaits}
 use Rattle.mt_steps.specs.Plans.{own_needs}
@@ -45,7 +46,7 @@ pub record MakesStep {D : Type 0} (g : Ghosts D) (o n : Operations D) (s t : OpS
       × Steps relations counters (world g opening o) (world g opening n) s t r
   pub moments : (opening : PageBytes) → IsKept g opening o.store
       → LeavesOnly g.moment g.left_since o.store.device n.store.device (Explains opening o.store)
-  pub once : g.moment n.store.device ≤ g.moment o.store.device + 1
+  pub reads : ReadsOnce g o.store.device n.store.device
   pub log : used n.store.log + t.left ≡ used o.store.log + s.left
   pub area : area_size n.store.log ≡ area_size o.store.log
   pub durable : durable n.store.log ≡ durable o.store.log
@@ -73,7 +74,7 @@ pub record TakesStepBack {D : Type 0} (g : Ghosts D) (o n : Operations D) (s t :
       × Goes relations counters (world g opening o) (world g opening n) s t
   pub moments : (opening : PageBytes) → IsKept g opening o.store
       → LeavesOnly g.moment g.left_since o.store.device n.store.device (Explains opening o.store)
-  pub once : g.moment n.store.device ≤ g.moment o.store.device + 1
+  pub reads : ReadsOnce g o.store.device n.store.device
   pub more : r ≡ Ok taken.More → (t.stage ≡ Taking) × (t.standing + 1 ≡ s.standing)
   pub clear : r ≡ Ok taken.Clear → (t.stage ≡ Cleared) × (s.standing ≤ 1)
   pub few : s.standing ≤ MAX_WRITTEN_PAGES
@@ -99,7 +100,7 @@ pub record GoesAhead {D : Type 0} (g : Ghosts D) (o n : Operations D) (s t : OpS
       × Steps relations counters (world g opening o) (world g opening n) s t r
   pub moments : (opening : PageBytes) → IsKept g opening o.store
       → LeavesOnly g.moment g.left_since o.store.device n.store.device (Explains opening o.store)
-  pub once : g.moment n.store.device ≤ g.moment o.store.device + 1
+  pub reads : ReadsOnce g o.store.device n.store.device
   pub log : used n.store.log + t.left ≡ used o.store.log + s.left
   pub area : area_size n.store.log ≡ area_size o.store.log
   pub durable : durable n.store.log ≡ durable o.store.log
@@ -148,7 +149,7 @@ pub record LocksPage {D : Type 0} (g : Ghosts D) (o n : Operations D) (s t : OpS
       × GoesOn relations counters (world g opening o) (world g opening n) s t r
   pub moments : (opening : PageBytes) → IsKept g opening o.store
       → LeavesOnly g.moment g.left_since o.store.device n.store.device (Explains opening o.store)
-  pub once : g.moment n.store.device ≤ g.moment o.store.device + 1
+  pub reads : ReadsOnce g o.store.device n.store.device
   pub log : n.store.log ≡ o.store.log
   pub map : n.map ≡ o.map
   pub same : IsAsFar s t
@@ -203,7 +204,7 @@ pub record PlansOn {D : Type 0} (g : Ghosts D) (o n : Operations D) (s t : OpSco
       × IsPlannedOn relations counters (world g opening o) (world g opening n) s t r
   pub moments : (opening : PageBytes) → IsKept g opening o.store
       → LeavesOnly g.moment g.left_since o.store.device n.store.device (Explains opening o.store)
-  pub once : g.moment n.store.device ≤ g.moment o.store.device + 1
+  pub reads : ReadsOnce g o.store.device n.store.device
   pub made : r ≡ Ok None → (n ≡ o) × (t.stage ≡ Writing)
   pub log : n.store.log ≡ o.store.log
   pub map : n.map ≡ o.map
@@ -226,7 +227,7 @@ pub record BringsPage {D : Type 0} (g : Ghosts D) (o n : Operations D) (page : �
   pub rests : (opening : PageBytes) → Rests (world g opening o) (world g opening n)
   pub moments : (opening : PageBytes) → IsKept g opening o.store
       → LeavesOnly g.moment g.left_since o.store.device n.store.device (Explains opening o.store)
-  pub once : g.moment n.store.device ≤ g.moment o.store.device + 1
+  pub reads : ReadsOnce g o.store.device n.store.device
   pub there : r ≡ Ok true → IsThere n.store.pool page
   pub full : r ≡ Ok false → IsFull o.store.pool × (n ≡ o)
   pub place : n.store.pool.place ≡ o.store.pool.place

@@ -18,7 +18,7 @@ use Rattle.mt_space.specs.declared.changes.PageChange.{PageChange}
 use Rattle.mt_space.specs.Kinds.{kind}
 use Rattle.mt_file.specs.Plans.{IsNamed}
 use Rattle.mt_steps.specs.Asks.{HasSearched}
-use Rattle.mt_steps.specs.Overlays.{copied, or_bytes, AreAtHand}
+use Rattle.mt_overlay.specs.Overlays.{copied, or_bytes, AreAtHand}
 use Rattle.mt_steps.specs.Logged.{logged_of}
 use Rattle.mt_steps.specs.Plans.{IsGood, IsPlanned, TakesPages}
 use Rattle.mt_steps.specs.Repeated.{Repeated, Change, logged, held, by, changes_of, IsRepeated}

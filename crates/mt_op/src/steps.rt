@@ -3,7 +3,7 @@
 ghost use Rattle.std.specs.Prelude.{◌≡◌, ◌⊎◌, ◌<◌, ◌≤◌, ◌+◌, ◌^◌, ℕ, length, All, Contains, [], None, true, MatchOption};
 ghost use Rattle.mt_base.specs.declared.limits.TheConstants.{MAX_PAGES, MAX_RELATIONS, MAX_WRITTEN_PAGES};
 ghost use Rattle.mt_steps.specs.Asks.{HasSearched};
-ghost use Rattle.mt_steps.specs.Overlays.{AreAtHand};
+ghost use Rattle.mt_overlay.specs.Overlays.{AreAtHand};
 ghost use Rattle.mt_steps.specs.Logged.{logged_of};
 ghost use Rattle.mt_base.specs.declared.modes.Mode.TheVariants.{Write};
 ghost use Rattle.mt_model.specs.Model.{IsWithin};

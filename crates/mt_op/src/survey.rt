@@ -2,6 +2,7 @@
 // Pages are read from frames or from the device, and none comes into a frame.
 ghost use Rattle.std.specs.Prelude.{◌≡◌, ◌⊎◌, ◌<◌, ◌≤◌, ◌+◌, ℕ, length, Err, IfOk, IfErr, OnOk};
 ghost use Rattle.mt_base.specs.declared.limits.TheConstants.{MAX_RELATIONS, PAGE_BYTES};
+ghost use Rattle.mt_disk.specs.Disk.{LeavesTheSame};
 ghost use Rattle.mt_model.specs.Model.{Base as ModelBase};
 ghost use Rattle.mt_model.specs.Views.{base_of, counters_of, relations_of};
 ghost use Rattle.mt_pool.specs.Views.{pages};
@@ -43,6 +44,7 @@ impl<D: Device> Operations<D> {
             → IfOk result (λ bytes. bytes ≡ held_in (world D.Device opening self.old) page) }
         ensures whole { IfOk result (λ bytes. length bytes ≡ PAGE_BYTES) }
         ensures read { OnlyReads D.Device self.old self.new }
+        ensures crash { LeavesTheSame (D.may_leave self.old.store.device) (D.may_leave self.new.store.device) }
         ensures once { D.moment self.new.store.device ≤ D.moment self.old.store.device + 1 }
         ensures quiet { (result ≡ Err Refusal.DeviceFailed → ⊥)
             → D.faults self.new.store.device ≡ D.faults self.old.store.device }
@@ -69,6 +71,7 @@ impl<D: Device> Operations<D> {
         ensures relations { relations_of base.new ≡ relations_of base.old }
         ensures counters { length (counters_of base.new) ≡ length (counters_of base.old) }
         ensures read { OnlyReads D.Device self.old self.new }
+        ensures crash { LeavesTheSame (D.may_leave self.old.store.device) (D.may_leave self.new.store.device) }
         ensures once { D.moment self.new.store.device ≤ D.moment self.old.store.device + 1 }
         ensures quiet { (result ≡ Err Refusal.DeviceFailed → ⊥)
             → D.faults self.new.store.device ≡ D.faults self.old.store.device }
@@ -95,6 +98,7 @@ impl<D: Device> Operations<D> {
         ensures relations { relations_of base.new ≡ relations_of base.old }
         ensures counters { length (counters_of base.new) ≡ length (counters_of base.old) }
         ensures read { OnlyReads D.Device self.old self.new }
+        ensures crash { LeavesTheSame (D.may_leave self.old.store.device) (D.may_leave self.new.store.device) }
         ensures calls { D.moment self.new.store.device
             ≤ D.moment self.old.store.device + pages self.old.store.pool }
         ensures quiet { (result ≡ Err Refusal.DeviceFailed → ⊥)
@@ -123,6 +127,7 @@ impl<D: Device> Operations<D> {
             → IfOk result (IsSurvey relations counters (pages self.old.store.pool)
             (held_in (world D.Device opening self.old)) held) }
         ensures read { OnlyReads D.Device self.old self.new }
+        ensures crash { LeavesTheSame (D.may_leave self.old.store.device) (D.may_leave self.new.store.device) }
         // It reads each page once at most, but for two that are read first.
         ensures calls { D.moment self.new.store.device
             ≤ D.moment self.old.store.device + pages self.old.store.pool + 2 }

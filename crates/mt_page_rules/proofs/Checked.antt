@@ -10,14 +10,14 @@ use Rattle.mt_bucket.specs.Page.{count_of, entries, entries_from, entry_of, cell
 use Rattle.mt_bucket.specs.Hash.{hash}
 use Rattle.mt_file.specs.File.{record_in}
 use Rattle.mt_file.proofs.Filed.{record_records, record_kind}
-use Rattle.mt_index.specs.Checks.{bytes_of, entry_at, IsSound}
+use Rattle.mt_index.specs.Checks.{entry_at, IsSound}
+use Rattle.mt_space.specs.PageLists.{bytes_of, AreWhole}
 use Rattle.mt_index.specs.Index.{Linked, Node, entries_of, named}
 use Rattle.mt_index.specs.Maps.{Each, Map}
 use Rattle.mt_index.specs.Pages.{AreMap, state_of}
 use Rattle.mt_index.proofs.Lists.{at_parts}
 use Rattle.mt_index.proofs.Looking.{look_in, look_past}
 use Rattle.mt_base.specs.Limits.{IsRelationCount, limit_of}
-use Rattle.mt_page_rules.specs.Whole.{AreWhole}
 use Rattle.mt_slots.specs.Page.{Row, count, slot}
 use Rattle.mt_space.specs.Changes.{PageBytes}
 use Rattle.mt_space.specs.Kinds.{kind, IsMap}

@@ -8,7 +8,8 @@ use Rattle.mt_bucket.specs.Entries.{Entry, look}
 use Rattle.mt_bucket.specs.Page.{count_of, entries, entries_from, entry_of, cell}
 use Rattle.mt_file.specs.File.{record_in}
 use Rattle.mt_file.proofs.Filed.{record_kind}
-use Rattle.mt_index.specs.Checks.{bytes_of, entry_at}
+use Rattle.mt_index.specs.Checks.{entry_at}
+use Rattle.mt_space.specs.PageLists.{bytes_of}
 use Rattle.mt_index.specs.Index.{State, entries_of, named}
 use Rattle.mt_index.specs.Maps.{Map, Once}
 use Rattle.mt_index.specs.Pages.{AreMap, state_of, IsOn}

@@ -6,7 +6,8 @@ use Rattle.mt_base.specs.declared.format.Format.TheVariants.{Two}
 use Rattle.mt_base.specs.declared.numbers.RecordName.{RecordName}
 use Rattle.mt_bucket.specs.Page.{count_of}
 use Rattle.mt_file.specs.File.{record_in}
-use Rattle.mt_index.specs.Checks.{bytes_of, entry_at, IsSound}
+use Rattle.mt_index.specs.Checks.{entry_at, IsSound}
+use Rattle.mt_space.specs.PageLists.{bytes_of}
 use Rattle.mt_index.specs.Maps.{Map}
 use Rattle.mt_index.specs.Pages.{AreMap}
 use Rattle.mt_slots.specs.Page.{Row, IsPage}

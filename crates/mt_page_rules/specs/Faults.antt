@@ -2,7 +2,7 @@
 use Rattle.std.specs.Prelude.{◌≡◌, ℕ, List, length}
 use Rattle.mt_base.specs.declared.format.Format.{Format}
 use Rattle.mt_index.specs.Broken.{IsBroken}
-use Rattle.mt_index.specs.Checks.{bytes_of}
+use Rattle.mt_space.specs.PageLists.{bytes_of}
 use Rattle.mt_space.specs.Kinds.{IsMap}
 use Rattle.mt_page_rules.specs.Checks.{HasSchema, IsRecordPage, NamesRecords, HasListed}
 

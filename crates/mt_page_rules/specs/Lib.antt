@@ -1,4 +1,3 @@
-pub mod Whole
 pub mod Checks
 pub mod Faults
 pub mod Naming

@@ -3,7 +3,8 @@ use Rattle.std.specs.Prelude.{◌≡◌, ◌⊎◌, ℕ, ◌+◌, ◌*◌, ◌<�
 use Rattle.mt_page_rules.specs.declared.page_rules.TheConstants.{MAX_SLOTS}
 use Rattle.mt_base.specs.declared.numbers.RecordName.{RecordName}
 use Rattle.mt_bucket.specs.Page.{count_of}
-use Rattle.mt_index.specs.Checks.{bytes_of, entry_at}
+use Rattle.mt_index.specs.Checks.{entry_at}
+use Rattle.mt_space.specs.PageLists.{bytes_of}
 use Rattle.mt_space.specs.Kinds.{kind}
 
 -- the place of a name among all slots of all pages

@@ -4,9 +4,9 @@ ghost use Rattle.std.specs.Prelude.{◌≡◌, ◌⊎◌, ◌+◌, ◌*◌, ◌<
 ghost use Rattle.mt_page_rules.specs.declared.page_rules.TheConstants.{MAX_SLOTS};
 ghost use Rattle.mt_base.specs.declared.limits.TheConstants.{MAX_PAGES, PAGE_BYTES};
 ghost use Rattle.mt_bucket.specs.Page.{count_of, IsBucket};
-ghost use Rattle.mt_index.specs.Checks.{bytes_of, IsSound};
+ghost use Rattle.mt_index.specs.Checks.{IsSound};
+ghost use Rattle.mt_space.specs.PageLists.{bytes_of, AreWhole};
 ghost use Rattle.mt_space.specs.Kinds.{kind, CanBe, IsMap};
-ghost use Rattle.mt_page_rules.specs.Whole.{AreWhole};
 ghost use Rattle.mt_page_rules.specs.Faults.{IsFaulty};
 ghost use Rattle.mt_page_rules.specs.Checks.{AreCheckedIn, AreBroken, HasSchema, IsRecordPage, AreRecordPages, HasRecord, NamesRecords, AllNameRecords, AreListedAt, HasListed, AllAreListed, IsIndexed};
 ghost use Rattle.mt_page_rules.specs.Naming.{AreNamed, MarksNamed};

@@ -1,8 +1,8 @@
 // Pages come into frames, out of their slots. A page that need not be flushed leaves its frame for another.
 // Nothing is written: if each frame has a page to flush, the answer says so.
-ghost use Rattle.std.specs.Prelude.{◌≡◌, ◌<◌, ℕ, List, length, get_or, Ok, None, OnOk};
+ghost use Rattle.std.specs.Prelude.{◌≡◌, ◌<◌, ℕ, length, get_or, Ok, None, OnOk};
 ghost use Rattle.mt_base.specs.declared.limits.TheConstants.{PAGE_BYTES};
-ghost use Rattle.mt_disk.specs.Disk.{HasCause};
+ghost use Rattle.mt_disk.specs.Disk.{HasCause, LeavesTheSame};
 ghost use Rattle.mt_disk.specs.Calls.{MakesOneCall};
 
 use crate::Pool;
@@ -54,7 +54,7 @@ impl Pool {
         ensures moves { OnlyMoves self.old self.new }
         ensures nothing { result ≡ Ok fetched.Flush → device.new ≡ device.old }
         ensures seen { D.seen device.new ≡ D.seen device.old }
-        ensures crash { (c : List ℕ) → D.may_leave device.new c → D.may_leave device.old c }
+        ensures crash { LeavesTheSame (D.may_leave device.old) (D.may_leave device.new) }
         ensures time { MakesOneCall D.Device device.old device.new }
         ensures cause { HasCause (D.faults device.old) (D.faults device.new) result }
     {
@@ -92,7 +92,7 @@ impl Pool {
         ensures copied { OnOk result (bytes.new ≡ view self.now (D.seen device.old) page) }
         ensures whole { length bytes.new ≡ PAGE_BYTES }
         ensures seen { D.seen device.new ≡ D.seen device.old }
-        ensures crash { (c : List ℕ) → D.may_leave device.new c → D.may_leave device.old c }
+        ensures crash { LeavesTheSame (D.may_leave device.old) (D.may_leave device.new) }
         ensures time { MakesOneCall D.Device device.old device.new }
         ensures cause { HasCause (D.faults device.old) (D.faults device.new) result }
     {

@@ -10,6 +10,7 @@ ghost use Rattle.mt_frame.specs.Grammar.{IsRecord, IsOfPage, IsTxn, IsOp};
 ghost use Rattle.mt_area_rules.specs.History.{may_stand};
 ghost use Rattle.mt_frame.specs.Lengths.{record_length};
 ghost use Rattle.mt_disk.specs.Calls.{MakesOneCall};
+ghost use Rattle.mt_pool.specs.Reads.{ReadsOnce};
 ghost use Rattle.mt_log.specs.Forcing.{ReportsFault};
 ghost use Rattle.mt_log.specs.Seen.{with_record};
 ghost use Rattle.mt_log.specs.Steps.{ForceSteps};
@@ -101,7 +102,7 @@ impl<D: Device> Store<D> {
         requires open { IsOpen D.Device self.old self.old.device }
         requires inside { page < pages self.old.pool }
         ensures keeps { Keeps D.Device self.old self.new self.old.device self.new.device }
-        ensures once { MakesOneCall D.Device self.old.device self.new.device }
+        ensures reads { ReadsOnce D.Device self.old.device self.new.device }
         ensures views { (q : ℕ) → view self.new.pool (D.seen self.new.device) q ≡ view self.old.pool
             (D.seen self.old.device) q }
         ensures steps { FetchSteps page self.old.pool self.new.pool result }
@@ -119,10 +120,9 @@ impl<D: Device> Store<D> {
         requires open { IsOpen D.Device self.old self.old.device }
         requires inside { page < pages self.old.pool }
         ensures keeps { Keeps D.Device self.old self.new self.old.device self.new.device }
-        ensures once { MakesOneCall D.Device self.old.device self.new.device }
+        ensures reads { ReadsOnce D.Device self.old.device self.new.device }
         ensures copied { OnOk result (bytes.new ≡ view self.old.pool (D.seen self.old.device) page) }
         ensures whole { length bytes.new ≡ PAGE_BYTES }
-        ensures seen { D.seen self.new.device ≡ D.seen self.old.device }
         ensures pool { self.new.pool ≡ self.old.pool }
         ensures log { self.new.log ≡ self.old.log }
         ensures cause { HasCause (D.faults self.old.device) (D.faults self.new.device) result }

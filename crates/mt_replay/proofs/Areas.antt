@@ -16,7 +16,7 @@ use Rattle.mt_log.specs.declared.batch.Batch.{Batch}
 use Rattle.mt_pool.specs.Images.{GivesPages}
 use Rattle.mt_pool.specs.Kept.{carried}
 use Rattle.std.specs.List.{AllByRecursion}
-use Rattle.mt_index.specs.Checks.{bytes_of}
+use Rattle.mt_space.specs.PageLists.{bytes_of}
 use Rattle.mt_model.specs.Model.{Base, base_after}
 use Rattle.mt_model.specs.History.{run}
 use Rattle.mt_space.specs.Changes.{PageBytes}

@@ -6,7 +6,7 @@ use Rattle.mt_base.specs.declared.format.Format.{Format}
 use Rattle.mt_base.specs.declared.refusal.Refusal.{Refusal}
 use Rattle.mt_base.specs.declared.refusal.Refusal.TheVariants.{BadFormat, DeviceFailed, NoMemory}
 use Rattle.mt_frame.specs.declared.slots.MasterSlot.{MasterSlot}
-use Rattle.mt_index.specs.Checks.{bytes_of}
+use Rattle.mt_space.specs.PageLists.{bytes_of}
 use Rattle.mt_log.specs.Batch.{joined}
 use Rattle.mt_log.specs.Found.{places_of, records_of}
 use Rattle.mt_log.specs.Holds.{BreaksAt, places_from}

@@ -4,13 +4,12 @@ use Rattle.std.proofs.Common.{◌≡◌, ◌≢◌, ◌∙◌, inl, inr, ℕ, �
 use Rattle.std.proofs.lemmas.Bool.{cases_eq}
 use Rattle.std.proofs.lemmas.Grind.{get_or-set_at}
 use Rattle.std.proofs.lemmas.List.{length-map, length-set, get_or-set_other}
-use Rattle.mt_index.specs.Checks.{bytes_of}
+use Rattle.mt_space.specs.PageLists.{bytes_of, AreWhole}
 use Rattle.mt_base.specs.Limits.{IsRelationCount}
 use Rattle.mt_model.specs.Model.{Base}
 use Rattle.mt_model.specs.Tables.{started}
 use Rattle.mt_model.specs.declared.counters.Count.{Count}
 use Rattle.mt_page_rules.specs.Checks.{AreChecked}
-use Rattle.mt_page_rules.specs.Whole.{AreWhole}
 use Rattle.mt_space.specs.Changes.{PageBytes, replaced}
 use Rattle.mt_space.proofs.Changing.{replaced_here, replaced_other}
 use Rattle.mt_counters.specs.Counters.{AreCounters}

@@ -22,7 +22,7 @@ use Rattle.mt_model.specs.declared.operations.Reply.{Reply}
 use Rattle.mt_space.specs.Changes.{after}
 use Rattle.mt_space.specs.declared.changes.PageChange.{PageChange}
 use Rattle.mt_counters.specs.Counters.{AreCounters}
-use Rattle.mt_steps.specs.Overlays.{AreAtHand}
+use Rattle.mt_overlay.specs.Overlays.{AreAtHand}
 use Rattle.mt_counters.specs.declared.counters.SchemaSizes.{SchemaSizes}
 use Rattle.mt_steps.specs.Plans.{IsGood, HasPages, InPages, IsPlanned, IsTight, TakesPages, free_pages, own_needs, record_bytes}
 use Rattle.mt_page_rules.proofs.Checked.{at_any}

@@ -18,7 +18,7 @@ use Rattle.mt_log.specs.Found.{records_of}
 use Rattle.mt_log.specs.declared.batch.Batch.{Batch}
 use Rattle.mt_space.specs.Changes.{PageBytes}
 use Rattle.mt_steps.specs.Repeated.{Change, Repeated, by, held, logged, put_back, repeat, repeated}
-use Rattle.mt_page_rules.specs.Whole.{AreWhole}
+use Rattle.mt_space.specs.PageLists.{AreWhole}
 use Rattle.mt_replay.specs.Memory.{AreFirst}
 use Rattle.mt_replay.specs.Passes.{AreKnown, Backs, IsBackTo, IsShown, before, change_by, replaced_in, ends_it, left, stays}
 use Rattle.mt_replay.specs.declared.repeat.Repeating.{Repeating}

@@ -1,7 +1,7 @@
 -- Changes made in pages in memory.
 use Rattle.std.proofs.Common.{◌≡◌, ◌≢◌, inl, inr, ℕ, zero, suc, ◌+◌, ◌<◌, ◌≤◌, List, [], ◌∷◌, ◌++◌, Option, Some, None, All, length, map, take, get_or, set, refl, sym, ap, ◌∙◌, subst, arith}
 use Rattle.std.specs.Prelude.{slice_get, IsSome}
-use Rattle.mt_steps.specs.Overlays.{AreAtHand}
+use Rattle.mt_overlay.specs.Overlays.{AreAtHand}
 use Rattle.std.specs.List.{AllByRecursion}
 use Rattle.std.proofs.lemmas.Bool.{cases_eq, cases_lt}
 use Rattle.std.proofs.lemmas.List.{length-set, get_or-set_other, map-append, take_more}
@@ -13,7 +13,7 @@ use Rattle.mt_base.specs.declared.edits.Edit.{Edit}
 use Rattle.mt_space.specs.Changes.{PageBytes, Agrees, replaced, after, IsShort, AreShort}
 use Rattle.mt_space.specs.declared.changes.PageChange.{PageChange}
 use Rattle.mt_space.proofs.Changing.{replaced_here, replaced_other}
-use Rattle.mt_page_rules.specs.Whole.{AreWhole}
+use Rattle.mt_space.specs.PageLists.{AreWhole}
 use Rattle.mt_replay.specs.Memory.{AreFirst, SameBut, Sets, Makes}
 
 pub first_agrees : (items : List (List ℕ)) (f : PageBytes) → AreFirst items f → Agrees (λ p. slice_get items p) f

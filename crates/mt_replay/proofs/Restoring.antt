@@ -11,7 +11,7 @@ use Rattle.mt_base.specs.Edits.{splice}
 use Rattle.mt_area_rules.proofs.RuleLaws.{is_at_number}
 use Rattle.mt_space.specs.Changes.{PageBytes}
 use Rattle.mt_steps.specs.Repeated.{Change, put_back, by, but, made, changed, finished, dropped, unmade, Repeated}
-use Rattle.mt_page_rules.specs.Whole.{AreWhole}
+use Rattle.mt_space.specs.PageLists.{AreWhole}
 use Rattle.mt_replay.specs.Memory.{AreFirst}
 use Rattle.mt_replay.specs.Passes.{Before, before, before_of, change_of, replaced_in, replaced_at, with_before, AllFit, Fits, IsShown, IsWhole, Notes, PutsBack, Repeats, Takes}
 use Rattle.mt_replay.specs.declared.repeat.Repeating.{Repeating}

@@ -5,7 +5,7 @@ use Rattle.std.proofs.Common.{⊎_elim, sym, ap, ◌∙◌}
 use Rattle.std.proofs.lemmas.Bool.{cases_lt}
 use Rattle.std.proofs.lemmas.Option.{slice_get_past, get_or_from_slice_get}
 use Rattle.mt_base.specs.declared.limits.TheConstants.{MAX_RELATIONS, PAGE_BYTES}
-use Rattle.mt_page_rules.specs.Whole.{AreWhole}
+use Rattle.mt_space.specs.PageLists.{AreWhole}
 use Rattle.mt_space.specs.Changes.{PageBytes, after}
 use Rattle.mt_space.specs.declared.changes.PageChange.{PageChange}
 use Rattle.mt_steps.specs.Plans.{IsGood}

@@ -18,7 +18,7 @@ use Rattle.mt_replay.specs.declared.images.Images.{Images}
 use Rattle.mt_replay.specs.declared.repeat.Unfinished.{Unfinished}
 use Rattle.mt_replay.specs.declared.repeat.Repeating.{Repeating}
 use Rattle.mt_replay.specs.declared.repeat.TakingBack.{TakingBack}
-use Rattle.mt_page_rules.specs.Whole.{AreWhole}
+use Rattle.mt_space.specs.PageLists.{AreWhole}
 use Rattle.mt_replay.specs.Marking.{MarksImaged}
 use Rattle.mt_replay.specs.Memory.{AreFirst}
 

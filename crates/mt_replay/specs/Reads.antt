@@ -9,7 +9,7 @@ use Rattle.mt_log.specs.Quiet.{OnlyReads}
 use Rattle.mt_pool.specs.Images.{GivesPages, slot}
 use Rattle.mt_pool.specs.Kept.{carried}
 use Rattle.mt_replay.specs.Marking.{MarksImaged}
-use Rattle.mt_page_rules.specs.Whole.{AreWhole}
+use Rattle.mt_space.specs.PageLists.{AreWhole}
 use Rattle.mt_replay.specs.Memory.{AreFirst}
 use Rattle.mt_replay.specs.Recoverable.{pages_held}
 use Rattle.mt_replay.specs.declared.pages_held.HeldPages.{HeldPages}

@@ -15,7 +15,7 @@ ghost use Rattle.mt_model.specs.Model.{Base};
 ghost use Rattle.std.specs.List.{AllByRecursion};
 ghost use Rattle.mt_frame.specs.Grammar.{IsOperation};
 ghost use Rattle.mt_replay.specs.Marking.{IsMarked};
-ghost use Rattle.mt_page_rules.specs.Whole.{AreWhole};
+ghost use Rattle.mt_space.specs.PageLists.{AreWhole};
 ghost use Rattle.mt_log.specs.Masters.{IsRuling, IsUnformatted, area_end, area_start};
 ghost use Rattle.mt_replay.specs.Refused.{AreUndone, BreaksFormat, BreaksLog, IsCause, IsLog, IsReplayed, StopsUndoing};
 ghost use Rattle.mt_replay.specs.Stands.{AreHeld, CanReplay, HasArea, ShowsBase};

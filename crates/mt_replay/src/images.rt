@@ -5,7 +5,7 @@ ghost use Rattle.mt_frame.specs.Grammar.{IsRecord};
 ghost use Rattle.mt_log.specs.Batch.{joined};
 ghost use Rattle.mt_log.specs.Found.{records_of};
 ghost use Rattle.mt_log.specs.Holds.{AreRecords, AreBatches, HasItsPage};
-ghost use Rattle.mt_page_rules.specs.Whole.{AreWhole};
+ghost use Rattle.mt_space.specs.PageLists.{AreWhole};
 ghost use Rattle.mt_replay.specs.Passes.{AreFirstImages, HasMarks, Lays};
 
 use mt_base::Refusal;

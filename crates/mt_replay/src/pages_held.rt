@@ -6,7 +6,7 @@ ghost use Rattle.mt_base.specs.declared.refusal.Refusal.{Refusal};
 ghost use Rattle.mt_log.specs.Batch.{joined};
 ghost use Rattle.mt_log.specs.Found.{records_of};
 ghost use Rattle.mt_log.specs.Holds.{AreBatches};
-ghost use Rattle.mt_page_rules.specs.Whole.{AreWhole};
+ghost use Rattle.mt_space.specs.PageLists.{AreWhole};
 ghost use Rattle.mt_replay.specs.Reads.{AreLedOn, FindsHeld};
 
 use crate::images::{Images, images_in};

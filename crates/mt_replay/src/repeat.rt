@@ -10,7 +10,7 @@ ghost use Rattle.mt_log.specs.Found.{records_of};
 ghost use Rattle.mt_log.specs.Holds.{HasItsPage, AreRecords, AreBatches};
 ghost use Rattle.mt_space.specs.Changes.{PageBytes};
 ghost use Rattle.mt_steps.specs.Repeated.{changed, dropped, finished, held, logged, repeat, repeated};
-ghost use Rattle.mt_page_rules.specs.Whole.{AreWhole};
+ghost use Rattle.mt_space.specs.PageLists.{AreWhole};
 ghost use Rattle.mt_replay.specs.Memory.{AreFirst, Sets};
 ghost use Rattle.mt_replay.specs.Passes.{Backs, Fits, IsShown, IsWhole, Notes, PutsBack, Repeats, Takes, before_of, change_of};
 

@@ -7,7 +7,7 @@ ghost use Rattle.mt_base.specs.declared.refusal.Refusal.{Refusal};
 ghost use Rattle.mt_frame.specs.Grammar.{IsOperation};
 ghost use Rattle.mt_inverse.specs.Effects.{op_with, reply_with, reply_back as back};
 ghost use Rattle.mt_space.specs.Changes.{PageBytes, AreShort};
-ghost use Rattle.mt_page_rules.specs.Whole.{AreWhole};
+ghost use Rattle.mt_space.specs.PageLists.{AreWhole};
 ghost use Rattle.mt_replay.specs.Memory.{AreFirst, AreGood, Sets, Makes};
 ghost use Rattle.mt_page_rules.specs.Checks.{AreBroken, AreCheckedIn};
 ghost use Rattle.mt_page_rules.specs.Faults.{IsFaulty};

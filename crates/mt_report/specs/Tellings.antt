@@ -6,17 +6,26 @@ use Rattle.mt_base.specs.Refusal.{text_of}
 use Rattle.mt_core.specs.declared.calls.Called.TheVariants as call
 use Rattle.mt_pool.specs.declared.flushes.Flushed.TheVariants as flush
 use Rattle.mt_script.specs.Answers.{reply_text}
+use Rattle.mt_txn.specs.declared.answers.AbortStepped.{AbortStepped}
 use Rattle.mt_txn.specs.declared.answers.AbortStepped.TheVariants as abort
 use Rattle.mt_txn.specs.declared.answers.KernelForced.TheVariants as forced
 use Rattle.mt_txn.specs.declared.answers.Stepped.TheVariants as step
 use Rattle.mt_world.specs.declared.events.Answer.{Answer}
-use Rattle.mt_world.specs.declared.events.Answer.TheVariants.{Begun, Called, Stepped, Committing, Aborting, Backed, Returning, Returned, Forced, Flushed, Rotated, Refused}
+use Rattle.mt_world.specs.declared.events.Answer.TheVariants.{Begun, Called, Stepped, Committing, Aborting, Undone, Returning, Returned, Forced, Flushed, Rotated, Refused}
 
 -- the names of transactions, each after a space
 abbrev pub name_text : ℕ → List ℕ
 name_text t = 32 ∷ decimal t
 
--- what an answer is written as, without the end of its line
+-- what a step that undoes is written as, without the end of its line
+abbrev pub undo_text : AbortStepped → List ℕ
+undo_text abort.More = codes "more"
+undo_text (abort.Wait t) = codes "wait " ++ decimal t
+undo_text abort.Again = codes "again"
+undo_text abort.Flush = codes "flush"
+undo_text abort.Ended = codes "ended"
+
+-- and any answer
 abbrev pub reported_text : Answer → List ℕ
 reported_text (Begun t) = codes "begun " ++ decimal t
 reported_text (Called call.Started) = codes "started"
@@ -28,17 +37,9 @@ reported_text (Stepped step.Flush) = codes "flush"
 reported_text (Stepped (step.Replied reply)) = reply_text reply
 reported_text (Committing place) = codes "committing " ++ decimal place
 reported_text Aborting = codes "aborting"
-reported_text (Backed abort.More) = codes "more"
-reported_text (Backed (abort.Wait t)) = codes "wait " ++ decimal t
-reported_text (Backed abort.Again) = codes "again"
-reported_text (Backed abort.Flush) = codes "flush"
-reported_text (Backed abort.Ended) = codes "ended"
+reported_text (Undone stepped) = undo_text stepped
 reported_text Returning = codes "returning"
-reported_text (Returned abort.More) = codes "more"
-reported_text (Returned (abort.Wait t)) = codes "wait " ++ decimal t
-reported_text (Returned abort.Again) = codes "again"
-reported_text (Returned abort.Flush) = codes "flush"
-reported_text (Returned abort.Ended) = codes "ended"
+reported_text (Returned stepped) = undo_text stepped
 reported_text (Forced forced.More) = codes "more"
 reported_text (Forced forced.Idle) = codes "idle"
 reported_text (Forced (forced.Durable names)) = codes "durable" ++ concat (map name_text names.items)

@@ -3,7 +3,7 @@ ghost use Rattle.std.specs.Prelude.{◌≡◌, ◌∷◌, ◌++◌, [], OnOk, On
 ghost use Rattle.std.specs.Fmt.{decimal};
 ghost use Rattle.std.specs.Io.KnownBytes.{Appends};
 ghost use Rattle.std.specs.List.{concat};
-ghost use Rattle.mt_report.specs.Tellings.{name_text, reported_line, reported_lines};
+ghost use Rattle.mt_report.specs.Tellings.{name_text, reported_line, reported_lines, undo_text};
 ghost use Rattle.mt_script.specs.Answers.{AppendsFront};
 ghost use Rattle.mt_world.specs.declared.events.Answer.TheVariants as answer;
 
@@ -55,30 +55,14 @@ fn write_stepped<W: Write>(writer: &mut W, stepped: &Stepped) -> Result<(), Unhe
     }
 }
 
-/// Writes what a step of an abort came to.
-fn write_backed<W: Write>(writer: &mut W, backed: AbortStepped) -> Result<(), Unheard>
+/// Writes what a step that undoes came to, in an abort or in going back.
+fn write_undone<W: Write>(writer: &mut W, stepped: AbortStepped) -> Result<(), Unheard>
     ensures all { OnOk result (Appends (W.contents writer.old) (W.contents writer.new)
-        (reported_line (answer.Backed backed))) }
+        (undo_text stepped ++ 10 ∷ [])) }
     ensures front { OnErr result (AppendsFront (W.contents writer.old) (W.contents writer.new)
-        (reported_line (answer.Backed backed))) }
+        (undo_text stepped ++ 10 ∷ [])) }
 {
-    match backed {
-        AbortStepped::More => put(writer, b"more\n"),
-        AbortStepped::Wait(txn) => write_number(writer, "wait ", txn.get()),
-        AbortStepped::Again => put(writer, b"again\n"),
-        AbortStepped::Flush => put(writer, b"flush\n"),
-        AbortStepped::Ended => put(writer, b"ended\n"),
-    }
-}
-
-/// Writes what a step of going back came to.
-fn write_returned<W: Write>(writer: &mut W, returned: AbortStepped) -> Result<(), Unheard>
-    ensures all { OnOk result (Appends (W.contents writer.old) (W.contents writer.new)
-        (reported_line (answer.Returned returned))) }
-    ensures front { OnErr result (AppendsFront (W.contents writer.old) (W.contents writer.new)
-        (reported_line (answer.Returned returned))) }
-{
-    match returned {
+    match stepped {
         AbortStepped::More => put(writer, b"more\n"),
         AbortStepped::Wait(txn) => write_number(writer, "wait ", txn.get()),
         AbortStepped::Again => put(writer, b"again\n"),
@@ -164,9 +148,9 @@ fn write_reported<W: Write>(writer: &mut W, answer: &Answer) -> Result<(), Unhea
         Answer::Stepped(stepped) => write_stepped(writer, stepped),
         Answer::Committing(place) => write_number(writer, "committing ", *place),
         Answer::Aborting => put(writer, b"aborting\n"),
-        Answer::Backed(backed) => write_backed(writer, *backed),
+        Answer::Undone(stepped) => write_undone(writer, *stepped),
         Answer::Returning => put(writer, b"returning\n"),
-        Answer::Returned(returned) => write_returned(writer, *returned),
+        Answer::Returned(stepped) => write_undone(writer, *stepped),
         Answer::Forced(forced) => write_forced(writer, forced),
         Answer::Flushed(flushed) => write_flushed(writer, *flushed),
         Answer::Rotated => put(writer, b"rotated\n"),

@@ -1,6 +1,6 @@
 -- Pages in memory, listed one after the other.
 use Rattle.std.proofs.Common.{◌≡◌, ◌≢◌, ◌+◌, ◌<◌, ℕ, List, length, get_or, None, Result, Ok, Err, OnOk, refl, ◌∙◌}
-use Rattle.mt_index.specs.Checks.{bytes_of}
+use Rattle.mt_space.specs.PageLists.{bytes_of}
 use Rattle.mt_model.specs.Model.{Base}
 use Rattle.mt_model.specs.Views.{base_of, counters_of, relations_of}
 use Rattle.mt_model.specs.declared.tables.Base as code

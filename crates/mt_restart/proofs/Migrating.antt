@@ -12,7 +12,7 @@ use Rattle.mt_model.specs.Model.{Base, IsBase, IsInBounds}
 use Rattle.mt_model.specs.Tables.{IsLimited, count_at, no_count, started}
 use Rattle.mt_model.specs.declared.counters.Count.{Count}
 use Rattle.mt_disk.specs.declared.device.Device.{Ghosts}
-use Rattle.mt_index.specs.Checks.{bytes_of}
+use Rattle.mt_space.specs.PageLists.{bytes_of}
 use Rattle.mt_log.proofs.Turns.{ruling_fits}
 use Rattle.mt_log.specs.NextSlot.{next_slot}
 use Rattle.mt_replay.specs.Laws.{OnlyOwnPagesMatter}

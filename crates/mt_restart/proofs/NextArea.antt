@@ -7,7 +7,7 @@ use Rattle.mt_disk.specs.Disk.{Torn}
 use Rattle.mt_disk.proofs.Frame.{Apart}
 use Rattle.mt_frame.specs.declared.records.Record.{Record}
 use Rattle.mt_frame.specs.declared.records.Record.TheVariants.{Page, OpEnd, OpDropped, Commit, AbortEnd}
-use Rattle.mt_index.specs.Checks.{bytes_of}
+use Rattle.mt_space.specs.PageLists.{bytes_of}
 use Rattle.mt_log.specs.Batch.{Scans, joined}
 use Rattle.mt_log.specs.Holds.{HasItsPage, HoldsBatches}
 use Rattle.mt_pool.specs.Images.{GivesPages, has_image, page_in, slot}

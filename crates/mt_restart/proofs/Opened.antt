@@ -4,7 +4,7 @@ use Rattle.std.specs.List.{AllByRecursion}
 use Rattle.std.proofs.lemmas.List.{length-map}
 use Rattle.mt_disk.specs.declared.device.Device.{Ghosts}
 use Rattle.mt_frame.specs.declared.records.Record.{Record}
-use Rattle.mt_index.specs.Checks.{bytes_of}
+use Rattle.mt_space.specs.PageLists.{bytes_of}
 use Rattle.mt_core.specs.Consistent.{IsFresh}
 use Rattle.mt_log.proofs.Turns.{ruling_fits, long_of}
 use Rattle.mt_frame.specs.declared.slots.MasterSlot.{MasterSlot}

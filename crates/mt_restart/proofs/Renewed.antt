@@ -5,7 +5,7 @@ use Rattle.mt_disk.specs.Disk.{Follows, LeavesOnly, Only, Torn}
 use Rattle.mt_disk.proofs.Frame.{leaves_more, runs_both}
 use Rattle.mt_frame.specs.declared.records.Record.{Record}
 use Rattle.mt_frame.specs.declared.slots.MasterSlot.{MasterSlot}
-use Rattle.mt_index.specs.Checks.{bytes_of}
+use Rattle.mt_space.specs.PageLists.{bytes_of}
 use Rattle.mt_log.specs.Area.{TornFrom}
 use Rattle.mt_frame.specs.Grammar.{body_text}
 use Rattle.mt_log.specs.Batch.{Scans, joined}

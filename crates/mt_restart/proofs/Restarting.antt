@@ -9,7 +9,7 @@ use Rattle.mt_frame.specs.Laws.{OneSlot}
 use Rattle.mt_frame.specs.declared.records.Record.{Record}
 use Rattle.mt_frame.specs.declared.records.Record.TheVariants.{Page, OpEnd, OpDropped, Commit, AbortEnd}
 use Rattle.mt_frame.specs.declared.slots.MasterSlot.{MasterSlot}
-use Rattle.mt_index.specs.Checks.{bytes_of}
+use Rattle.mt_space.specs.PageLists.{bytes_of}
 use Rattle.mt_core.proofs.Imaged.{images_end_nothing, images_held}
 use Rattle.mt_log.specs.Batch.{joined}
 use Rattle.mt_log.specs.Masters.{IsRuling, area_size}

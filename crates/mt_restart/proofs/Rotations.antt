@@ -23,7 +23,7 @@ use Rattle.mt_log.specs.declared.log.Forced.TheVariants as log
 use Rattle.mt_log.specs.declared.log.Log.{Log}
 use Rattle.mt_model.specs.History.{after}
 use Rattle.mt_model.specs.Model.{Base, IsBase}
-use Rattle.mt_index.specs.Checks.{bytes_of}
+use Rattle.mt_space.specs.PageLists.{bytes_of}
 use Rattle.mt_escrow.specs.Seen.{Escrowed}
 use Rattle.mt_op.specs.declared.operations.Operations.{Operations}
 use Rattle.mt_steps.specs.Held.{Holds}

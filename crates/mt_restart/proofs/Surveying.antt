@@ -1,7 +1,7 @@
 -- The survey of the pages that a restart in memory makes of bytes.
 use Rattle.std.proofs.Common.{ℕ, List, length}
 use Rattle.mt_frame.specs.declared.slots.MasterSlot.{MasterSlot}
-use Rattle.mt_index.specs.Checks.{bytes_of}
+use Rattle.mt_space.specs.PageLists.{bytes_of}
 use Rattle.mt_model.specs.Model.{Base}
 use Rattle.mt_op.specs.declared.survey.Survey.{Survey}
 use Rattle.mt_replay.specs.Laws.{OnlyOwnPagesMatter}

@@ -1,7 +1,7 @@
 -- What a kernel has beside its device and its log.
 use Rattle.std.specs.Prelude.{◌≡◌, ◌<◌, ◌≤◌, ◌+◌, ◌*◌, ℕ, List, [], length, get_or}
 use Rattle.mt_base.specs.declared.limits.TheConstants.{MASTER_BYTES, PAGE_BYTES}
-use Rattle.mt_index.specs.Checks.{bytes_of}
+use Rattle.mt_space.specs.PageLists.{bytes_of}
 use Rattle.mt_model.specs.Tables.{count_at}
 use Rattle.mt_op.specs.Begun.{FitsPages, idle_claims}
 use Rattle.mt_pool.specs.Images.{slot}

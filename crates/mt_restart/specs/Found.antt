@@ -6,7 +6,7 @@ use Rattle.mt_disk.specs.Disk.{Only}
 use Rattle.mt_frame.specs.Grammar.{body_text}
 use Rattle.mt_frame.specs.declared.records.Record.{Record}
 use Rattle.mt_frame.specs.declared.slots.MasterSlot.{MasterSlot}
-use Rattle.mt_index.specs.Checks.{bytes_of}
+use Rattle.mt_space.specs.PageLists.{bytes_of}
 use Rattle.mt_log.specs.Batch.{joined}
 use Rattle.mt_log.specs.First.{IsFirst}
 use Rattle.mt_log.specs.Holds.{HoldsBatches}

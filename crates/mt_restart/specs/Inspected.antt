@@ -2,7 +2,7 @@
 use Rattle.std.specs.Prelude.{◌≡◌, ℕ, List, length}
 use Rattle.mt_base.specs.Limits.{IsRelationCount}
 use Rattle.mt_frame.specs.declared.slots.MasterSlot.{MasterSlot}
-use Rattle.mt_index.specs.Checks.{bytes_of}
+use Rattle.mt_space.specs.PageLists.{bytes_of}
 use Rattle.mt_model.specs.Model.{Base, IsBase}
 use Rattle.mt_model.specs.Views.{base_of, counters_of, relations_of}
 use Rattle.mt_model.specs.declared.tables.Base as code

@@ -44,10 +44,11 @@ IsCarried g more relations counters b device c =
     g.may_leave device c ⊎ (CanReplay One relations counters c b
     ⊎ CanRestart (relations + more.relations) (counters + length more.new_counters) c (grown more counters b))
 
--- the pages that a restart makes of these bytes, with the grown schema
+-- the pages that a restart makes of these bytes, which are of format 1, with the grown schema
 pub record AreGrown (more : Additions) (c : List ℕ) (items : List (List ℕ)) : Type 0 where
   pub slot : MasterSlot
   pub old : List (List ℕ)
+  pub first : slot.format ≡ One
   pub replayed : IsReplayed c slot old
   pub extension : ExtendsSchema more.relations more.new_counters old items
 
@@ -114,12 +115,12 @@ pub record Carries {D : Type 0} (g : Ghosts D) (more : Additions) (frames : ℕ)
 abbrev pub BeginsOnGrown : {D : Type 0} {g : Ghosts D} → Additions → List ℕ → Kernel D g → Type 0
 BeginsOnGrown more c k = (items : List (List ℕ)) × AreGrown more c items × BeginsOnPages items k
 
--- Why a device is not carried over, and what is left of it. Unless it failed, its bytes are as they were, and whatever
--- a crash leaves of it represents what they did.
+-- Why a device is not carried over, and what is left of it. Unless it failed, it was only read or synced, and whatever
+-- a crash leaves of it represents what its bytes did.
 pub record IsNotCarried {D : Type 0} (g : Ghosts D) (more : Additions) (device : D) (gone : Refusal × D) : Type 0 where
   pub cause : IsCauseNotToCarry more (g.seen device) (g.faults device < g.faults gone.1) gone.0
   pub unformatted : SaysUnformatted (g.seen device) gone.0
   pub other : SaysOther One (g.seen device) gone.0
-  pub unwritten : gone.0 ≢ DeviceFailed → g.seen gone.1 ≡ g.seen device
+  pub reads : gone.0 ≢ DeviceFailed → OnlyReadsOrSyncs g device gone.1
   pub settled : (relations counters : ℕ) (b : Base) → CanReplay One relations counters (g.seen device) b
       → gone.0 ≢ DeviceFailed → (c : List ℕ) → g.may_leave gone.1 c → CanReplay One relations counters c b

@@ -9,10 +9,11 @@ use Rattle.mt_disk.specs.declared.device.Device.{Ghosts}
 use Rattle.mt_format.specs.Formats.{IsFormattedAs}
 use Rattle.mt_format.specs.declared.schema.Schema.{Schema}
 use Rattle.mt_frame.specs.declared.slots.MasterSlot.{MasterSlot}
-use Rattle.mt_index.specs.Checks.{bytes_of}
+use Rattle.mt_space.specs.PageLists.{bytes_of}
 use Rattle.mt_live.specs.Machine.{start}
 use Rattle.mt_log.specs.Masters.{IsRuling}
 use Rattle.mt_log.specs.NextSlot.{next_slot}
+use Rattle.mt_log.specs.Quiet.{OnlyReadsOrSyncs}
 use Rattle.mt_model.specs.Model.{Base, IsBase}
 use Rattle.mt_replay.specs.Stands.{CanRestart}
 use Rattle.mt_restart.specs.OfFormat.{SaysOther, SaysUnformatted}
@@ -73,8 +74,8 @@ pub record IsRefusedRightly (c : List ℕ) (why : Refusal) : Type 0 where
   pub formatted : (s : Schema) → IsFormattedAs s c → why ≢ LogFull
 
 -- Why no kernel begins on a device, and the device that is handed back. What a kernel left is refused for want of
--- memory, a failure or a full log alone; and as it was formatted, for no full log. Unless the device failed, its bytes
--- are as they were, and whatever a crash leaves of it represents what they did.
+-- memory, a failure or a full log alone; and as it was formatted, for no full log. Unless the device failed, it was
+-- only read or synced, and whatever a crash leaves of it represents what its bytes did.
 pub record IsNotOpened {D : Type 0} (g : Ghosts D) (device : D) (gone : Refusal × D) : Type 0 where
   pub cause : IsCauseToStop (g.seen device) (g.faults device < g.faults gone.1) gone.0
   pub unformatted : SaysUnformatted (g.seen device) gone.0
@@ -82,6 +83,6 @@ pub record IsNotOpened {D : Type 0} (g : Ghosts D) (device : D) (gone : Refusal 
   pub left : (relations counters : ℕ) (b : Base) → CanRestart relations counters (g.seen device) b
       → (gone.0 ≡ NoMemory) ⊎ ((gone.0 ≡ DeviceFailed) ⊎ (gone.0 ≡ LogFull))
   pub formatted : (s : Schema) → IsFormattedAs s (g.seen device) → gone.0 ≢ LogFull
-  pub unwritten : gone.0 ≢ DeviceFailed → g.seen gone.1 ≡ g.seen device
+  pub reads : gone.0 ≢ DeviceFailed → OnlyReadsOrSyncs g device gone.1
   pub settled : (relations counters : ℕ) (b : Base) → CanRestart relations counters (g.seen device) b
       → gone.0 ≢ DeviceFailed → (c : List ℕ) → g.may_leave gone.1 c → CanRestart relations counters c b

@@ -6,7 +6,7 @@ ghost use Rattle.mt_base.specs.declared.limits.TheConstants.{MAX_PAGES};
 ghost use Rattle.mt_base.specs.declared.format.Format.{Format};
 ghost use Rattle.mt_base.specs.declared.refusal.Refusal.{Refusal};
 ghost use Rattle.mt_disk.specs.Disk.{LeavesOnly, LeavesTheSame};
-ghost use Rattle.mt_index.specs.Checks.{bytes_of};
+ghost use Rattle.mt_space.specs.PageLists.{bytes_of};
 ghost use Rattle.mt_log.specs.Masters.{IsUnformatted};
 ghost use Rattle.mt_model.specs.Model.{Base as ModelBase};
 ghost use Rattle.mt_model.specs.Views.{relations_of};

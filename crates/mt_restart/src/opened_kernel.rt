@@ -2,7 +2,7 @@
 ghost use Rattle.std.specs.Prelude.{◌≡◌, ◌⊎◌, ◌<◌, ℕ, List, false, IfOk, IfErr, MatchResult};
 ghost use Rattle.mt_base.specs.declared.refusal.Refusal.{Refusal};
 ghost use Rattle.mt_disk.specs.Disk.{LeavesOnly};
-ghost use Rattle.mt_index.specs.Checks.{bytes_of};
+ghost use Rattle.mt_space.specs.PageLists.{bytes_of};
 ghost use Rattle.mt_core.specs.Consistent.{IsFresh};
 ghost use Rattle.mt_frame.specs.declared.slots.MasterSlot.{MasterSlot};
 ghost use Rattle.mt_log.specs.Masters.{IsRuling};

@@ -1,10 +1,10 @@
 // Each beginning of a device, with zeros after it. An inspection answers it with a base, that there is no format, or
 // with a place where a rule is broken.
-use crate::devices::{device_of, log_end, put, row_schema};
-use crate::events::{A_ROW, events_of};
 use mt_base::Refusal;
 use mt_disk::{Fill, MemDevice};
 use mt_restart::inspect;
+use mt_test_kit::devices::{device_of, log_end, put, row_schema};
+use mt_test_kit::events::{A_ROW, events_of};
 use mt_world::crash_run;
 use std::alloc::Global;
 use std::test::Fail;

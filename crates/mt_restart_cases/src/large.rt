@@ -1,11 +1,11 @@
 // Two transactions of 200 inserts over log areas of 64 MiB. The second is taken back, while a row of another session
 // is committed between its inserts.
-use crate::devices::device_of;
-use crate::events::{A_LARGE_SPLIT, events_of};
 use mt_base::Refusal;
 use mt_disk::Fill;
 use mt_model::Row;
 use mt_restart::{Schema, inspect};
+use mt_test_kit::devices::device_of;
+use mt_test_kit::events::{A_LARGE_SPLIT, events_of};
 use mt_world::crash_run;
 use std::alloc::Global;
 use std::test::Fail;

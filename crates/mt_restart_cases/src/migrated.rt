@@ -1,10 +1,10 @@
 // A migration that is stopped, over a device of format 1 on which transactions had committed while others were under
 // way.
-use crate::devices::{FILLS, crashed, device_of, inspected, put, row_schema};
-use crate::events::{FOUR_TRANSACTIONS, events_of};
 use mt_base::{Format, Refusal};
 use mt_disk::{Device, FaultDevice, Fill, MemDevice};
 use mt_restart::{migrate, report};
+use mt_test_kit::devices::{FILLS, crashed, device_of, inspected, put, row_schema};
+use mt_test_kit::events::{FOUR_TRANSACTIONS, events_of};
 use mt_world::crash_run;
 use std::alloc::Global;
 use std::test::Fail;

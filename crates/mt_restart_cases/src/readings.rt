@@ -1,9 +1,9 @@
 // How often a report, a check and a survey call the device, which they only read: each of their calls fails in turn.
-use crate::devices::{device_of, put_away, row_schema};
-use crate::events::{FOUR_TRANSACTIONS, events_of};
 use mt_base::Refusal;
 use mt_disk::{FaultDevice, Fill, MemDevice};
 use mt_restart::{check, open, report};
+use mt_test_kit::devices::{device_of, put_away, row_schema};
+use mt_test_kit::events::{FOUR_TRANSACTIONS, events_of};
 use mt_world::crash_run;
 use std::alloc::Global;
 use std::test::Fail;

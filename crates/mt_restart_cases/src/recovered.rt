@@ -1,9 +1,9 @@
 // An opening that is stopped, over a device on which transactions had committed while others were under way.
-use crate::devices::{FILLS, row_schema};
-use crate::events::{FOUR_TRANSACTIONS, events_of};
 use crate::scheduled::stops_of;
 use mt_base::Refusal;
 use mt_disk::Fill;
+use mt_test_kit::devices::{FILLS, row_schema};
+use mt_test_kit::events::{FOUR_TRANSACTIONS, events_of};
 use mt_world::crash_run;
 use std::alloc::Global;
 use std::test::Fail;

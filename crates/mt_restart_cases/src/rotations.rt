@@ -1,11 +1,11 @@
 // A rotation that is refused with 11 leaves the very kernel, which goes on. One that is refused with 1 is for
 // `tests/memory/run`, which refuses each of its requests of memory in turn.
-use crate::devices::{empty_device, put, put_away, row_schema};
-use crate::whole_operations::{Outcome, committed, run};
 use mt_base::{CtrNo, Refusal};
 use mt_disk::MemDevice;
 use mt_model::Op;
 use mt_restart::{Standing, format, open, rotate};
+use mt_test_kit::devices::{empty_device, put, put_away, row_schema};
+use mt_test_kit::whole_operations::{Outcome, committed, run};
 use mt_txn::Kernel;
 use std::alloc::Global;
 use std::test::Fail;

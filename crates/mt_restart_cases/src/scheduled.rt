@@ -1,13 +1,15 @@
 // Lists of events that are stopped at each call of the device after the first event. What each crash leaves then is
 // opened, and each opening is stopped at each of its own calls.
-use crate::devices::{FILLS, crashed, device_of, empty_device, inspected, recovered, row_schema};
-use crate::events::{
-    A_ROTATION, A_ROW, A_SAVEPOINT, A_SPLIT_AND_AN_ABORT, AN_UNFINISHED_ABORT,
-    AN_UNFINISHED_INSERT, AN_UNFINISHED_RETURN, Act, TWO_ADDS, events_of,
-};
 use mt_base::Refusal;
 use mt_disk::{FaultDevice, Fill, MemDevice};
 use mt_restart::Schema;
+use mt_test_kit::devices::{
+    FILLS, crashed, device_of, empty_device, inspected, recovered, row_schema,
+};
+use mt_test_kit::events::{
+    A_ROTATION, A_ROW, A_SAVEPOINT, A_SPLIT_AND_AN_ABORT, AN_UNFINISHED_ABORT,
+    AN_UNFINISHED_INSERT, AN_UNFINISHED_RETURN, Act, TWO_ADDS, events_of,
+};
 use mt_txn::KernelForced;
 use mt_world::{Answer, CrashRun, Event, crash_run, run_schedule};
 use std::alloc::Global;

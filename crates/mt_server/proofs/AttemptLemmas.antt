@@ -1,5 +1,5 @@
 -- The lines of a transaction over a shared kernel.
-use Rattle.std.proofs.Common.{◌≡◌, ◌≢◌, ◌<◌, ◌≤◌, ◌+◌, ◌-◌, ◌^◌, ℕ, suc, List, [], ◌∷◌, ◌++◌, Option, Some, None, Result, Ok, Err, IsSome, arith, length, take, drop, get_or, refl, ap, sym, subst, ◌∙◌, append-nil, length-drop, take-append-drop}
+use Rattle.std.proofs.Common.{⊎_elim, inl, inr, ◌≡◌, ◌≢◌, ◌<◌, ◌≤◌, ◌+◌, ◌-◌, ◌^◌, ℕ, suc, List, [], ◌∷◌, ◌++◌, Option, Some, None, Result, Ok, Err, IsSome, arith, length, take, drop, get_or, refl, ap, sym, subst, ◌∙◌, append-nil, length-drop, take-append-drop}
 use Rattle.std.proofs.Math.Seq.{drop-cons, take-suc, take-length}
 use mathlib.Core.List.{IsPrefix}
 use Rattle.mt_base.specs.declared.refusal.Refusal.{Refusal}
@@ -12,16 +12,18 @@ use Rattle.mt_script.specs.declared.answers.Answer.{Answer}
 use Rattle.mt_script.specs.declared.answers.Answer.TheVariants.{Begun, Refused}
 use Rattle.mt_script.specs.declared.lines.Line.{Line}
 use Rattle.mt_script.specs.declared.lines.Line.TheVariants as line
-use Rattle.mt_alone.specs.Plays.{OpenCalls, starts, goes_on, no_calls}
+use Rattle.mt_model.specs.Backwards.{OpenCalls, no_calls}
+use Rattle.mt_alone.specs.Plays.{starts, goes_on}
 use Rattle.mt_server.specs.Heard.{IsRefusable, begins, refuses}
-use Rattle.mt_server.specs.Hearing.{AreFew, Place, Ending, HasRan, HasServed, IsStopped, IsTurned, Reached, Running, Turning, Turns, and_begin, between, open_calls, token_of, within}
+use Rattle.mt_server.specs.Hearing.{AreFew, CommitsUnheard, Place, Ending, HasRan, HasServed, IsStopped, IsTurned, IsUnheardCommit, Reached, Running, Turning, Turns, and_begin, between, entry_of, token_of, within}
 use Rattle.mt_server.specs.declared.attempts.Progress.{Progress}
 use Rattle.mt_server.specs.declared.attempts.Progress.TheVariants as progress
 use Rattle.mt_server.specs.declared.line_answers.Halt.{Halt}
 use Rattle.mt_server.specs.declared.line_answers.Halt.TheVariants as halt
 use Rattle.mt_alone.proofs.TranscriptLemmas.{all_reported, none_reported, runs_then}
-use Rattle.mt_locked.specs.Seen.{PassSeen}
-use Rattle.mt_locked.specs.Tokens.{TxnSeen, fresh}
+use Rattle.mt_locked.specs.Seen.{Extends, PassSeen}
+use Rattle.mt_locked.specs.Tokens.{TxnSeen, entry_of as entry_in, fresh, open_calls}
+use Rattle.mt_mark.specs.declared.view.Entry.{Entry}
 
 module _ (b : Base) (session : ℕ) where
   pub none_served : (start : Place) (was : List ℕ) → HasServed b session start [] was was start
@@ -80,10 +82,10 @@ module _ (b : Base) (session : ℕ) where
   pub ended_at : (start : Place) (lines : List Line) (n : ℕ) (was now : List ℕ) (new : PassSeen) → n ≤ length lines → Reached b session start (take n lines) was now None new → HasRan b session start lines was now new (progress.Ended n)
   ended_at start lines n was now new le r = (r.end, r.pass_is, r.at, le, r.served)
 
-  pub stopped_at : (start : Place) (lines : List Line) (n : ℕ) (l : Line) (was mid now : List ℕ) (t : TxnSeen) (pass new : PassSeen) (s : Halt) → pass ≡ start.pass → Reached b session start (take n lines) was mid (Some t) pass
-      → Turning b t pass l mid now new (Err s) → Running b session start lines was now new (Err s)
-  stopped_at start lines n l was mid now t pass new halt.Died same r (stays, front) = (stays ∙ same, prefix_trans was mid now (served_prefix start r.end (take n lines) was mid r.served) front)
-  stopped_at start lines n l was mid now t pass new halt.Failed same r (stays, text) = record {
+  stopped_so : (start : Place) (lines : List Line) (n : ℕ) (was mid now : List ℕ) (t : TxnSeen) (pass new : PassSeen) (s : Halt) → pass ≡ start.pass → Reached b session start (take n lines) was mid (Some t) pass
+      → IsStopped pass mid now new s → Running b session start lines was now new (Err s)
+  stopped_so start lines n was mid now t pass new halt.Died same r (stays, front) = (stays ∙ same, prefix_trans was mid now (served_prefix start r.end (take n lines) was mid r.served) front)
+  stopped_so start lines n was mid now t pass new halt.Failed same r (stays, text) = record {
     before = take n lines;
     rest = drop n lines;
     split = sym (take-append-drop n lines);
@@ -93,15 +95,44 @@ module _ (b : Base) (session : ℕ) where
     served = r.served;
     text = text;
   }
-  stopped_at start lines n l was mid now t pass new halt.Unheard same r stopped = tt
+  stopped_so start lines n was mid now t pass new halt.Unheard same r stays = inl (stays ∙ same)
 
-  pub at_end : (start : Place) (lines : List Line) (was mid now : List ℕ) (t : TxnSeen) (pass new : PassSeen) (result : Result Progress Halt) → Reached b session start (take (length lines) lines) was mid (Some t) pass
+  -- a commit after these lines whose answer is not heard
+  committed_at : (start : Place) (lines : List Line) (n : ℕ) (l : Line) (was mid : List ℕ) (t : TxnSeen) (pass new : PassSeen) (place : ℕ) → n < length lines → l ≡ get_or lines n l → l ≡ line.Commit → Reached b session start (take n lines) was mid (Some t) pass
+      → Extends b pass (entry_in t) place new → CommitsUnheard b session start lines was new
+  committed_at start lines n l was mid t pass new place lt is commit r extends =
+      let own = own_at t pass r in
+      let e : entry_in t ≡ entry_of pass.number session t.done.calls = λ i. record { pass = own.0 i; done = record { session = own.1 i; calls = t.done.calls } } in
+      record {
+        before = take n lines;
+        rest = drop (suc n) lines;
+        split = sym (take-append-drop n lines) ∙ ap (λ (ys : List Line). take n lines ++ ys) (drop-cons lines n l lt ∙ ap (λ (y : Line). y ∷ drop (suc n) lines) (sym is ∙ commit));
+        end = r.end;
+        mid = mid;
+        served = r.served;
+        place = place;
+        grows = (
+          open_calls t,
+          r.at.0,
+          subst (λ (p : PassSeen). Extends b p (entry_of p.number session t.done.calls) place new) (sym r.pass_is) (subst (λ (x : Entry). Extends b pass x place new) e extends),
+        );
+      }
+
+  pub stopped_at : (start : Place) (lines : List Line) (n : ℕ) (l : Line) (was mid now : List ℕ) (t : TxnSeen) (pass new : PassSeen) (s : Halt) → n < length lines → l ≡ get_or lines n l → pass ≡ start.pass → Reached b session start (take n lines) was mid (Some t) pass
+      → Turning b t pass l mid now new (Err s) → Running b session start lines was now new (Err s)
+  stopped_at start lines n l was mid now t pass new s lt is same r turning = ⊎_elim
+      (λ (stops : IsStopped pass mid now new s). stopped_so start lines n was mid now t pass new s same r stops)
+      (λ (unheard : IsUnheardCommit b t pass l new s). subst (λ (x : Halt). Running b session start lines was now new (Err x)) (sym unheard.0)
+      (inr (committed_at start lines n l was mid t pass new unheard.2.0 lt is unheard.1 r unheard.2.1)))
+      turning
+
+  pub at_end : (start : Place) (lines : List Line) (was mid now : List ℕ) (t : TxnSeen) (pass new : PassSeen) (result : Result Progress Halt) → pass ≡ start.pass → Reached b session start (take (length lines) lines) was mid (Some t) pass
       → Ending pass mid now new result → Running b session start lines was now new result
-  at_end start lines was mid now t pass new (Ok (progress.Ended count)) r ends = absurd ends
-  at_end start lines was mid now t pass new (Ok progress.AtEnd) r (stays, text) =
+  at_end start lines was mid now t pass new (Ok (progress.Ended count)) same r ends = absurd ends
+  at_end start lines was mid now t pass new (Ok progress.AtEnd) same r (stays, text) =
       (r.end, mid, r.pass_is ∙ sym stays, subst (λ (u : Option OpenCalls). IsSome u) (sym r.at.0) refl, subst (λ (ls : List Line). HasServed b session start ls was mid r.end) (take-length lines) r.served, text)
-  at_end start lines was mid now t pass new (Err halt.Died) r ends = absurd ends
-  at_end start lines was mid now t pass new (Err halt.Failed) r (stays, text) = record {
+  at_end start lines was mid now t pass new (Err halt.Died) same r ends = absurd ends
+  at_end start lines was mid now t pass new (Err halt.Failed) same r (stays, text) = record {
     before = lines;
     rest = [];
     split = sym (append-nil lines);
@@ -111,7 +142,7 @@ module _ (b : Base) (session : ℕ) where
     served = subst (λ (ls : List Line). HasServed b session start ls was mid r.end) (take-length lines) r.served;
     text = text;
   }
-  at_end start lines was mid now t pass new (Err halt.Unheard) r ends = tt
+  at_end start lines was mid now t pass new (Err halt.Unheard) same r stays = inl (stays ∙ same)
 
   -- ---- from the begin on
 
@@ -141,7 +172,17 @@ module _ (b : Base) (session : ℕ) where
     served = served_then (between booked pass) (within booked no_calls pass) f.end (line.Begin ∷ []) f.before was mid f.mid (begun booked pass was mid text) f.served;
     text = f.text;
   }
-  run_behind booked pass lines was mid now new (Err halt.Unheard) text u = tt
+  run_behind booked pass lines was mid now new (Err halt.Unheard) text (inl same) = inl same
+  run_behind booked pass lines was mid now new (Err halt.Unheard) text (inr u) = inr (record {
+    before = line.Begin ∷ u.before;
+    rest = u.rest;
+    split = ap (λ (ls : List Line). line.Begin ∷ ls) u.split;
+    end = u.end;
+    mid = u.mid;
+    served = served_then (between booked pass) (within booked no_calls pass) u.end (line.Begin ∷ []) u.before was mid u.mid (begun booked pass was mid text) u.served;
+    place = u.place;
+    grows = u.grows;
+  })
 
   pub begin_refused : (booked : List (ℕ × List Call)) (pass new : PassSeen) (lines : List Line) (why : Refusal) (was now : List ℕ) → IsRefusable None line.Begin why → new ≡ pass → now ≡ was ++ transcript_text (Refused why ∷ [])
       → HasRan b session (between booked pass) (line.Begin ∷ lines) was now new (progress.Ended 1)
@@ -161,11 +202,11 @@ module _ (b : Base) (session : ℕ) where
     served = none_served (between booked pass) was;
     text = (stops pass).1;
   }
-  begin_failed booked pass new lines was now halt.Unheard same lives stops = tt
+  begin_failed booked pass new lines was now halt.Unheard same lives stops = inl same
 
-  -- an answer that found no memory says nothing
-  pub unheard : (start : Place) (lines : List Line) (was now : List ℕ) (new : PassSeen) (s : Halt) → s ≡ halt.Unheard → Running b session start lines was now new (Err s)
-  unheard start lines was now new s is = subst (λ (x : Halt). Running b session start lines was now new (Err x)) (sym is) tt
+  -- an answer found no memory, and nothing more is seen
+  pub unheard : (start : Place) (lines : List Line) (was now : List ℕ) (new : PassSeen) (s : Halt) → s ≡ halt.Unheard → new ≡ start.pass → Running b session start lines was now new (Err s)
+  unheard start lines was now new s is same = subst (λ (x : Halt). Running b session start lines was now new (Err x)) (sym is) (inl same)
 
   -- with the token that the begin gave
   pub run_fresh : (booked : List (ℕ × List Call)) (pass at : PassSeen) (txn : TxnSeen) (lines : List Line) (was mid now : List ℕ) (new : PassSeen) (result : Result Progress Halt) → at ≡ pass → txn ≡ fresh pass.number session → mid ≡ was ++ transcript_text (Begun ∷ [])

@@ -11,8 +11,9 @@ use Rattle.mt_model.specs.declared.history.Committed.{Committed}
 use Rattle.mt_model.specs.declared.tables.Base.{Base}
 use Rattle.mt_script.specs.declared.answers.Answer.{Answer}
 use Rattle.mt_script.specs.declared.lines.Line.{Line}
-use Rattle.mt_alone.specs.Plays.{OpenCalls, Runs, starts, goes_on, no_calls, with_one}
-use Rattle.mt_server.specs.Heard.{Heard, silence, back_at, Hears, begins, replies, saves, goes_back, commits, aborts, dies, refuses, StandsAt, Rise, nowhere, higher, IsEnd, ends, fails, IsReported}
+use Rattle.mt_model.specs.Backwards.{OpenCalls, back_to, no_calls, with_one}
+use Rattle.mt_alone.specs.Plays.{Runs, starts, goes_on}
+use Rattle.mt_server.specs.Heard.{Heard, silence, Hears, begins, replies, saves, goes_back, commits, aborts, dies, refuses, StandsAt, Rise, nowhere, higher, IsEnd, ends, fails, IsReported}
 use Rattle.mt_server.specs.Hearing.{Place, entry_of, Grows, IsSession, Served}
 use Rattle.mt_locked.specs.Seen.{PassSeen, Extends}
 
@@ -163,7 +164,7 @@ turn_stood : (b : Base) (session : ℕ) (old : PassSeen) (p : Place) (l : Line) 
 turn_stood b session old p _ _ _ pass s (begins none) same = same_stood session old p (Some no_calls) pass same s
 turn_stood b session old p _ _ _ pass s (replies calls op reply live sized) same = same_stood session old p (Some (with_one calls (op, reply))) pass same s
 turn_stood b session old p _ _ _ pass s (saves calls live) same = same_stood session old p p.heard.under_way pass same s
-turn_stood b session old p _ _ _ pass s (goes_back calls first live enough) same = same_stood session old p (Some (back_at calls first)) pass same s
+turn_stood b session old p _ _ _ pass s (goes_back calls first live enough) same = same_stood session old p (Some (back_to calls first)) pass same s
 turn_stood b session old p _ _ _ pass s (commits calls place live) (own, opened, x) =
     let same : own ≡ calls = some_same own calls (sym opened ∙ live) in
     more_stood b session old p place calls.all pass (subst (λ (o : OpenCalls). Extends b p.pass (entry_of p.pass.number session o.all) place pass) same x) s

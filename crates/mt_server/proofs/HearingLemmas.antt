@@ -1,5 +1,5 @@
 -- A line of a transaction over a shared kernel, and the lines of a transaction.
-use Rattle.std.proofs.Common.{◌≡◌, ◌≢◌, ◌≤◌, ℕ, List, [], ◌∷◌, ◌++◌, Option, Some, None, Result, Ok, Err, length, refl, ap, sym, subst, ◌∙◌}
+use Rattle.std.proofs.Common.{inl, inr, ◌≡◌, ◌≢◌, ◌≤◌, ℕ, List, [], ◌∷◌, ◌++◌, Option, Some, None, Result, Ok, Err, length, refl, ap, sym, subst, ◌∙◌}
 use Rattle.mt_base.specs.declared.refusal.Refusal.{Refusal}
 use Rattle.mt_base.specs.declared.refusal.Refusal.TheVariants as refusal
 use Rattle.mt_mark.specs.declared.view.Entry.{Entry}
@@ -13,11 +13,11 @@ use Rattle.mt_script.specs.declared.answers.Answer.TheVariants.{Replied, Saved, 
 use Rattle.mt_script.specs.declared.lines.Line.{Line}
 use Rattle.mt_script.specs.declared.lines.Line.TheVariants as line
 use Rattle.mt_server.specs.Heard.{Hears, replies, saves, goes_back, commits, aborts, dies, refuses, IsRefusable, LetsGoOn, LetsLive}
-use Rattle.mt_server.specs.Hearing.{Place, Ending, Grows, entry_of, IsAt, IsStopped, Telling, Turning, Waits, between, open_calls, token_of, within}
+use Rattle.mt_server.specs.Hearing.{Place, Ending, Grows, entry_of, IsAt, IsStopped, Telling, Turning, Waits, between, token_of, within}
 use Rattle.mt_server.specs.declared.line_answers.Halt.{Halt}
 use Rattle.mt_server.specs.declared.line_answers.Halt.TheVariants as halt
 use Rattle.mt_locked.specs.Seen.{PassSeen, Extends}
-use Rattle.mt_locked.specs.Tokens.{TxnSeen, entry_of as entry_in, went_back, with_call}
+use Rattle.mt_locked.specs.Tokens.{TxnSeen, entry_of as entry_in, went_back, with_call, open_calls}
 use Rattle.mt_txn.specs.Causes.{size_cause}
 
 -- what is neither 2 nor 14
@@ -59,7 +59,7 @@ module _ (b : Base) (txn : TxnSeen) (pass : PassSeen) (own : txn.pass ≡ pass.n
         turns = record { hears = hears booked; grows = grows booked stays };
         text = text;
       }
-  goes_on l answer t was now new (Err s) mine same_session hears grows stopped = stopped
+  goes_on l answer t was now new (Err s) mine same_session hears grows stopped = inl stopped
 
   pub reported_refused : (l : Line) (why : Refusal) (was now : List ℕ) (new : PassSeen) (r : Result (Option TxnSeen) Halt) → IsRefusable (Some (open_calls txn)) l why → Telling txn pass was now new (Refused why) r → Turning b txn pass l was now new r
   reported_refused l why was now new r may tells =
@@ -112,10 +112,21 @@ module _ (b : Base) (txn : TxnSeen) (pass : PassSeen) (own : txn.pass ≡ pass.n
         text = text;
       }
 
+-- what stops a line in a transaction, as the end of any
+pub stops_line : (b : Base) (txn : TxnSeen) (pass new : PassSeen) (l : Line) (was now : List ℕ) (s : Halt) → new ≡ pass → ((p : PassSeen) → IsStopped p was now p s) → Turning b txn pass l was now new (Err s)
+stops_line b txn pass new l was now s same stops = inl (stops_behind pass new was now s same stops)
+
+-- an answer found no memory, and nothing more is seen
+pub unheard_line : (b : Base) (txn : TxnSeen) (pass new : PassSeen) (l : Line) (was now : List ℕ) (s : Halt) → s ≡ halt.Unheard → new ≡ pass → Turning b txn pass l was now new (Err s)
+unheard_line b txn pass new l was now s is same = subst (λ (x : Halt). Turning b txn pass l was now new (Err x)) (sym is) (inl same)
+
+pub unheard_commit : (b : Base) (txn : TxnSeen) (pass new : PassSeen) (was now : List ℕ) (place : ℕ) (s : Halt) → s ≡ halt.Unheard → Extends b pass (entry_in txn) place new → Turning b txn pass line.Commit was now new (Err s)
+unheard_commit b txn pass new was now place s is extends = inr (is, refl, (place, extends))
+
 pub fails_at_end : (pass new : PassSeen) (was now : List ℕ) (s : Halt) → new ≡ pass → s ≢ halt.Died → ((p : PassSeen) → IsStopped p was now p s) → Ending pass was now new (Err s)
 fails_at_end pass new was now halt.Died same lives stops = absurd (lives refl)
 fails_at_end pass new was now halt.Failed same lives stops = (same, (stops pass).1)
-fails_at_end pass new was now halt.Unheard same lives stops = tt
+fails_at_end pass new was now halt.Unheard same lives stops = same
 
 pub same_turning : (b : Base) (pass : PassSeen) (l : Line) (was now : List ℕ) (new : PassSeen) (r : Result (Option TxnSeen) Halt) (t txn : TxnSeen) → t ≡ txn → Turning b t pass l was now new r → Turning b txn pass l was now new r
 same_turning b pass l was now new r t txn same turns = subst (λ (e : TxnSeen). Turning b e pass l was now new r) same turns

@@ -8,7 +8,7 @@ use Rattle.mt_script.specs.declared.answers.Answer.{Answer}
 use Rattle.mt_script.specs.declared.answers.Answer.TheVariants.{Aborted}
 use Rattle.mt_script.specs.declared.lines.Line.{Line}
 use Rattle.mt_server.specs.Heard.{IsEnd, ends, fails}
-use Rattle.mt_alone.specs.Plays.{OpenCalls}
+use Rattle.mt_model.specs.Backwards.{OpenCalls}
 use Rattle.mt_alone.specs.Runs.{last_line}
 use Rattle.mt_server.specs.Hearing.{HasFailed, HasRan, HasServed, IsSession, Place, Reached, between}
 use Rattle.mt_server.specs.declared.attempts.Progress.TheVariants as progress

@@ -1,8 +1,7 @@
 -- What sessions over a shared kernel are answered, and what the history has of them.
-use Rattle.std.specs.Prelude.{Bool, true, ℕ, ◌≡◌, ◌<◌, ◌≤◌, ◌+◌, List, [], ◌∷◌, ◌++◌, drop, length, take, Option, Some, None, All, get_or}
+use Rattle.std.specs.Prelude.{Bool, true, ℕ, ◌≡◌, ◌<◌, ◌≤◌, ◌+◌, List, [], ◌∷◌, ◌++◌, length, Option, Some, None, All, get_or}
 use Rattle.mt_base.specs.declared.refusal.Refusal.{Refusal}
 use Rattle.mt_base.specs.declared.refusal.Refusal.TheVariants as refusal
-use Rattle.mt_model.specs.Backwards.{calls_back}
 use Rattle.mt_model.specs.History.{Call}
 use Rattle.mt_model.specs.declared.history.Committed.{Committed}
 use Rattle.mt_model.specs.declared.operations.Op.{Op}
@@ -12,7 +11,8 @@ use Rattle.mt_script.specs.declared.answers.Answer.{Answer}
 use Rattle.mt_script.specs.declared.answers.Answer.TheVariants.{Begun, Replied, Saved, Back, Committed as CommittedAt, Aborted, Refused}
 use Rattle.mt_script.specs.declared.lines.Line.{Line}
 use Rattle.mt_script.specs.declared.lines.Line.TheVariants as line
-use Rattle.mt_alone.specs.Plays.{OpenCalls, Runs, no_calls, with_one}
+use Rattle.mt_model.specs.Backwards.{OpenCalls, back_to, no_calls, with_one}
+use Rattle.mt_alone.specs.Plays.{Runs}
 use Rattle.mt_alone.specs.Runs.{last_line}
 use Rattle.mt_locked.specs.Refusals.{IsBackRefusal, IsBeginRefusal, IsCommitRefusal}
 use Rattle.mt_shared.specs.Refusals.{IsSavepointCause}
@@ -57,12 +57,6 @@ IsRefusable (Some calls) (line.Back first) why =
 IsRefusable (Some calls) line.Commit why = LetsGoOn why × IsCommitRefusal why
 IsRefusable (Some calls) line.Abort why = ⊥
 
--- The calls once the transaction went back to the first so many that count. The inverses of the others are calls then,
--- the last one's first.
-abbrev pub back_at : OpenCalls → ℕ → OpenCalls
-back_at calls first =
-    record { all = calls.all ++ calls_back (drop first calls.counted); counted = take first calls.counted }
-
 -- An answer to a line. What is replied to lies within its limits. A save counts the operations that count. What going
 -- back takes back counts no more, and its inverses are calls. A commit keeps the calls since the begin, these among
 -- them; a transaction that dies is gone.
@@ -72,7 +66,7 @@ pub data Hears (h : Heard) : Line → Answer → Heard → Type 0 where
       → Hears h (line.Call op) (Replied reply) (record h { under_way = Some (with_one calls (op, reply)) })
   saves : (calls : OpenCalls) → h.under_way ≡ Some calls → Hears h line.Save (Saved (length calls.counted)) h
   goes_back : (calls : OpenCalls) (first : ℕ) → h.under_way ≡ Some calls → first ≤ length calls.counted
-      → Hears h (line.Back first) (Back first) (record h { under_way = Some (back_at calls first) })
+      → Hears h (line.Back first) (Back first) (record h { under_way = Some (back_to calls first) })
   commits : (calls : OpenCalls) (place : ℕ) → h.under_way ≡ Some calls → Hears h line.Commit (CommittedAt place)
       (record { under_way = None; booked = h.booked ++ (place, calls.all) ∷ [] })
   aborts : (calls : OpenCalls) → h.under_way ≡ Some calls → Hears h line.Abort Aborted (record h { under_way = None })

@@ -1,5 +1,5 @@
 -- How a session goes on over a shared kernel, beside what its pass sees.
-use Rattle.std.specs.Prelude.{Bool, ℕ, suc, ◌≡◌, ◌≤◌, ◌<◌, ◌+◌, ◌^◌, List, [], ◌∷◌, ◌++◌, length, take, Option, Some, None, IsSome, Result, Ok, Err}
+use Rattle.std.specs.Prelude.{Bool, ℕ, suc, ◌≡◌, ◌⊎◌, ◌≤◌, ◌<◌, ◌+◌, ◌^◌, List, [], ◌∷◌, ◌++◌, length, take, Option, Some, None, IsSome, Result, Ok, Err}
 use mathlib.Core.List.{IsPrefix}
 use Rattle.mt_base.specs.declared.refusal.Refusal.TheVariants as refusal
 use Rattle.mt_mark.specs.declared.view.Entry.{Entry}
@@ -9,14 +9,16 @@ use Rattle.mt_script.specs.Answers.{transcript_text}
 use Rattle.mt_script.specs.declared.answers.Answer.{Answer}
 use Rattle.mt_script.specs.declared.answers.Answer.TheVariants.{Begun, Replied, Saved, Back, Committed as CommittedAt, Aborted, Refused}
 use Rattle.mt_script.specs.declared.lines.Line.{Line}
+use Rattle.mt_script.specs.declared.lines.Line.TheVariants as line_of
 use Rattle.mt_server.specs.Heard.{Heard, Hears, IsEnd}
-use Rattle.mt_alone.specs.Plays.{OpenCalls, Runs}
+use Rattle.mt_model.specs.Backwards.{OpenCalls}
+use Rattle.mt_alone.specs.Plays.{Runs}
 use Rattle.mt_server.specs.declared.attempts.Progress.{Progress}
 use Rattle.mt_server.specs.declared.attempts.Progress.TheVariants as progress
 use Rattle.mt_server.specs.declared.line_answers.Halt.{Halt}
 use Rattle.mt_server.specs.declared.line_answers.Halt.TheVariants as halt
 use Rattle.mt_locked.specs.Seen.{PassSeen, Extends}
-use Rattle.mt_locked.specs.Tokens.{TxnSeen}
+use Rattle.mt_locked.specs.Tokens.{TxnSeen, entry_of as entry_in, open_calls}
 
 -- ---- a session beside its pass
 
@@ -63,10 +65,7 @@ pub record HasServed (b : Base) (session : ℕ) (start : Place) (lines : List Li
 
 -- ---- a line
 
--- the calls of a token's transaction, and the token of one with these calls
-abbrev pub open_calls : TxnSeen → OpenCalls
-open_calls t = record { all = t.done.calls; counted = t.standing }
-
+-- the token of a transaction with these calls
 abbrev pub token_of : ℕ → ℕ → OpenCalls → TxnSeen
 token_of pass session calls =
     record { pass = pass; done = record { session = session; calls = calls.all }; standing = calls.counted }
@@ -94,18 +93,24 @@ pub record IsTurned (b : Base) (session : ℕ) (start : Place) (line : Line) (wa
   pub text : now ≡ was ++ transcript_text (answer ∷ [])
 
 -- or it was not: the transaction died, and is taken back; the device failed, and that is reported; or the answer
--- found no memory
+-- found no memory. Nothing more is seen then.
 abbrev pub IsStopped : PassSeen → List ℕ → List ℕ → PassSeen → Halt → Type 0
 IsStopped pass was now new halt.Died = (new ≡ pass) × IsPrefix was now
 IsStopped pass was now new halt.Failed =
     (new ≡ pass) × (now ≡ was ++ transcript_text (Refused refusal.DeviceFailed ∷ []))
-IsStopped pass was now new halt.Unheard = Unit {0}
+IsStopped pass was now new halt.Unheard = new ≡ pass
+
+-- A commit was made whose answer found no memory.
+abbrev pub IsUnheardCommit : Base → TxnSeen → PassSeen → Line → PassSeen → Halt → Type 0
+IsUnheardCommit b txn pass line new stop = (stop ≡ halt.Unheard) × (line ≡ line_of.Commit)
+    × ((place : ℕ) × Extends b pass (entry_in txn) place new)
 
 abbrev pub Turning : Base → TxnSeen → PassSeen → Line → List ℕ → List ℕ → PassSeen
     → Result (Option TxnSeen) Halt → Type 0
 Turning b txn pass line was now new (Ok token) = (booked : List (ℕ × List Call))
     → IsTurned b txn.done.session (within booked (open_calls txn) pass) line was now token new
-Turning b txn pass line was now new (Err stop) = IsStopped pass was now new stop
+Turning b txn pass line was now new (Err stop) =
+    IsStopped pass was now new stop ⊎ IsUnheardCommit b txn pass line new stop
 
 -- what a line may come to if it only has an answer, and the transaction goes on
 abbrev pub Telling : TxnSeen → PassSeen → List ℕ → List ℕ → PassSeen → Answer → Result (Option TxnSeen) Halt → Type 0
@@ -143,11 +148,24 @@ pub record HasFailed (b : Base) (session : ℕ) (start : Place) (lines : List Li
   pub served : HasServed b session start before was mid end
   pub text : now ≡ mid ++ transcript_text (Refused refusal.DeviceFailed ∷ [])
 
+-- or a commit was made after these lines were answered, and its answer found no memory
+pub record CommitsUnheard (b : Base) (session : ℕ) (start : Place) (lines : List Line) (was : List ℕ)
+    (new : PassSeen) : Type 0 where
+  pub before : List Line
+  pub rest : List Line
+  pub split : lines ≡ before ++ line_of.Commit ∷ rest
+  pub end : Place
+  pub mid : List ℕ
+  pub served : HasServed b session start before was mid end
+  pub place : ℕ
+  pub grows : Grows b session end (CommittedAt place) new
+
 abbrev pub Running : Base → ℕ → Place → List Line → List ℕ → List ℕ → PassSeen → Result Progress Halt → Type 0
 Running b session start lines was now new (Ok ran) = HasRan b session start lines was now new ran
 Running b session start lines was now new (Err halt.Died) = (new ≡ start.pass) × IsPrefix was now
 Running b session start lines was now new (Err halt.Failed) = HasFailed b session start lines was now new
-Running b session start lines was now new (Err halt.Unheard) = Unit {0}
+Running b session start lines was now new (Err halt.Unheard) =
+    (new ≡ start.pass) ⊎ CommitsUnheard b session start lines was new
 
 -- its begin stands before these lines
 abbrev pub and_begin : Result Progress Halt → Result Progress Halt
@@ -167,7 +185,7 @@ Ending pass was now new (Ok progress.AtEnd) = (new ≡ pass) × (now ≡ was ++ 
 Ending pass was now new (Err halt.Died) = ⊥
 Ending pass was now new (Err halt.Failed) =
     (new ≡ pass) × (now ≡ was ++ transcript_text (Refused refusal.DeviceFailed ∷ []))
-Ending pass was now new (Err halt.Unheard) = Unit {0}
+Ending pass was now new (Err halt.Unheard) = new ≡ pass
 
 -- ---- a session
 

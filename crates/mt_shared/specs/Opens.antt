@@ -1,8 +1,9 @@
 -- A device that is opened to be shared.
-use Rattle.std.specs.Prelude.{ℕ, ◌≡◌, List, All, length}
+use Rattle.std.specs.Prelude.{ℕ, ◌≡◌, false, List, All, length}
 use Rattle.atomic_table.specs.Seated.{TableId}
 use Rattle.mt_base.specs.declared.refusal.Refusal.{Refusal}
 use Rattle.mt_disk.specs.declared.device.Device.{Ghosts}
+use Rattle.mt_live.specs.Machine.{start}
 use Rattle.mt_locked.specs.Began.{BeganOn}
 use Rattle.mt_locked.specs.Seen.{Beside}
 use Rattle.mt_mark.specs.Held.{Held}
@@ -15,7 +16,7 @@ use Rattle.mt_replay.specs.Stands.{CanRestart}
 use Rattle.mt_restart.specs.Recovered.{IsCauseToStop}
 use Rattle.mt_restart.specs.Resumed.{IsRefusedRightly}
 use Rattle.mt_steps.specs.Listed.{IsSame}
-use Rattle.mt_txn.specs.Seen.{KernelSeen}
+use Rattle.mt_txn.specs.Seen.{KernelSeen, ShowsSeen, has_failed_in}
 use Rattle.mt_txn.specs.Shown.{kernel_frames}
 use Rattle.mt_txn.specs.declared.kernel.Kernel.{Kernel}
 
@@ -35,6 +36,11 @@ pub record IsUnshared (c : List ℕ) (failed : Type 0) (why : Refusal) : Type 0 
 abbrev pub HasBegunWith : {D : Type 0} → Ghosts D → ℕ → Base → Type 0
 HasBegunWith {D} g frames base =
     ∥ ((k : Kernel D g) × (kernel_frames k ≡ frames) × BeganOn base k) ∥₁
+
+-- nothing has happened in a kernel that began on this base, and it has not failed
+pub record IsJustOpened {D : Type 0} (g : Ghosts D) (base : model.Base) (k : KernelSeen D) : Type 0 where
+  pub shows : ShowsSeen g base (start base) k
+  pub well : has_failed_in k ≡ false
 
 -- which mark it is, its kernel, with its first base, book and frames, and how many passes there are to be
 pub record OpenedSeen (D : Type 0) : Type 0 where

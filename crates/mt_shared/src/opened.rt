@@ -11,7 +11,7 @@ ghost use Rattle.mt_restart.specs.Frames.{IsFrameCount};
 ghost use Rattle.mt_restart.specs.Recovered.{StandsStill};
 ghost use Rattle.mt_restart.specs.Resumed.{HasTurnedOver, IsRestoredBase};
 ghost use Rattle.mt_locked.specs.Began.{BeganOn};
-ghost use Rattle.mt_shared.specs.Opens.{HasBegunWith, IsBaseOf, IsMarked, IsUnshared};
+ghost use Rattle.mt_shared.specs.Opens.{HasBegunWith, IsBaseOf, IsJustOpened, IsMarked, IsUnshared};
 ghost use Rattle.mt_locked.specs.Seen.{PassSeen};
 ghost use Rattle.mt_locked.specs.Whole.{IsNew};
 ghost use Rattle.mt_core.specs.Seen.{core_device};
@@ -138,6 +138,8 @@ impl<D: Device + Drop> Opened<D> {
         ensures first { IfOk result (λ opened. opened.book ≡ []) }
         ensures many { IfOk result (λ opened. opened.count ≡ count) }
         ensures frames { IfOk result (λ opened. opened.frames ≡ frames) }
+        // Nothing has happened in its kernel yet: no transaction is active, and it has not failed.
+        ensures opened { IfOk result (λ opened. IsJustOpened D.Device (base_of opened.base) opened.kernel) }
         // Of any bytes it begins on the base that the passes of a restart leave in memory.
         ensures restored { IfOk result (λ opened. IsRestoredBase (D.seen device) (base_of opened.base)) }
         // The log turns over once.

@@ -1,3 +1,4 @@
 pub mod Kinds
 pub mod Rooms
 pub mod Changes
+pub mod PageLists

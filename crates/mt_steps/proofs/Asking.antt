@@ -1,13 +1,13 @@
 -- Pages that a plan asks for, and that they are among those that there are.
-use Rattle.std.proofs.Common.{◌≡◌, ◌≢◌, inl, inr, ⊎_elim, Bool, ℕ, ◌<◌, ◌≤◌, ◌+◌, List, [], ◌∷◌, Option, None, Some, refl, ap, sym, ◌∙◌, subst, arith}
-use Rattle.std.specs.Prelude.{IsSome}
-use Rattle.std.proofs.lemmas.List.Elements.{All-cons, All-nil}
+use Rattle.std.proofs.Common.{◌≡◌, ◌≢◌, inl, inr, ⊎_elim, Bool, ℕ, ◌<◌, ◌≤◌, ◌+◌, List, [], Option, None, Some, refl, ap, sym, ◌∙◌, subst, arith}
+use mathlib.Core.Logic.{∥∥₁_elim}
+use Rattle.std.proofs.Props.{props}
 use Rattle.mt_base.specs.declared.modes.Mode.{Mode}
 use Rattle.mt_base.specs.declared.modes.Mode.TheVariants.{Read, Write}
 use Rattle.mt_base.specs.declared.numbers.RecordName.{RecordName}
 use Rattle.mt_slots.specs.Page.{Row}
 use Rattle.mt_space.specs.declared.changes.PageChange.{PageChange}
-use Rattle.mt_space.specs.Changes.{PageBytes, IsUntouched}
+use Rattle.mt_space.specs.Changes.{Agrees, PageBytes}
 use Rattle.mt_space.specs.Kinds.{kind}
 use Rattle.mt_file.specs.File.{record_in}
 use Rattle.mt_file.specs.declared.step.Plan.{Plan}
@@ -22,12 +22,14 @@ use Rattle.mt_index.specs.declared.answers.Add.TheVariants as add
 use Rattle.mt_index.specs.declared.answers.Amend.{Amend}
 use Rattle.mt_index.specs.declared.answers.Amend.TheVariants as amend
 use Rattle.mt_index.specs.Answers.{IsInBucket, IsInAdd, AddNeeds, AmendNeeds, AreSeen}
-use Rattle.mt_steps.specs.declared.overlay.PageCopy.{PageCopy}
-use Rattle.mt_steps.specs.Overlays.{AreAtHand, AreCopies, shown}
+use Rattle.mt_overlay.specs.declared.overlay.PageCopy.{PageCopy}
+use Rattle.mt_overlay.specs.Overlays.{AreAtHand, AreCopies, shown}
 use Rattle.mt_steps.specs.Held.{AreRows}
-use Rattle.mt_steps.specs.Plans.{HasStood}
-use Rattle.mt_steps.specs.Asks.{IsForDelete, IsForUpdate}
-use Rattle.mt_steps.proofs.Overlaid.{none_shown}
+use Rattle.mt_model.specs.declared.operations.Op.{Op}
+use Rattle.mt_model.specs.declared.operations.Op.TheVariants as of
+use Rattle.mt_steps.specs.Plans.{CanPlan, HasStood, IsReading}
+use Rattle.mt_steps.specs.Asks.{AsksFor, IsForDelete, IsForUpdate}
+use Rattle.mt_overlay.proofs.Overlaid.{all_at_hand, none_shown}
 use Rattle.mt_steps.proofs.Entering.{first_inside}
 use Rattle.mt_steps.proofs.Naming.{needs_place}
 
@@ -121,16 +123,27 @@ add_needs P a p mode is outcome = subst (λ (x : Add). AddNeeds x P) is outcome
 pub amend_needs : (P : ℕ → Mode → Type 0) (a : Amend) (p : ℕ) (mode : Mode) → a ≡ amend.Need p mode → AmendNeeds a P → P p mode
 amend_needs P a p mode is outcome = subst (λ (x : Amend). AmendNeeds x P) is outcome
 
--- ---- all changes at hand
+-- ---- by what is read
 
--- changes that leave each page that is not at hand are of pages at hand
-pub all_at_hand : (at_hand : ℕ → Option (List ℕ)) (cs : List PageChange) → ((p : ℕ) → at_hand p ≡ None → IsUntouched cs p) → AreAtHand at_hand cs
-all_at_hand at_hand [] none = All-nil (λ (c : PageChange). IsSome (at_hand c.page))
-all_at_hand at_hand (c ∷ cs) none = All-cons (λ (d : PageChange). IsSome (at_hand d.page)) c cs (here (at_hand c.page) (none c.page)) (all_at_hand at_hand cs (λ p is. (none p is).1))
+-- an operation that only reads asks to read
+pub asks_to_read : (at_hand : ℕ → Option (List ℕ)) (room : Option ℕ) (total : ℕ) (split : Bool) (op : Op) (p : ℕ) (mode : Mode) → CanPlan at_hand room total op → IsReading op
+    → AsksFor at_hand room total split op p mode → mode ≡ Read
+asks_to_read at_hand room total split op p mode can reads asks =
+    ∥∥₁_elim can (hlevel props) (λ (relations, counters, has, within, few). on_map op has.0 has.1 has.2.meaning has.2.rows.index reads asks)
   where
-    here : (o : Option (List ℕ)) → (o ≡ None → IsUntouched (c ∷ cs) c.page) → IsSome o
-    here None named = absurd ((named refl).0 refl)
-    here (Some b) named = refl
+    in_bucket : (k : List ℕ) (pages : PageBytes) → IsInBucket k Read pages p mode → mode ≡ Read
+    in_bucket k pages role = ⊎_elim (λ directory. directory.1) (λ bucket. bucket.1) role
+
+    on_map : (op : Op) (pages : PageBytes) → Agrees at_hand pages → (m : Map) → AreMap total pages m → IsReading op → AsksFor at_hand room total split op p mode → mode ≡ Read
+    on_map (of.Get r k) pages agrees m map reads asks = ⊎_elim (λ looks. in_bucket k pages (looks pages agrees m map)) (λ named. named.2) asks
+    on_map (of.Scan r) pages agrees m map reads asks = ⊎_elim (λ in_index. (in_index pages agrees m map).1) (λ named. named.1) asks
+    on_map (of.Read c) pages agrees m map reads asks = asks.1
+    on_map (of.Insert r k v) pages agrees m map reads asks = absurd reads
+    on_map (of.Update r k v) pages agrees m map reads asks = absurd reads
+    on_map (of.Delete r k) pages agrees m map reads asks = absurd reads
+    on_map (of.Add c d) pages agrees m map reads asks = absurd reads
+
+-- ---- all changes at hand
 
 -- over copies of pages at hand, too
 pub shown_at_hand : (copies : List PageCopy) (at_hand : ℕ → Option (List ℕ)) (cs : List PageChange) → AreCopies at_hand copies → AreSeen (shown copies at_hand) cs → AreAtHand at_hand cs

@@ -1,7 +1,6 @@
 mod Rows
 mod Apart
 mod Acting
-pub mod Overlaid
 mod Entering
 mod Leaving
 mod Shifting
@@ -13,7 +12,7 @@ pub mod Repeating
 pub mod Ranged
 pub mod Single
 pub mod Small
-mod Asking
+pub mod Asking
 mod Promised
 mod Modest
 pub mod Formatting
@@ -26,4 +25,3 @@ pub mod Listed
 mod RecordRows
 pub mod HeldBase
 mod ScanRows
-mod Placed

@@ -1,7 +1,6 @@
 pub mod Held
 pub mod Listed
 pub mod Acts
-pub mod Overlays
 pub mod Plans
 pub mod Asks
 pub mod Repeated
@@ -10,4 +9,3 @@ pub mod Tells
 pub mod Formatted
 pub mod Planners
 pub mod Scanned
-pub mod Places

@@ -8,7 +8,7 @@ use Rattle.mt_model.specs.declared.operations.Op.TheVariants.{Add, Delete, Get, 
 use Rattle.mt_steps.specs.Acts.{IfBroken, IfFull, IfLock, IfMade, InGood, IsAct, InRoomy}
 use Rattle.mt_base.specs.declared.modes.Mode.TheVariants.{Read as ToRead, Write as ToWrite}
 use Rattle.mt_steps.specs.Logged.{logged_of}
-use Rattle.mt_steps.specs.Overlays.{AreAtHand}
+use Rattle.mt_overlay.specs.Overlays.{AreAtHand}
 use Rattle.mt_slots.specs.Page.{Fits, row_length}
 use Rattle.mt_steps.specs.Plans.{IsModest, IsTight, TakesPages, free_pages}
 use Rattle.mt_base.specs.declared.limits.TheConstants.{MAX_VALUE_BYTES, MAX_WRITTEN_PAGES}

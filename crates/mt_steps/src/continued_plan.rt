@@ -1,13 +1,12 @@
 // The plan of an operation over its copies of pages. A scan goes on from where its plan over fewer copies has come.
 ghost use Rattle.std.specs.Prelude.{◌≡◌, ◌⊎◌, ◌<◌, ◌≤◌, ℕ, List, [], length, None, Some, IfOk};
 ghost use Rattle.mt_base.specs.declared.limits.TheConstants.{MAX_RELATIONS, MAX_WRITTEN_PAGES, PAGE_BYTES};
-ghost use Rattle.mt_base.specs.declared.modes.Mode.TheVariants.{Read as ToRead};
 ghost use Rattle.mt_model.specs.Model.{IsWithin};
 ghost use Rattle.mt_space.specs.Changes.{after};
-ghost use Rattle.mt_steps.specs.Overlays.{AreAtHand, copied};
+ghost use Rattle.mt_overlay.specs.Overlays.{AreAtHand, copied};
 ghost use Rattle.mt_steps.specs.Acts.{HasGood, IfLock, IfMade, IfFull, IfBroken};
 ghost use Rattle.mt_steps.specs.Asks.{AsksFor, HasSearched};
-ghost use Rattle.mt_steps.specs.Plans.{free_pages, own_needs, record_bytes, TakesPages, IsReading, IsTight, CanPlan, InPages, IsPlanned};
+ghost use Rattle.mt_steps.specs.Plans.{free_pages, own_needs, record_bytes, TakesPages, IsTight, CanPlan, InPages, IsPlanned};
 ghost use Rattle.mt_steps.specs.Logged.{logged_of};
 ghost use Rattle.mt_steps.specs.Planners.{PlansScan};
 ghost use Rattle.mt_steps.specs.Scanned.{IsScannedTo};
@@ -15,13 +14,12 @@ ghost use Rattle.mt_steps.specs.Scanned.{IsScannedTo};
 use crate::act::Act;
 use crate::copies::Copies;
 use crate::operation_plan::plan;
-use crate::page_copies::PageCopies;
-use crate::placed_copies::PlacedCopies;
 use crate::scan_plan::scan;
 use crate::scan_progress::ScanProgress;
 use mt_base::{PageNo, RelNo};
 use mt_index::Search;
 use mt_model::Op;
+use mt_overlay::{PageCopies, PlacedCopies};
 use std::alloc::{AllocError, Global};
 
 /// Plans an operation over the copies of the pages that it has looked at, as [`plan`](crate::plan) does. A scan goes on
@@ -44,7 +42,6 @@ pub fn plan_over(
         × (p < copies.old.total))) }
     ensures asks { IfOk result (λ act. IfLock act
         (AsksFor (copied copies.old.list.items) room copies.old.total split op.now)) }
-    ensures mode { IsReading op.now → IfOk result (λ act. IfLock act (λ p mode. mode ≡ ToRead)) }
     ensures made { (relations counters : ℕ) → relations ≤ MAX_RELATIONS → IsWithin relations counters op.now →
         IfOk result (λ act. IfMade act (λ changes reply.
         InPages (copied copies.old.list.items) room relations counters copies.old.total (λ pages.
@@ -57,7 +54,6 @@ pub fn plan_over(
     ensures there { IfOk result (λ act. IfMade act (λ changes reply.
         AreAtHand (copied copies.old.list.items) changes)) }
     ensures few { IfOk result (λ act. IfMade act (λ changes reply. length changes ≤ MAX_WRITTEN_PAGES)) }
-    ensures quiet { IsReading op.now → IfOk result (λ act. IfMade act (λ changes reply. changes ≡ [])) }
     ensures idle { IfOk result (λ act. IfMade act (λ changes reply. logged_of op.now reply ≡ None → changes ≡ [])) }
     ensures full { (relations counters : ℕ) → relations ≤ MAX_RELATIONS → IsWithin relations counters op.now →
         IfOk result (λ act. IfFull act (

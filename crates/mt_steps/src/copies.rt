@@ -3,15 +3,14 @@
 ghost use Rattle.std.specs.Prelude.{◌≡◌, ◌<◌, ◌++◌, ◌∷◌, [], OnOk};
 ghost use Rattle.std.specs.Vec.{vec_len, vec_capacity};
 ghost use Rattle.mt_base.specs.declared.limits.TheConstants.{PAGE_BYTES};
-ghost use Rattle.mt_steps.specs.Overlays.{copied};
+ghost use Rattle.mt_overlay.specs.Overlays.{copied};
 ghost use Rattle.mt_steps.specs.Scanned.{IsScannedTo};
-ghost use Rattle.mt_steps.specs.declared.overlay.PageCopy.{PageCopy};
-ghost use Rattle.mt_steps.specs.declared.page_copies.PageCopies.{PageCopies};
+ghost use Rattle.mt_overlay.specs.declared.overlay.PageCopy.{PageCopy};
+ghost use Rattle.mt_overlay.specs.declared.page_copies.PageCopies.{PageCopies};
 
-use crate::overlay::PageCopy;
-use crate::page_copies::PageCopies;
 use crate::scan_progress::ScanProgress;
 use mt_base::PageNo;
+use mt_overlay::{PageCopies, PageCopy};
 use mt_space::Pages;
 use std::alloc::{AllocError, Global};
 use std::marker::Model;
@@ -129,7 +128,7 @@ impl Copies {
 
 impl Pages for Copies {
     ghost use Rattle.std.specs.Prelude.{◌≡◌, ℕ, List, length, Some};
-    ghost use Rattle.mt_steps.specs.Overlays.{copied};
+    ghost use Rattle.mt_overlay.specs.Overlays.{copied};
 
     ghost is_sound = { λ copies. (p : ℕ) (bytes : List ℕ) → copied copies.list.items p ≡ Some bytes
         → length bytes ≡ PAGE_BYTES };

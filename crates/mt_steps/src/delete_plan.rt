@@ -4,18 +4,19 @@ ghost use Rattle.mt_base.specs.declared.limits.TheConstants.{MAX_KEY_BYTES};
 ghost use Rattle.mt_base.specs.declared.modes.Mode.TheVariants.{Write as ToWrite};
 ghost use Rattle.mt_index.specs.Answers.{InMaps, IsInBucket, IsSearched};
 ghost use Rattle.mt_model.specs.declared.operations.Op.TheVariants.{Delete};
-ghost use Rattle.mt_steps.specs.Overlays.{AreAtHand};
+ghost use Rattle.mt_overlay.specs.Overlays.{AreAtHand};
 ghost use Rattle.mt_steps.specs.Acts.{HasGood, InGood, IsTaken};
 ghost use Rattle.mt_steps.specs.Asks.{IsForDelete};
 ghost use Rattle.mt_steps.specs.Tells.{Tells, IsWanted, IsDone, IsAny, TakesNone, HasTaken};
 ghost use Rattle.mt_steps.specs.Planners.{PlansDelete};
 
 use crate::act::Act;
-use crate::joined_plan::{join, overlay_of, to_write};
+use crate::joined_plan::{join, to_write};
 use mt_base::{Bytes, Mode, RecordName, RelNo};
 use mt_file::{Lookup, Step, plan_read, plan_remove};
 use mt_index::{Amend, Find, Search, plan_drop, plan_find};
 use mt_model::Reply;
+use mt_overlay::Overlay;
 use mt_space::{Changes, Pages};
 use std::alloc::{AllocError, Global};
 
@@ -98,7 +99,7 @@ fn drop_entry<V: Pages>(
         (IsDone (V.at_hand views.now) (V.total views.now) 0 false (Delete relation key.now) TakesNone
         (HasTaken first.list.items name.now (record { relation = relation; key = key.now; value = old }))) ⊥) }
 {
-    let overlay = overlay_of(alloc, views, &first)?;
+    let overlay = Overlay::over(alloc, views, &first)?;
     match plan_drop(alloc, &overlay, relation, key)? {
         Amend::Need(page, mode) => Ok(Act::Lock(page, mode)),
         Amend::Missing => Ok(Act::Broken),

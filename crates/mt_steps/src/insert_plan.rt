@@ -6,7 +6,7 @@ ghost use Rattle.mt_slots.specs.Page.{row_length};
 ghost use Rattle.mt_space.specs.Changes.{PageBytes, Agrees, after};
 ghost use Rattle.mt_model.specs.declared.operations.Op.TheVariants.{Insert};
 ghost use Rattle.mt_index.specs.Answers.{InMaps, IsDueInAdd, IsSearched};
-ghost use Rattle.mt_steps.specs.Overlays.{AreAtHand};
+ghost use Rattle.mt_overlay.specs.Overlays.{AreAtHand};
 ghost use Rattle.mt_steps.specs.Acts.{HasRoomy, InRoomy, IsPlaced};
 ghost use Rattle.mt_steps.specs.Asks.{IsForInsert};
 ghost use Rattle.mt_steps.specs.Plans.{free_pages, IsTight, TakesPages};
@@ -16,11 +16,12 @@ ghost use Rattle.mt_steps.specs.Held.{AreRows};
 ghost use Rattle.mt_steps.specs.Planners.{PlansInsert};
 
 use crate::act::Act;
-use crate::joined_plan::{join, overlay_of, to_write};
+use crate::joined_plan::{join, to_write};
 use mt_base::{PageNo, RelNo};
 use mt_file::{Plan, Step, plan_put};
 use mt_index::{Add, Find, Search, plan_add, plan_find};
 use mt_model::Reply;
+use mt_overlay::Overlay;
 use mt_space::{Changes, Pages};
 use std::alloc::{AllocError, Global};
 
@@ -124,7 +125,7 @@ fn add_entry<V: Pages>(
         (record { relation = relation; key = key.now; value = value }) →
         free_pages (V.total views.now) pages < cond split 3 2)) }
 {
-    let overlay = overlay_of(alloc, views, &plan.changes)?;
+    let overlay = Overlay::over(alloc, views, &plan.changes)?;
     match plan_add(alloc, &overlay, relation, key, plan.name, split)? {
         Add::Need(page, mode) => Ok(Act::Lock(page, mode)),
         Add::Full => Ok(Act::Full),

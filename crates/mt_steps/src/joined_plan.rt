@@ -3,13 +3,13 @@ ghost use Rattle.std.specs.Prelude.{◌≡◌, ◌≢◌, ◌+◌, ◌++◌, ◌
 ghost use Rattle.std.specs.Bool.{OnTrue};
 ghost use Rattle.mt_base.specs.declared.modes.Mode.TheVariants.{Write as ToWrite};
 ghost use Rattle.mt_space.specs.Changes.{PageBytes, Agrees, after, AreShort};
-ghost use Rattle.mt_steps.specs.Overlays.{AreAtHand, AreCopies, names_page, shown};
+ghost use Rattle.mt_overlay.specs.Overlays.{AreAtHand, names_page};
 ghost use Rattle.mt_steps.specs.Tells.{Tells, AsksForNone, IsJoined};
 
 use crate::act::Act;
-use crate::overlay::{Overlay, merged};
 use mt_base::{Mode, PageNo};
 use mt_model::Reply;
+use mt_overlay::merged;
 use mt_space::pages::DIRECTORY;
 use mt_space::{Changes, Pages};
 use std::alloc::{AllocError, Global};
@@ -24,28 +24,6 @@ pub(crate) fn to_write(page: PageNo, mode: Mode) -> Mode
     } else {
         Mode::Write
     }
-}
-
-// The pages as they will be once these changes are made.
-pub(crate) fn overlay_of<'a, V: Pages>(
-    alloc: Global,
-    views: &'a V,
-    changes: &Changes,
-) -> Result<Overlay<'a, V>, AllocError>
-    requires sound { V.is_sound views.now }
-    requires there { AreAtHand (V.at_hand views.now) changes.now.list.items }
-    requires short { ∥ ((pages : PageBytes) × Agrees (V.at_hand views.now) pages
-        × AreShort changes.now.list.items pages) ∥₁ }
-    ensures copies { IfOk result (λ d. AreCopies (V.at_hand views.now) d.copies.items) }
-    ensures views { IfOk result (λ d. d.views.now ≡ views.now) }
-    ensures none { IfOk result (λ d. (p : ℕ) → shown d.copies.items (V.at_hand views.now) p ≡ None →
-        V.at_hand views.now p ≡ None) }
-    ensures agrees { IfOk result (λ d. (pages : PageBytes) → Agrees (V.at_hand views.now) pages →
-        Agrees (shown d.copies.items (V.at_hand views.now)) (after changes.now.list.items pages)) }
-{
-    let mut overlay = Overlay::new(alloc, views);
-    overlay.apply(changes)?;
-    Ok(overlay)
 }
 
 // The changes of both plans, and the reply.
@@ -72,7 +50,7 @@ pub(crate) fn join<V: Pages>(
 }
 
 // Whether these changes name a page.
-#[tactic(auto, unfolding(crate::specs::Overlays::names_page))]
+#[tactic(auto, unfolding(mt_overlay::specs::Overlays::names_page))]
 fn name_page(changes: &Changes, page: PageNo) -> bool
     ensures { result ≡ names_page changes.now.list.items page }
 {

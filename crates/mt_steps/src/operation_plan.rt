@@ -1,15 +1,14 @@
 // The plan of an operation of any kind, the bytes of its record, and how many free pages it and its inverse may take.
 ghost use Rattle.std.specs.Prelude.{◌≡◌, ◌⊎◌, ◌^◌, ◌<◌, ◌≤◌, ℕ, [], length, false, None, Some, IfOk};
 ghost use Rattle.mt_base.specs.declared.limits.TheConstants.{MAX_RELATIONS, MAX_WRITTEN_PAGES};
-ghost use Rattle.mt_base.specs.declared.modes.Mode.TheVariants.{Read as ToRead};
 ghost use Rattle.mt_model.specs.Model.{IsWithin, inverse_of};
 ghost use Rattle.mt_model.specs.declared.operations.Op.{Op};
 ghost use Rattle.mt_model.specs.declared.operations.Reply.{Reply};
 ghost use Rattle.mt_space.specs.Changes.{after};
-ghost use Rattle.mt_steps.specs.Overlays.{AreAtHand};
+ghost use Rattle.mt_overlay.specs.Overlays.{AreAtHand};
 ghost use Rattle.mt_steps.specs.Acts.{IfLock, IfMade, IfFull, IfBroken};
 ghost use Rattle.mt_steps.specs.Asks.{AsksFor, HasSearched};
-ghost use Rattle.mt_steps.specs.Plans.{free_pages, own_needs, undo_pages, record_bytes, TakesPages, IsReading, IsTight, CanPlan, InPages, IsPlanned};
+ghost use Rattle.mt_steps.specs.Plans.{free_pages, own_needs, undo_pages, record_bytes, TakesPages, IsTight, CanPlan, InPages, IsPlanned};
 ghost use Rattle.mt_steps.specs.Logged.{logged_of};
 
 use crate::act::Act;
@@ -68,7 +67,6 @@ pub fn plan<V: Pages>(
     ensures lock { IfOk result (λ act. IfLock act (λ p _. (V.at_hand views.now p ≡ None) × (p < V.total views.now))) }
     ensures asks { IfOk result (λ act. IfLock act
         (AsksFor (V.at_hand views.now) room (V.total views.now) split op.now)) }
-    ensures mode { IsReading op.now → IfOk result (λ act. IfLock act (λ p mode. mode ≡ ToRead)) }
     ensures made { (relations counters : ℕ) → relations ≤ MAX_RELATIONS → IsWithin relations counters op.now →
         IfOk result (λ act. IfMade act (λ changes reply.
         InPages (V.at_hand views.now) room relations counters (V.total views.now) (λ pages.
@@ -79,7 +77,6 @@ pub fn plan<V: Pages>(
         TakesPages room op.now pages (after changes pages)))) }
     ensures there { IfOk result (λ act. IfMade act (λ changes reply. AreAtHand (V.at_hand views.now) changes)) }
     ensures few { IfOk result (λ act. IfMade act (λ changes reply. length changes ≤ MAX_WRITTEN_PAGES)) }
-    ensures quiet { IsReading op.now → IfOk result (λ act. IfMade act (λ changes reply. changes ≡ [])) }
     ensures idle { IfOk result (λ act. IfMade act (λ changes reply. logged_of op.now reply ≡ None → changes ≡ [])) }
     ensures full { (relations counters : ℕ) → relations ≤ MAX_RELATIONS → IsWithin relations counters op.now →
         IfOk result (λ act. IfFull act (

@@ -8,7 +8,7 @@ ghost use Rattle.mt_slots.specs.Page.{row_length};
 ghost use Rattle.mt_base.specs.declared.modes.Mode.TheVariants.{Write as ToWrite};
 ghost use Rattle.mt_index.specs.Answers.{InMaps, IsInBucket, IsSearched};
 ghost use Rattle.mt_model.specs.declared.operations.Op.TheVariants.{Update};
-ghost use Rattle.mt_steps.specs.Overlays.{AreAtHand};
+ghost use Rattle.mt_overlay.specs.Overlays.{AreAtHand};
 ghost use Rattle.mt_steps.specs.Acts.{HasRoomy, InRoomy, IsMoved};
 ghost use Rattle.mt_steps.specs.Asks.{IsForUpdate};
 ghost use Rattle.mt_steps.specs.Plans.{free_pages, IsTight, TakesPages};
@@ -16,11 +16,12 @@ ghost use Rattle.mt_steps.specs.Tells.{Tells, IsWanted, IsDone, HasRoom, TakesRo
 ghost use Rattle.mt_steps.specs.Planners.{PlansUpdate};
 
 use crate::act::Act;
-use crate::joined_plan::{join, overlay_of};
+use crate::joined_plan::join;
 use mt_base::{Bytes, Mode, PageNo, RecordName, RelNo};
 use mt_file::{Lookup, Plan, Step, plan_read, plan_replace};
 use mt_index::{Amend, Find, Search, plan_find, plan_set};
 use mt_model::Reply;
+use mt_overlay::Overlay;
 use mt_space::{Changes, Pages};
 use std::alloc::{AllocError, Global};
 
@@ -135,7 +136,7 @@ fn set_entry<V: Pages>(
         (record { relation = relation; key = key.now; value = old })
         (record { relation = relation; key = key.now; value = value }))) ⊥) }
 {
-    let overlay = overlay_of(alloc, views, &plan.changes)?;
+    let overlay = Overlay::over(alloc, views, &plan.changes)?;
     match plan_set(alloc, &overlay, relation, key, plan.name)? {
         Amend::Need(page, mode) => Ok(Act::Lock(page, mode)),
         Amend::Missing => Ok(Act::Broken),

@@ -1,9 +1,10 @@
 -- What the calls' answers say of the state that a kernel shows.
-use Rattle.std.proofs.Common.{⊎_elim, arith, ◌<◌, ◌≤◌, ◌≡◌, ◌≢◌, ℕ, List, Option, Some, None, Result, Ok, Err, refl, sym, ap, subst}
-use Rattle.std.specs.Prelude.{All}
+use Rattle.std.proofs.Common.{⊎_elim, inr, arith, ◌<◌, ◌≤◌, ◌≡◌, ◌≢◌, ℕ, List, length, Option, Some, None, Result, Ok, Err, refl, sym, ap, subst}
+use Rattle.std.specs.Prelude.{All, OnOk}
 use mathlib.Core.Logic.{∥∥₁_map}
 use Rattle.mt_base.specs.declared.refusal.Refusal.{Refusal}
 use Rattle.mt_disk.specs.declared.device.Device.{Ghosts}
+use Rattle.mt_frame.specs.declared.records.Record.{Record}
 use Rattle.mt_live.specs.Lives.{calls_of, member_of}
 use Rattle.mt_live.specs.Members.{forward_count}
 use Rattle.mt_live.specs.Machine.{State, called}
@@ -17,7 +18,7 @@ use Rattle.mt_core.specs.declared.calls.Called.TheVariants as call
 use Rattle.mt_core.specs.declared.parts.Core.{Core}
 use Rattle.mt_op.specs.declared.scope.OpScope.{OpScope}
 use Rattle.mt_txn.proofs.Showing.{open_works, within_of}
-use Rattle.mt_txn.specs.Causes.{IsNamed, IsSized}
+use Rattle.mt_txn.specs.Causes.{IsNamed, IsRefusedAtOnce, IsSized}
 use Rattle.mt_txn.specs.Events.{AbortsTo, HasCalled, HasForced, InvertsTo, ReturnsTo, StepsTo}
 use Rattle.mt_txn.specs.Events.IsBack.{stands}
 use Rattle.mt_txn.specs.Events.IsReturn.{stays}
@@ -25,7 +26,8 @@ use Rattle.mt_live.specs.declared.transactions.TxnState.{TxnState}
 use Rattle.mt_txn.specs.Shown.{Shows}
 use Rattle.mt_core.specs.Work.{LeavesSteps}
 use Rattle.mt_core.specs.declared.steps.Going.{Going}
-use Rattle.mt_txn.specs.Work.{IsReportedAs, LowersSteps, IsAbortReportedAs, LowersAbort}
+use Rattle.mt_txn.specs.Work.{IsReportedAs, LowersSteps, IsAbortReportedAs, LowersUndoing, NoneAreLeft}
+use Rattle.mt_txn.specs.Writes.{LogsNothing, UndoingWrites}
 use Rattle.mt_txn.specs.Well.{IsOrigin, IsWell, ShowsIn}
 use Rattle.mt_txn.specs.declared.answers.AbortStepped.{AbortStepped}
 use Rattle.mt_txn.specs.declared.answers.AbortStepped.TheVariants as abort
@@ -134,7 +136,7 @@ going_lowers rs pages before now gone step.Again outcome less = ⊎_elim
     (λ again. subst (λ g. LeavesSteps pages g before now) again less) outcome.1
 
 -- of an abort
-pub going_left : (rs : List OpScope) (pages before now : ℕ) (gone : Going) (x : AbortStepped) → IsAbortReportedAs rs gone x → LeavesSteps pages gone before now → LowersAbort pages (Ok x) before now
+pub going_left : (rs : List OpScope) (pages before now : ℕ) (gone : Going) (x : AbortStepped) → IsAbortReportedAs rs gone x → LeavesSteps pages gone before now → LowersUndoing NoneAreLeft pages (Ok x) before now
 going_left rs pages before now gone abort.Ended outcome less = absurd outcome
 going_left rs pages before now gone abort.More outcome less = subst (λ g. LeavesSteps pages g before now) outcome less
 going_left rs pages before now gone (abort.Wait other) outcome less = subst (λ g. LeavesSteps pages g before now) outcome.1 less
@@ -142,3 +144,25 @@ going_left rs pages before now gone abort.Flush outcome less = subst (λ g. Leav
 going_left rs pages before now gone abort.Again outcome less = ⊎_elim
     (λ waits. let few : now ≤ before = subst (λ g. LeavesSteps pages g before now) waits.0 less in omega arith)
     (λ again. subst (λ g. LeavesSteps pages g before now) again less) outcome.1
+
+-- ---- what is appended
+
+-- a step of the inverse under way ends nothing
+pub inverse_logs : (AtEnd : List Record → List Record → Type 0) (old new : List Record) (r : Result AbortStepped Refusal) → (r ≡ Ok abort.Ended → ⊥) → UndoingWrites LogsNothing old new r → UndoingWrites AtEnd old new r
+inverse_logs AtEnd old new (Ok abort.More) never is = is
+inverse_logs AtEnd old new (Ok (abort.Wait other)) never is = is
+inverse_logs AtEnd old new (Ok abort.Again) never is = is
+inverse_logs AtEnd old new (Ok abort.Flush) never is = is
+inverse_logs AtEnd old new (Ok abort.Ended) never is = absurd (never refl)
+inverse_logs AtEnd old new (Err why) never is = is
+
+pub logs_none : (AtEnd : List Record → List Record → Type 0) (old new : List Record) → new ≡ old → UndoingWrites AtEnd old new (Ok abort.More)
+logs_none AtEnd old new same = let long = ap length same in inr (omega (arith, long))
+
+-- ---- an early refusal
+
+-- what is answered otherwise has no cause
+pub may_of : {K T : Type 0} (cause : Option Refusal) (k n : K) (r : Result T Refusal) → IsRefusedAtOnce cause k r n → OnOk r (cause ≡ None)
+may_of None k n (Ok x) early = refl
+may_of (Some why) k n (Ok x) early = let wrong = (early why refl).0 in absurd cc
+may_of cause k n (Err why) early = tt

@@ -9,7 +9,7 @@ use Rattle.mt_live.specs.Members.{Member}
 use Rattle.mt_model.specs.Model.{Base}
 use Rattle.mt_core.proofs.Holders.{owners_same, owner_works}
 use Rattle.mt_core.specs.Consistent.{Origin, SameStates, AtPlace, IsConsistent, IsOwnerOf}
-use Rattle.mt_core.specs.Runs.{is_open}
+use Rattle.mt_core.specs.Runs.{is_working}
 use Rattle.mt_core.specs.Steps.{IsOfOther, AwaitsOther}
 use Rattle.mt_core.specs.declared.parts.Core.{Core}
 use Rattle.mt_op.specs.declared.scope.OpScope.{OpScope}
@@ -29,7 +29,7 @@ use Rattle.mt_txn.specs.declared.answers.Stepped.{Stepped}
 use Rattle.mt_txn.specs.declared.answers.Stepped.TheVariants as step
 
 -- one that is at work lived before, in the state in which it was
-lived : (now was : Option Member) → option_map (λ (m : Member). m.state) now ≡ option_map (λ (m : Member). m.state) was → is_open now ≡ true → is_some was ≡ true
+lived : (now was : Option Member) → option_map (λ (m : Member). m.state) now ≡ option_map (λ (m : Member). m.state) was → is_working now ≡ true → is_some was ≡ true
 lived None was same is = absurd cc
 lived (Some m) None same is = absurd cc
 lived (Some m) (Some n) same is = refl

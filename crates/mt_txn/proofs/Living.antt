@@ -18,7 +18,7 @@ use Rattle.mt_live.specs.declared.transactions.TxnState.TheVariants.{Open, Commi
 use Rattle.mt_model.specs.Model.{Base}
 use Rattle.mt_model.specs.declared.operations.Op.{Op}
 use Rattle.mt_core.specs.Consistent.{Origin, IsConsistent}
-use Rattle.mt_core.specs.Runs.{running_in, state_in, is_for, goes_back}
+use Rattle.mt_core.specs.Runs.{running_in, state_in, is_for, is_undoing}
 use Rattle.mt_core.specs.declared.parts.Commit.{Commit}
 use Rattle.mt_core.specs.declared.parts.Core.{Core}
 use Rattle.mt_op.specs.declared.scope.OpScope.{OpScope}
@@ -69,9 +69,9 @@ module _ {D : Type 0} (g : Ghosts D) (relations counters : ℕ) where
   idle_of k first s shows t opened none = ∥∥₁_elim shows (hlevel props) (λ (origin, base, is, x).
       rests_in k.running.items t (λ i d lt own. fore (get_or k.running.items i d) own (x.consistent.fit.owned i d lt).backwards) (ap (λ (z : State). z.running t) (sym x.state) ∙ none))
     where
-      fore : (r : OpScope) → r.txn ≡ t → (r.undoes ≢ 0 → goes_back (state_in k.live.members r.txn) ≡ true) → (r.undoes == 0) ≡ true
+      fore : (r : OpScope) → r.txn ≡ t → (r.undoes ≢ 0 → is_undoing (state_in k.live.members r.txn) ≡ true) → (r.undoes == 0) ≡ true
       fore r own backwards = ⊎_elim (λ (forward : r.undoes ≡ 0). ap (λ (n : ℕ). n == 0) forward)
-          (λ (back : r.undoes ≢ 0). let not : goes_back (state_in k.live.members r.txn) ≡ false = ap goes_back (ap (state_in k.live.members) own ∙ opened) in let is = backwards back in absurd cc) (cases_eq r.undoes 0)
+          (λ (back : r.undoes ≢ 0). let not : is_undoing (state_in k.live.members r.txn) ≡ false = ap is_undoing (ap (state_in k.live.members) own ∙ opened) in let is = backwards back in absurd cc) (cases_eq r.undoes 0)
 
   pub no_commits : (k : Core D) → IsWell g relations counters k → ((t : ℕ) → state_in k.live.members t ≢ Some Committing) → k.commits.items ≡ []
   no_commits k well nobody = go k.commits.items refl

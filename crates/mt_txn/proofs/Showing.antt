@@ -23,7 +23,7 @@ pub use Rattle.mt_core.proofs.Restarts.{at_place, open_works}
 use Rattle.mt_core.proofs.Restarts.{inverted_consistent}
 use Rattle.mt_core.proofs.Underway.{running_at}
 use Rattle.mt_core.specs.Consistent.{Origin, state_of, AtPlace, IsConsistent, IsSound, IsIn, BacksIn, DropsIn, InvertsIn, UndoesIn, StaysIn}
-use Rattle.mt_core.specs.Runs.{running_in, state_in, is_at_work, is_open, is_returning, goes_back, IsMoving, IsOwned, IsRunning}
+use Rattle.mt_core.specs.Runs.{running_in, state_in, is_at_work, is_returning, IsMoving, IsOwned, IsRunning, is_working, is_undoing}
 use Rattle.mt_core.specs.Steps.{Steps, UndoSteps}
 use Rattle.mt_core.specs.declared.parts.Core.{Core}
 use Rattle.mt_op.specs.declared.scope.OpScope.{OpScope}
@@ -49,7 +49,7 @@ going_of Taking m = absurd (∥∥₁_elim m (hlevel props) (λ k. k.1 refl))
 going_of Ready m = absurd (∥∥₁_elim m (hlevel props) (λ k. ⊎_elim (λ (a : Ready ≡ Planning). absurd cc) (λ b. ⊎_elim (λ (d : Ready ≡ Writing). absurd cc) (λ (e : Ready ≡ Taking). absurd cc) b) k.0))
 going_of Cleared m = absurd (∥∥₁_elim m (hlevel props) (λ k. ⊎_elim (λ (a : Cleared ≡ Planning). absurd cc) (λ b. ⊎_elim (λ (d : Cleared ≡ Writing). absurd cc) (λ (e : Cleared ≡ Taking). absurd cc) b) k.0))
 
-pub aborting_works : (o : Option Member) → option_map (λ (m : Member). m.state) o ≡ Some Aborting → is_open o ≡ true
+pub aborting_works : (o : Option Member) → option_map (λ (m : Member). m.state) o ≡ Some Aborting → is_working o ≡ true
 aborting_works None is = absurd cc
 aborting_works (Some m) is = let state : m.state ≡ Aborting = cc in ap is_at_work state
 
@@ -77,7 +77,7 @@ module _ {D : Type 0} (g : Ghosts D) (relations counters : ℕ) where
   forward_of k t place well within own opened r there = ⊎_elim (λ (fore : r.undoes ≡ 0). fore) (λ (back : r.undoes ≡ 0 → ⊥).
       absurd (∥∥₁_elim well (hlevel props) (λ (origin, base, is, safe).
       let backwards = (own_of k place r within there origin base safe).0.backwards back in
-      let not : goes_back (state_in k.live.members r.txn) ≡ false = ap goes_back (ap (state_in k.live.members) (own r there) ∙ opened) in absurd cc))) (cases_eq r.undoes 0)
+      let not : is_undoing (state_in k.live.members r.txn) ≡ false = ap is_undoing (ap (state_in k.live.members) (own r there) ∙ opened) in absurd cc))) (cases_eq r.undoes 0)
 
   pub stage_of : (k : Core D) (t place : ℕ) → IsWell g relations counters k → place < length k.running.items → AtPlace k.running.items place (λ r. r.txn ≡ t) → state_in k.live.members t ≡ Some Open → AtPlace k.running.items place (λ r. (r.stage ≡ Planning) ⊎ (r.stage ≡ Writing))
   stage_of k t place well within own opened r there = going_of r.stage (∥∥₁_map well (λ (origin, base, is, safe). let mine = own_of k place r within there origin base safe in (

@@ -1,5 +1,5 @@
 -- What a step of an abort does, and of going back, if nothing forbids it.
-use Rattle.std.specs.Prelude.{ℕ, ◌≡◌, ◌≢◌, IfErr, IfOk, List, None, OnErr, Result, Some, Ok, Err, true}
+use Rattle.std.specs.Prelude.{ℕ, ◌≡◌, ◌≢◌, IfErr, IfOk, None, OnErr, Result, Some, Ok, Err, true}
 use Rattle.mt_base.specs.declared.refusal.Refusal.{Refusal}
 use Rattle.mt_base.specs.declared.refusal.Refusal.TheVariants.{DeviceFailed, NoMemory}
 use Rattle.mt_disk.specs.declared.device.Device.{Ghosts}
@@ -14,73 +14,49 @@ use Rattle.mt_model.specs.Model.{Base}
 use Rattle.mt_pool.specs.Views.{pages}
 use Rattle.mt_txn.specs.Causes.{IsFault}
 use Rattle.mt_txn.specs.Events.{HasAborted, HasReturned, InvertsTo}
-use Rattle.mt_txn.specs.Shown.{CallsOnce, LeavesFound, SameSchema, Shows, StaysRestarting, TellsEachFault, is_failed, kernel_log, kernel_pool}
-use Rattle.mt_txn.specs.Work.{IsAbortForOther, LowersAbort, LowersReturn}
+use Rattle.mt_txn.specs.Shown.{LeavesFound, ReadsDevice, SameSchema, Shows, StaysRestarting, TellsEachFault, is_failed, kernel_log, kernel_pool}
+use Rattle.mt_txn.specs.Work.{IsAbortForOther, LowersUndoing, NoMoreAreLeft, NoneAreLeft}
 use Rattle.mt_txn.specs.declared.answers.AbortStepped.{AbortStepped}
 use Rattle.mt_txn.specs.declared.answers.AbortStepped.TheVariants.{Ended, Flush}
 use Rattle.mt_txn.specs.declared.kernel.Kernel.{Kernel}
 
 module _ {D : Type 0} {g : Ghosts D} where
-  -- From kernel k it answered this of the abort of t, and left kernel n.
-  pub record StepsAbort (k : Kernel D g) (t : ℕ) (result : Result AbortStepped Refusal) (n : Kernel D g) : Type 0 where
+  -- From kernel k a step that undoes what t did answered this, and left kernel n. So many steps are left at its end, of
+  -- which Ends holds; and Leads says what it does in the words of the laws.
+  pub record StepsUndoing (AtEnd : ℕ → ℕ → Type 0) (Ends Leads : Type 0) (k : Kernel D g) (t : ℕ)
+      (result : Result AbortStepped Refusal) (n : Kernel D g) : Type 0 where
     pub why : IfErr result (λ why. why ≢ NoMemory → IsFault g k.core n.core why)
     pub fails : result ≡ Err DeviceFailed → is_failed n ≡ true
     pub quiet : TellsEachFault k result n
     pub states : IfOk result (λ stepped. stepped ≢ Ended → SameStates k.core n.core)
-    pub work : LowersAbort (pages (kernel_pool k)) result (undo_steps k.core t) (undo_steps n.core t)
+    pub work : LowersUndoing AtEnd (pages (kernel_pool k)) result (undo_steps k.core t) (undo_steps n.core t)
     pub other : IfOk result (λ stepped. IsAbortForOther k.core.live.members t stepped)
     pub full : result ≡ Ok Flush → WantsFrame k.core n.core
     pub durable : durable (kernel_log n) ≡ durable (kernel_log k)
     pub commits : SameCommits k.core n.core
     pub err_states : OnErr result (SameStates k.core n.core)
-    pub out : result ≡ Ok Ended → (state_in n.core.live.members t ≡ None) × SameStatesBut k.core n.core t
+    pub ends : result ≡ Ok Ended → Ends
     pub schema : SameSchema k n
     pub restarts : StaysRestarting k n
     pub moments : LeavesFound k n
-    pub once : CallsOnce k n
+    pub reads : ReadsDevice k n
     pub others : KeepsOthers t k.core.running.items n.core.running.items
-    pub aborted : (first : Base) (s : State) → Shows first s k → HasAborted first s t result n
+    pub leads : Leads
 
-  -- From kernel k a step of the inverse of t under way answered this, and left kernel n.
-  pub record StepsInverse (k : Kernel D g) (t : ℕ) (result : Result AbortStepped Refusal)
-      (n : Kernel D g) : Type 0 where
-    pub why : IfErr result (λ why. why ≢ NoMemory → IsFault g k.core n.core why)
-    pub fails : result ≡ Err DeviceFailed → is_failed n ≡ true
-    pub quiet : TellsEachFault k result n
-    pub states : IfOk result (λ stepped. stepped ≢ Ended → SameStates k.core n.core)
-    pub work : LowersAbort (pages (kernel_pool k)) result (undo_steps k.core t) (undo_steps n.core t)
-    pub other : IfOk result (λ stepped. IsAbortForOther k.core.live.members t stepped)
-    pub full : result ≡ Ok Flush → WantsFrame k.core n.core
-    pub durable : durable (kernel_log n) ≡ durable (kernel_log k)
-    pub commits : SameCommits k.core n.core
-    pub err_states : OnErr result (SameStates k.core n.core)
-    pub goes : result ≡ Ok Ended → ⊥
-    pub schema : SameSchema k n
-    pub restarts : StaysRestarting k n
-    pub moments : LeavesFound k n
-    pub once : CallsOnce k n
-    pub others : KeepsOthers t k.core.running.items n.core.running.items
-    pub inverted : (first : Base) (s : State) → Shows first s k
-        → InvertsTo (λ z. Shows first z n) s t (state_in k.core.live.members t) result
+  -- a step of the abort of t
+  abbrev pub StepsAbort : Kernel D g → ℕ → Result AbortStepped Refusal → Kernel D g → Type 0
+  StepsAbort k t result n = StepsUndoing NoneAreLeft
+      ((state_in n.core.live.members t ≡ None) × SameStatesBut k.core n.core t)
+      ((first : Base) (s : State) → Shows first s k → HasAborted first s t result n) k t result n
 
-  -- From kernel k a step answered this of t's going back to its first so many, and left kernel n.
-  pub record StepsReturn (k : Kernel D g) (t first : ℕ) (result : Result AbortStepped Refusal)
-      (n : Kernel D g) : Type 0 where
-    pub why : IfErr result (λ why. why ≢ NoMemory → IsFault g k.core n.core why)
-    pub fails : result ≡ Err DeviceFailed → is_failed n ≡ true
-    pub quiet : TellsEachFault k result n
-    pub states : IfOk result (λ stepped. stepped ≢ Ended → SameStates k.core n.core)
-    pub work : LowersReturn (pages (kernel_pool k)) result (undo_steps k.core t) (undo_steps n.core t)
-    pub other : IfOk result (λ stepped. IsAbortForOther k.core.live.members t stepped)
-    pub full : result ≡ Ok Flush → WantsFrame k.core n.core
-    pub durable : durable (kernel_log n) ≡ durable (kernel_log k)
-    pub commits : SameCommits k.core n.core
-    pub err_states : OnErr result (SameStates k.core n.core)
-    pub opened : result ≡ Ok Ended
-        → SetsState k.core n.core t (Some Open) × (count_in n.core.live.members t ≡ Some first)
-    pub schema : SameSchema k n
-    pub restarts : StaysRestarting k n
-    pub moments : LeavesFound k n
-    pub once : CallsOnce k n
-    pub others : KeepsOthers t k.core.running.items n.core.running.items
-    pub back : (base : Base) (s : State) → Shows base s k → HasReturned base s t first result n
+  -- a step of the inverse of t under way, which does not end what it is of
+  abbrev pub StepsInverse : Kernel D g → ℕ → Result AbortStepped Refusal → Kernel D g → Type 0
+  StepsInverse k t result n = StepsUndoing NoneAreLeft ⊥
+      ((first : Base) (s : State) → Shows first s k
+      → InvertsTo (λ z. Shows first z n) s t (state_in k.core.live.members t) result) k t result n
+
+  -- a step of t's going back to its first so many
+  abbrev pub StepsReturn : Kernel D g → ℕ → ℕ → Result AbortStepped Refusal → Kernel D g → Type 0
+  StepsReturn k t first result n = StepsUndoing NoMoreAreLeft
+      (SetsState k.core n.core t (Some Open) × (count_in n.core.live.members t ≡ Some first))
+      ((base : Base) (s : State) → Shows base s k → HasReturned base s t first result n) k t result n

@@ -1,10 +1,12 @@
 -- What a call of a kernel did, and what it left: k before, and n after the call.
-use Rattle.std.specs.Prelude.{ℕ, ◌≡◌, ◌≢◌, ◌⊎◌, ◌<◌, ◌+◌, ◌++◌, ◌∷◌, [], IfOk, None, Ok, OnErr, OnOk, Result, Some, false, length, true}
+use Rattle.std.specs.Prelude.{ℕ, ◌≡◌, ◌≢◌, ◌⊎◌, ◌<◌, ◌≤◌, ◌+◌, ◌++◌, ◌∷◌, [], IfOk, List, None, Ok, OnErr, OnOk, Option, Result, Some, false, length, true}
 use Rattle.mt_disk.specs.declared.device.Device.{Ghosts}
 use Rattle.mt_base.specs.declared.refusal.Refusal.{Refusal}
-use Rattle.mt_core.specs.Work.{KeepsOthers}
+use Rattle.mt_core.specs.Work.{KeepsOthers, most_steps}
 use Rattle.mt_core.specs.declared.parts.Commit.{Commit}
+use Rattle.mt_frame.specs.declared.records.Record.{Record}
 use Rattle.mt_frame.specs.declared.records.Record.TheVariants as record_of
+use Rattle.mt_live.specs.declared.transactions.TxnState.{TxnState}
 use Rattle.mt_live.specs.declared.transactions.TxnState.TheVariants.{Committing, Open, Returning}
 use Rattle.mt_log.specs.Words.{appended, durable, waiting}
 use Rattle.mt_pool.specs.Views.{AreClean, Cleans, IsWaiting, SamePlaces, pages, to_flush}
@@ -13,8 +15,8 @@ use Rattle.mt_pool.specs.declared.flushes.Flushed.TheVariants as flushed
 use Rattle.mt_txn.specs.PageLocks.{AbortsLocks, OfRunning, StepsLocks}
 use Rattle.mt_txn.specs.Shown.{kernel_device, kernel_log, kernel_page_locks, kernel_pool, kernel_ruling}
 use Rattle.mt_txn.specs.Words.{CommitsStay, FrameIsWanted, NumbersStay, RunningStays, StateIsSet, StatesStay, StatesStayBut, UncommittedStay, UndoStays, kernel_abort_cause, kernel_commits, kernel_count, kernel_is_busy, kernel_last, kernel_members, kernel_return_cause, kernel_running, kernel_state, kernel_step_cause, kernel_steps, kernel_store, kernel_undo_steps}
-use Rattle.mt_txn.specs.Work.{IsAbortForOther, IsForOther, LowersAbort, LowersReturn, LowersSteps}
-use Rattle.mt_txn.specs.Writes.{InverseWrites, WritesOnePage}
+use Rattle.mt_txn.specs.Work.{IsAbortForOther, IsForOther, LowersSteps, LowersUndoing, NoMoreAreLeft, NoneAreLeft}
+use Rattle.mt_txn.specs.Writes.{LogsEnd, LogsNothing, UndoingWrites, WritesOnePage}
 use Rattle.mt_txn.specs.declared.answers.AbortStepped.{AbortStepped}
 use Rattle.mt_txn.specs.declared.answers.AbortStepped.TheVariants as abort
 use Rattle.mt_txn.specs.declared.answers.KernelForced.{KernelForced}
@@ -43,62 +45,70 @@ module _ {D : Type 0} {g : Ghosts D} where
     pub commits : CommitsStay k n
     pub numbers : NumbersStay k n
 
-  -- ---- a step of the abort of t
+  -- ---- the beginning of an abort of t, and of its going back
 
-  -- It does the same. If no operation of t is under way, it takes no page lock, calls no device, and does not wait.
-  pub record MovesAbort (k : Kernel D g) (t : ℕ) (result : Result AbortStepped Refusal) (n : Kernel D g) : Type 0 where
-    pub work : LowersAbort (pages (kernel_pool k)) result (kernel_undo_steps k t) (kernel_undo_steps n t)
+  -- t is in this state then, and so many steps undo it at most. Nothing else has changed.
+  pub record BeginsUndoing (k : Kernel D g) (t : ℕ) (phase : TxnState) (n : Kernel D g) : Type 0 where
+    pub state : StateIsSet k n t (Some phase)
+    pub work : kernel_undo_steps n t ≤ most_steps k.core t
+    pub running : RunningStays k n
+    pub numbers : NumbersStay k n
+    pub commits : CommitsStay k n
+    pub counts : (u : ℕ) → kernel_count n u ≡ kernel_count k u
+    pub store : kernel_store n ≡ kernel_store k
+    pub locks : kernel_page_locks n ≡ kernel_page_locks k
+
+  -- ---- a step that undoes, in an abort of t or as t goes back
+
+  -- It leaves so many steps to each transaction, waits only for another, and takes and gives back these page locks. If
+  -- no operation of t is under way, it takes no page lock, calls no device, and does not wait.
+  pub record MovesUndoing (AtEnd : ℕ → ℕ → Type 0) (cause : Option Refusal) (k : Kernel D g) (t : ℕ)
+      (result : Result AbortStepped Refusal) (n : Kernel D g) : Type 0 where
+    pub work : LowersUndoing AtEnd (pages (kernel_pool k)) result (kernel_undo_steps k t) (kernel_undo_steps n t)
     pub others : KeepsOthers t (kernel_running k) (kernel_running n)
     pub other : IfOk result (λ stepped. IsAbortForOther (kernel_members k) t stepped)
     pub full : result ≡ Ok abort.Flush → FrameIsWanted k n
-    pub locks : kernel_abort_cause k t ≡ None → kernel_is_busy k t ≡ true
+    pub locks : cause ≡ None → kernel_is_busy k t ≡ true
         → OfRunning (kernel_running k) t (λ r. AbortsLocks k.core n.core r result)
     pub idle : kernel_is_busy k t ≡ false → kernel_page_locks n ≡ kernel_page_locks k
     pub device : kernel_is_busy k t ≡ false → kernel_device n ≡ kernel_device k
     pub goes : kernel_is_busy k t ≡ false
         → IfOk result (λ stepped. (stepped ≡ abort.More) ⊎ (stepped ≡ abort.Ended))
 
-  -- The transaction lives no more once its abort ends; the others, the commits and what is durable stay. It takes a
-  -- number if it begins an inverse, and else none.
-  pub record LeavesAbort (k : Kernel D g) (t : ℕ) (result : Result AbortStepped Refusal) (n : Kernel D g) : Type 0 where
+  abbrev pub MovesAbort : Kernel D g → ℕ → Result AbortStepped Refusal → Kernel D g → Type 0
+  MovesAbort k t result n = MovesUndoing NoneAreLeft (kernel_abort_cause k t) k t result n
+
+  abbrev pub MovesReturn : Kernel D g → ℕ → Result AbortStepped Refusal → Kernel D g → Type 0
+  MovesReturn k t result n = MovesUndoing NoMoreAreLeft (kernel_return_cause k t) k t result n
+
+  -- At its end Ends holds, and these records are appended. Else it appends the records of one page, or one record, at
+  -- most. The other transactions, the commits and what is durable stay. It takes a number if it begins an inverse, and
+  -- else none; and if no operation of t is under way, Idle holds.
+  pub record LeavesUndoing (Ends Idle : Type 0) (Logs : List Record → List Record → Type 0) (k : Kernel D g) (t : ℕ)
+      (result : Result AbortStepped Refusal) (n : Kernel D g) : Type 0 where
     pub states : IfOk result (λ stepped. stepped ≢ abort.Ended → StatesStay k n)
-    pub out : result ≡ Ok abort.Ended → (kernel_state n t ≡ None) × StatesStayBut k n t
+    pub ends : result ≡ Ok abort.Ended → Ends
     pub err_states : OnErr result (StatesStay k n)
+    pub idle : kernel_is_busy k t ≡ false → Idle
+    pub writes : UndoingWrites Logs (appended (kernel_log k)) (appended (kernel_log n)) result
     pub durable : durable (kernel_log n) ≡ durable (kernel_log k)
     pub commits : CommitsStay k n
     pub numbers : kernel_is_busy k t ≡ true → NumbersStay k n
     pub numbered : kernel_is_busy k t ≡ false → result ≡ Ok abort.More → kernel_last n ≡ kernel_last k + 1
     pub unnumbered : result ≢ Ok abort.More → NumbersStay k n
 
-  -- ---- a step of t's going back to its first so many operations
+  -- The transaction lives no more once its abort ends. As an inverse begins the store stays.
+  abbrev pub LeavesAbort : Kernel D g → ℕ → Result AbortStepped Refusal → Kernel D g → Type 0
+  LeavesAbort k t result n = LeavesUndoing ((kernel_state n t ≡ None) × StatesStayBut k n t)
+      (result ≡ Ok abort.More → kernel_store n ≡ kernel_store k) (LogsEnd t) k t result n
 
-  -- It does as one of an abort. If no operation of t is under way, the store stays.
-  pub record MovesReturn (k : Kernel D g) (t : ℕ) (result : Result AbortStepped Refusal) (n : Kernel D g) : Type 0 where
-    pub work : LowersReturn (pages (kernel_pool k)) result (kernel_undo_steps k t) (kernel_undo_steps n t)
-    pub others : KeepsOthers t (kernel_running k) (kernel_running n)
-    pub other : IfOk result (λ stepped. IsAbortForOther (kernel_members k) t stepped)
-    pub full : result ≡ Ok abort.Flush → FrameIsWanted k n
-    pub locks : kernel_return_cause k t ≡ None → kernel_is_busy k t ≡ true
-        → OfRunning (kernel_running k) t (λ r. AbortsLocks k.core n.core r result)
-    pub idle : kernel_is_busy k t ≡ false → kernel_page_locks n ≡ kernel_page_locks k
-    pub store : kernel_is_busy k t ≡ false → kernel_store n ≡ kernel_store k
-    pub goes : kernel_is_busy k t ≡ false
-        → IfOk result (λ stepped. (stepped ≡ abort.More) ⊎ (stepped ≡ abort.Ended))
-
-  -- The transaction is open once it ends, and those first operations count; it lives with its locks. The others, the
-  -- commits and what is durable stay. It takes a number if it begins an inverse, and else none.
-  pub record LeavesReturn (k : Kernel D g) (t : ℕ) (result : Result AbortStepped Refusal)
-      (n : Kernel D g) : Type 0 where
-    pub states : IfOk result (λ stepped. stepped ≢ abort.Ended → StatesStay k n)
-    pub opened : (first : ℕ) → kernel_state k t ≡ Some (Returning first) → result ≡ Ok abort.Ended
-        → StateIsSet k n t (Some Open) × (kernel_count n t ≡ Some first)
-    pub err_states : OnErr result (StatesStay k n)
-    pub writes : InverseWrites (appended (kernel_log k)) (appended (kernel_log n)) result
-    pub durable : durable (kernel_log n) ≡ durable (kernel_log k)
-    pub commits : CommitsStay k n
-    pub numbers : kernel_is_busy k t ≡ true → NumbersStay k n
-    pub numbered : kernel_is_busy k t ≡ false → result ≡ Ok abort.More → kernel_last n ≡ kernel_last k + 1
-    pub unnumbered : result ≢ Ok abort.More → NumbersStay k n
+  -- The transaction is open once it is back, and its first so many operations count; it lives with its locks. If no
+  -- operation is under way the store stays.
+  abbrev pub LeavesReturn : Kernel D g → ℕ → Result AbortStepped Refusal → Kernel D g → Type 0
+  LeavesReturn k t result n = LeavesUndoing
+      ((first : ℕ) → kernel_state k t ≡ Some (Returning first)
+      → StateIsSet k n t (Some Open) × (kernel_count n t ≡ Some first))
+      (kernel_store n ≡ kernel_store k) LogsNothing k t result n
 
   -- ---- the beginning of the commit of t
 

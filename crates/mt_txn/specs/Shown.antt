@@ -13,6 +13,7 @@ use Rattle.mt_txn.specs.Well.{RestartsFrom}
 use Rattle.mt_txn.specs.declared.kernel.Kernel.{Kernel}
 use Rattle.mt_plock.specs.declared.guards.PageLock.{PageLock}
 use Rattle.mt_frame.specs.declared.slots.MasterSlot.{MasterSlot}
+use Rattle.mt_pool.specs.Reads.{ReadsOnce}
 use Rattle.mt_pool.specs.declared.pool.Pool.{Pool}
 use Rattle.mt_core.specs.Seen.{core_device, core_frames, core_log, core_page_locks, core_pool, core_ruling}
 
@@ -65,6 +66,11 @@ TellsEachFault {g = g} k result n =
 -- The device was called once at most.
 abbrev pub CallsOnce : {D : Type 0} → {g : Ghosts D} → Kernel D g → Kernel D g → Type 0
 CallsOnce {g = g} k n = g.moment (kernel_device n) ≤ g.moment (kernel_device k) + 1
+
+-- It was called once at most, and only read: nothing on it changed, and a crash may leave just what it might have left
+-- before.
+abbrev pub ReadsDevice : {D : Type 0} → {g : Ghosts D} → Kernel D g → Kernel D g → Type 0
+ReadsDevice {g = g} k n = ReadsOnce g (kernel_device k) (kernel_device n)
 
 -- Begun on this base, the kernel can be restarted from each beginning of its log's records; and so it stays.
 abbrev pub Restarts : {D : Type 0} → {g : Ghosts D} → Base → Kernel D g → Type 0

@@ -65,21 +65,21 @@ LowersSteps pages (Ok step.Again) before now = now ≤ before + 2 * pages
 LowersSteps pages (Ok step.Flush) before now = now ≤ before
 LowersSteps pages (Err why) before now = now ≤ before
 
--- A step of an abort that went on leaves fewer of its steps, and the end comes if none are left. One that begins anew
--- may leave more, by two a page at most; every other, and one that is refused, leaves no more.
-abbrev pub LowersAbort : ℕ → Result AbortStepped Refusal → ℕ → ℕ → Type 0
-LowersAbort pages (Ok abort.More) before now = now < before
-LowersAbort pages (Ok (abort.Wait other)) before now = now ≤ before
-LowersAbort pages (Ok abort.Again) before now = now ≤ before + 2 * pages
-LowersAbort pages (Ok abort.Flush) before now = now ≤ before
-LowersAbort pages (Ok abort.Ended) before now = before ≡ 0
-LowersAbort pages (Err why) before now = now ≤ before
+-- What a step that undoes leaves of the steps of an abort: one that went on leaves fewer. One that begins anew may
+-- leave more, by two a page at most; every other, and one that is refused, leaves no more. AtEnd says what the end
+-- leaves.
+abbrev pub LowersUndoing : (ℕ → ℕ → Type 0) → ℕ → Result AbortStepped Refusal → ℕ → ℕ → Type 0
+LowersUndoing AtEnd pages (Ok abort.More) before now = now < before
+LowersUndoing AtEnd pages (Ok (abort.Wait other)) before now = now ≤ before
+LowersUndoing AtEnd pages (Ok abort.Again) before now = now ≤ before + 2 * pages
+LowersUndoing AtEnd pages (Ok abort.Flush) before now = now ≤ before
+LowersUndoing AtEnd pages (Ok abort.Ended) before now = AtEnd before now
+LowersUndoing AtEnd pages (Err why) before now = now ≤ before
 
--- So does a step of going back, but that ends with what came before still to be undone.
-abbrev pub LowersReturn : ℕ → Result AbortStepped Refusal → ℕ → ℕ → Type 0
-LowersReturn pages (Ok abort.More) before now = now < before
-LowersReturn pages (Ok (abort.Wait other)) before now = now ≤ before
-LowersReturn pages (Ok abort.Again) before now = now ≤ before + 2 * pages
-LowersReturn pages (Ok abort.Flush) before now = now ≤ before
-LowersReturn pages (Ok abort.Ended) before now = now ≤ before
-LowersReturn pages (Err why) before now = now ≤ before
+-- the end of an abort comes if none are left
+abbrev pub NoneAreLeft : ℕ → ℕ → Type 0
+NoneAreLeft before now = before ≡ 0
+
+-- and that of going back with what came before still to be undone
+abbrev pub NoMoreAreLeft : ℕ → ℕ → Type 0
+NoMoreAreLeft before now = now ≤ before

@@ -1,23 +1,22 @@
 // Aborts: an operation under way is taken back, and each effect is undone by its inverse, the last one first.
 // A call makes one step of it, by the core.
-ghost use Rattle.std.specs.Prelude.{◌≡◌, ◌≢◌, ◌⊎◌, ◌<◌, ◌≤◌, ◌+◌, length, All, IfErr, IfOk, OnOk, OnErr, None, Some, Ok, Err, true};
+ghost use Rattle.std.specs.Prelude.{◌≡◌, ◌≢◌, ◌⊎◌, ◌<◌, ◌+◌, length, All, IfErr, IfOk, OnOk, OnErr, None, Some, Ok, Err, true};
 ghost use Rattle.mt_base.specs.declared.refusal.Refusal.{Refusal};
 ghost use Rattle.mt_live.specs.Machine.{State};
 ghost use Rattle.mt_model.specs.Model.{Base};
 ghost use Rattle.mt_live.specs.declared.transactions.TxnState.TheVariants.{Aborting};
 ghost use Rattle.mt_core.specs.Consistent.{AtPlace};
-ghost use Rattle.mt_core.specs.Work.{most_steps};
 ghost use Rattle.mt_op.specs.declared.scope.OpScope.{OpScope};
 ghost use Rattle.mt_txn.specs.Causes.{IsRefusedAtOnce};
-ghost use Rattle.mt_txn.specs.Effects.{LeavesAbort, MovesAbort};
+ghost use Rattle.mt_txn.specs.Effects.{BeginsUndoing, LeavesAbort, MovesAbort};
 ghost use Rattle.mt_txn.specs.Aborted.{StepsAbort, StepsInverse};
 ghost use Rattle.mt_txn.specs.Events.{HasAborted};
 ghost use Rattle.mt_txn.specs.Shown.{FailsForGood, SameSchema, Shows, Stays, StaysRestarting, TellsEachFault, kernel_device, kernel_log, kernel_page_locks};
 ghost use Rattle.mt_txn.specs.Work.{IsAbortReportedAs};
-ghost use Rattle.mt_txn.specs.Shown.{CallsOnce, LeavesFound};
+ghost use Rattle.mt_txn.specs.Shown.{LeavesFound, ReadsDevice};
 ghost use Rattle.mt_txn.specs.PageLocks.{AbortsLocks};
-ghost use Rattle.mt_txn.specs.Words.{kernel_state, kernel_running, kernel_undo_steps, kernel_abort_begin_cause, kernel_abort_cause, kernel_last, IsKernelFault, StateIsSet, CommitsStay, NumbersStay, RunningStays};
-ghost use Rattle.mt_txn.specs.Writes.{InverseWrites};
+ghost use Rattle.mt_txn.specs.Words.{kernel_state, kernel_store, kernel_running, kernel_abort_begin_cause, kernel_abort_cause, kernel_last, IsKernelFault, NumbersStay};
+ghost use Rattle.mt_txn.specs.Writes.{LogsEnd, LogsNothing, UndoingWrites};
 ghost use Rattle.mt_log.specs.Words.{appended};
 ghost use Rattle.mt_op.specs.World.{undoes_of};
 
@@ -40,12 +39,7 @@ impl<D: Device> Kernel<D> {
         ensures may { OnOk result (kernel_abort_begin_cause self.old txn ≡ None) }
         ensures cause { IfErr result (λ why. kernel_abort_begin_cause self.old txn ≡ Some why) }
         ensures state { Stays self.old self.new }
-        ensures aborts { OnOk result (StateIsSet self.old self.new txn (Some Aborting)) }
-        ensures running { RunningStays self.old self.new }
-        ensures numbers { NumbersStay self.old self.new }
-        ensures commits { CommitsStay self.old self.new }
-        ensures device { kernel_device self.new ≡ kernel_device self.old }
-        ensures work { OnOk result (kernel_undo_steps self.new txn ≤ most_steps self.old.core txn) }
+        ensures begins { OnOk result (BeginsUndoing self.old txn Aborting self.new) }
         ensures fails { FailsForGood self.old result self.new }
         ensures err { OnErr result (self.new ≡ self.old) }
         ensures schema { SameSchema self.old self.new }
@@ -60,13 +54,15 @@ impl<D: Device> Kernel<D> {
     }
 
     // Takes the operation at a place back a step, which is no inverse.
-    fn go_back(&mut self, txn: TxnNo, place: usize) -> Result<AbortStepped, Refusal>
+    fn take_back(&mut self, txn: TxnNo, place: usize) -> Result<AbortStepped, Refusal>
         requires within { place < length (kernel_running self.old) }
         requires own { AtPlace (kernel_running self.old) place
             (λ r. (r.txn ≡ txn) × (undoes_of r ≡ 0)) }
         requires aborting { kernel_state self.old txn ≡ Some Aborting }
         ensures steps { StepsAbort self.old txn result self.new }
         ensures marks { self.new.failed ≡ true → result ≡ Err Refusal.DeviceFailed }
+        ensures writes { UndoingWrites (LogsEnd txn) (appended (kernel_log self.old)) (appended (kernel_log self.new))
+            result }
         ensures numbers { NumbersStay self.old self.new }
         ensures locks { AtPlace (kernel_running self.old) place
             (λ r. AbortsLocks self.old.core self.new.core r result) }
@@ -90,7 +86,7 @@ impl<D: Device> Kernel<D> {
         ensures numbers { NumbersStay self.old self.new }
         ensures locks { AtPlace (kernel_running self.old) place
             (λ r. AbortsLocks self.old.core self.new.core r result) }
-        ensures writes { InverseWrites (appended (kernel_log self.old)) (appended (kernel_log self.new)) result }
+        ensures writes { UndoingWrites LogsNothing (appended (kernel_log self.old)) (appended (kernel_log self.new)) result }
     {
         let outcome = self.core.undo_step(self.alloc, place);
         self.failed = is_failure(&outcome);
@@ -126,6 +122,9 @@ impl<D: Device> Kernel<D> {
         ensures marks { self.new.failed ≡ self.old.failed }
         ensures drawn { result ≡ Ok AbortStepped.More → kernel_last self.new ≡ kernel_last self.old + 1 }
         ensures undrawn { result ≢ Ok AbortStepped.More → NumbersStay self.old self.new }
+        ensures writes { UndoingWrites (LogsEnd txn) (appended (kernel_log self.old)) (appended (kernel_log self.new))
+            result }
+        ensures store { result ≡ Ok AbortStepped.More → kernel_store self.new ≡ kernel_store self.old }
         ensures locks { kernel_page_locks self.new ≡ kernel_page_locks self.old }
         ensures device { kernel_device self.new ≡ kernel_device self.old }
         ensures goes { IfOk result (λ stepped. (stepped ≡ AbortStepped.More) ⊎ (stepped ≡ AbortStepped.Ended)) }
@@ -162,7 +161,7 @@ impl<D: Device> Kernel<D> {
         ensures schema { SameSchema self.old self.new }
         ensures restarts { StaysRestarting self.old self.new }
         ensures moments { LeavesFound self.old self.new }
-        ensures once { CallsOnce self.old self.new }
+        ensures reads { ReadsDevice self.old self.new }
         ensures aborted { (first : Base) (s : State) → Shows first s self.old
             → HasAborted first s txn result self.new }
     {
@@ -175,7 +174,7 @@ impl<D: Device> Kernel<D> {
         if self.core.is_inverse(place) {
             self.undo_step(txn, place)
         } else {
-            self.go_back(txn, place)
+            self.take_back(txn, place)
         }
     }
 }

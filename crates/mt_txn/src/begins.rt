@@ -1,5 +1,5 @@
 // The begin of a transaction: its tests, and then the core's begin.
-ghost use Rattle.std.specs.Prelude.{◌≡◌, ◌≢◌, ◌+◌, ◌^◌, IfOk, IfErr, OnOk, OnErr, None, Some};
+ghost use Rattle.std.specs.Prelude.{◌≡◌, ◌≢◌, ◌+◌, ◌^◌, IfOk, IfErr, OnOk, OnErr, Some};
 ghost use Rattle.mt_base.specs.declared.refusal.Refusal.{Refusal};
 ghost use Rattle.mt_live.specs.Machine.{State, begun};
 ghost use Rattle.mt_model.specs.Model.{Base};
@@ -23,7 +23,6 @@ impl<D: Device> Kernel<D> {
     /// and 1 for want of memory. Nothing has changed then.
     pub fn begin(&mut self, session: u32) -> Result<TxnNo, Refusal>
         ensures number { IfOk result (λ txn. txn ≡ self.old.core.live.begun + 1) }
-        ensures may { OnOk result (kernel_begin_cause self.old ≡ None) }
         ensures early { IsRefusedAtOnce (kernel_begin_cause self.old) self.old result self.new }
         ensures cause { IfErr result (λ why. why ≢ Refusal.NoMemory
             → kernel_begin_cause self.old ≡ Some why) }

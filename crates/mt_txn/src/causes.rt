@@ -10,7 +10,7 @@ ghost use Rattle.mt_live.specs.Undoing.{is_counted};
 ghost use Rattle.mt_model.specs.Model.{Base};
 ghost use Rattle.mt_base.specs.declared.refusal.Refusal.TheVariants.{BadSavepoint};
 ghost use Rattle.mt_txn.specs.Shown.{Shows};
-ghost use Rattle.mt_core.specs.Runs.{is_open};
+ghost use Rattle.mt_core.specs.Runs.{is_working};
 ghost use Rattle.mt_txn.specs.Causes.{IsNamed, IsSized, abort_cause, call_cause, count_cause, name_cause, open_cause, size_cause};
 ghost use Rattle.mt_txn.specs.Words.{kernel_state, kernel_count, kernel_members, kernel_running, kernel_call_cause, kernel_commit_cause, kernel_open_cause, kernel_abort_begin_cause, kernel_abort_cause, kernel_back_cause, kernel_return_cause};
 ghost use Rattle.mt_core.specs.Seen.{core_last};
@@ -100,7 +100,7 @@ impl<D: Device> Kernel<D> {
     // Why the beginning of an abort is refused, if it is.
     pub(crate) fn abort_begin_cause(&self, txn: TxnNo) -> Option<Refusal>
         ensures cause { result ≡ kernel_abort_begin_cause self.now txn }
-        ensures at_work { IfNone result (is_open (member_of (kernel_members self.now) txn) ≡ true) }
+        ensures at_work { IfNone result (is_working (member_of (kernel_members self.now) txn) ≡ true) }
     {
         if self.has_failed() {
             return Some(Refusal::DeviceFailed);

@@ -1,19 +1,18 @@
 // Going back to a savepoint: where the first so many operations of a transaction had ended. What it did since is undone
 // by inverses, as in an abort, but they and what they take back stay. The transaction goes on after that.
-ghost use Rattle.std.specs.Prelude.{ℕ, ◌≡◌, ◌≢◌, ◌⊎◌, ◌≤◌, ◌+◌, All, IfErr, IfOk, OnOk, OnErr, None, Some, Ok, Err, filter, length, true};
+ghost use Rattle.std.specs.Prelude.{ℕ, ◌≡◌, ◌≢◌, ◌⊎◌, ◌+◌, All, IfErr, IfOk, OnOk, OnErr, None, Some, Ok, Err, false, filter, is_some, length, true};
 ghost use Rattle.mt_base.specs.declared.refusal.Refusal.{Refusal};
 ghost use Rattle.mt_live.specs.Machine.{State};
-ghost use Rattle.mt_live.specs.Undoing.{is_counted};
+ghost use Rattle.mt_live.specs.Undoing.{after_first, is_counted, last_effect};
 ghost use Rattle.mt_live.specs.declared.transactions.TxnState.TheVariants.{Returning};
 ghost use Rattle.mt_model.specs.Model.{Base};
-ghost use Rattle.mt_core.specs.Work.{most_steps};
 ghost use Rattle.mt_op.specs.declared.scope.OpScope.{OpScope};
 ghost use Rattle.mt_txn.specs.Aborted.{StepsReturn};
 ghost use Rattle.mt_txn.specs.Causes.{IsRefusedAtOnce, IsSavepoint};
-ghost use Rattle.mt_txn.specs.Effects.{LeavesReturn, MovesReturn};
+ghost use Rattle.mt_txn.specs.Effects.{BeginsUndoing, LeavesReturn, MovesReturn};
 ghost use Rattle.mt_txn.specs.Events.{HasReturned};
-ghost use Rattle.mt_txn.specs.Shown.{CallsOnce, FailsForGood, LeavesFound, SameSchema, Shows, Stays, StaysRestarting, TellsEachFault, kernel_page_locks};
-ghost use Rattle.mt_txn.specs.Words.{kernel_back_cause, kernel_commit_cause, kernel_count, kernel_last, kernel_return_cause, kernel_running, kernel_state, kernel_store, kernel_undo_steps, CommitsStay, IsKernelFault, NumbersStay, RunningStays, StateIsSet};
+ghost use Rattle.mt_txn.specs.Shown.{FailsForGood, LeavesFound, ReadsDevice, SameSchema, Shows, Stays, StaysRestarting, TellsEachFault, kernel_page_locks};
+ghost use Rattle.mt_txn.specs.Words.{kernel_back_cause, kernel_commit_cause, kernel_count, kernel_is_busy, kernel_last, kernel_return_cause, kernel_running, kernel_state, kernel_store, IsKernelFault, NumbersStay};
 
 use crate::answers::AbortStepped;
 use crate::kernel::Kernel;
@@ -53,14 +52,7 @@ impl<D: Device> Kernel<D> {
         ensures standing { (base : Base) (s : State) → Shows base s self.old
             → IsSavepoint (length (filter (is_counted txn) s.standing)) first result }
         ensures state { Stays self.old self.new }
-        ensures returns { OnOk result (StateIsSet self.old self.new txn (Some (Returning first))) }
-        ensures running { RunningStays self.old self.new }
-        ensures numbers { NumbersStay self.old self.new }
-        ensures commits { CommitsStay self.old self.new }
-        ensures counts { (t : ℕ) → kernel_count self.new t ≡ kernel_count self.old t }
-        ensures store { kernel_store self.new ≡ kernel_store self.old }
-        ensures locks { kernel_page_locks self.new ≡ kernel_page_locks self.old }
-        ensures work { OnOk result (kernel_undo_steps self.new txn ≤ most_steps self.old.core txn) }
+        ensures begins { OnOk result (BeginsUndoing self.old txn (Returning first) self.new) }
         ensures fails { FailsForGood self.old result self.new }
         ensures err { OnErr result (self.new ≡ self.old) }
         ensures schema { SameSchema self.old self.new }
@@ -79,6 +71,8 @@ impl<D: Device> Kernel<D> {
         requires idle { All (λ (r : OpScope). r.txn ≢ txn) (kernel_running self.old) }
         requires returning { kernel_state self.old txn ≡ Some (Returning first) }
         ensures steps { StepsReturn self.old txn first result self.new }
+        ensures needed { OnErr result
+            (is_some (last_effect txn (after_first txn first self.old.core.live.standing)) ≡ true) }
         ensures marks { self.new.failed ≡ self.old.failed }
         ensures drawn { result ≡ Ok AbortStepped.More → kernel_last self.new ≡ kernel_last self.old + 1 }
         ensures undrawn { result ≢ Ok AbortStepped.More → NumbersStay self.old self.new }
@@ -113,12 +107,16 @@ impl<D: Device> Kernel<D> {
             ⊎ IsKernelFault self.old self.new why) }
         ensures moves { MovesReturn self.old txn result self.new }
         ensures leaves { LeavesReturn self.old txn result self.new }
+        // If no operation is under way, it is refused memory only if an operation is left to undo.
+        ensures needed { (base : Base) (s : State) (first : ℕ) → Shows base s self.old
+            → kernel_state self.old txn ≡ Some (Returning first) → kernel_is_busy self.old txn ≡ false
+            → result ≡ Err Refusal.NoMemory → is_some (last_effect txn (after_first txn first s.standing)) ≡ true }
         ensures fails { FailsForGood self.old result self.new }
         ensures quiet { TellsEachFault self.old result self.new }
         ensures schema { SameSchema self.old self.new }
         ensures restarts { StaysRestarting self.old self.new }
         ensures moments { LeavesFound self.old self.new }
-        ensures once { CallsOnce self.old self.new }
+        ensures reads { ReadsDevice self.old self.new }
         ensures returned { (base : Base) (s : State) (first : ℕ) → Shows base s self.old
             → kernel_state self.old txn ≡ Some (Returning first)
             → HasReturned base s txn first result self.new }

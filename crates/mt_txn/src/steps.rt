@@ -9,7 +9,7 @@ ghost use Rattle.mt_txn.specs.Effects.{LeavesStep, MovesStep};
 ghost use Rattle.mt_txn.specs.Work.{IsReportedAs};
 ghost use Rattle.mt_txn.specs.Events.{HasStepped};
 ghost use Rattle.mt_txn.specs.Shown.{FailsForGood, SameSchema, Shows, StaysRestarting, TellsEachFault};
-ghost use Rattle.mt_txn.specs.Shown.{CallsOnce, LeavesFound};
+ghost use Rattle.mt_txn.specs.Shown.{LeavesFound, ReadsDevice};
 ghost use Rattle.mt_txn.specs.Words.{kernel_running, kernel_step_cause, IsKernelFault};
 
 use crate::answers::Stepped;
@@ -46,7 +46,7 @@ impl<D: Device> Kernel<D> {
         ensures schema { SameSchema self.old self.new }
         ensures restarts { StaysRestarting self.old self.new }
         ensures moments { LeavesFound self.old self.new }
-        ensures once { CallsOnce self.old self.new }
+        ensures reads { ReadsDevice self.old self.new }
         ensures stepped { (first : Base) (s : State) → Shows first s self.old
             → HasStepped first s txn result self.new }
     {

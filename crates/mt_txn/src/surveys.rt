@@ -1,13 +1,11 @@
 // What the pages of a kernel come to while no transaction is active: a base and some figures. No page changes.
-ghost use Rattle.std.specs.Prelude.{◌≡◌, ◌≢◌, ◌⊎◌, ◌≤◌, ◌+◌, IfOk, IfErr, OnOk, None, Some};
+ghost use Rattle.std.specs.Prelude.{◌≡◌, ◌≢◌, ◌⊎◌, IfOk, IfErr, Some};
 ghost use Rattle.mt_base.specs.declared.refusal.Refusal.{Refusal};
-ghost use Rattle.mt_core.specs.Consistent.{OnlyOperations};
 ghost use Rattle.mt_live.specs.Machine.{State};
 ghost use Rattle.mt_model.specs.Model.{Base};
-ghost use Rattle.mt_pool.specs.Views.{pages};
 ghost use Rattle.mt_txn.specs.Causes.{IsRefusedAtOnce};
-ghost use Rattle.mt_txn.specs.Shown.{FailsForGood, SameSchema, Shows, Stays, StaysRestarting, TellsEachFault, kernel_device, kernel_log, kernel_pool};
-ghost use Rattle.mt_txn.specs.Surveyed.{TellsBase, TellsPages};
+ghost use Rattle.mt_txn.specs.Shown.{FailsForGood, SameSchema, Shows, Stays, StaysRestarting, TellsEachFault};
+ghost use Rattle.mt_txn.specs.Surveyed.{ReadsPages, TellsBase, TellsPages};
 ghost use Rattle.mt_txn.specs.Shown.{LeavesFound};
 ghost use Rattle.mt_txn.specs.Words.{kernel_survey_cause, IsKernelFault};
 
@@ -25,7 +23,6 @@ impl<D: Device> Kernel<D> {
     /// Refused, in this order: 2 if the device has failed, 16 if a transaction lives. Then 1 for want of memory
     /// and 2 if the device fails in this call, so no fault is passed over. The state is as before in any case.
     pub fn survey(&mut self) -> Result<Survey, Refusal>
-        ensures may { OnOk result (kernel_survey_cause self.old ≡ None) }
         ensures early { IsRefusedAtOnce (kernel_survey_cause self.old) self.old result self.new }
         ensures cause { IfErr result (λ why. why ≢ Refusal.NoMemory
             → (kernel_survey_cause self.old ≡ Some why)
@@ -34,13 +31,7 @@ impl<D: Device> Kernel<D> {
             → IfOk result (TellsBase self.old.relations self.old.counters s.base) }
         ensures pages { IfOk result (TellsPages self.old) }
         ensures state { Stays self.old self.new }
-        ensures rest { OnlyOperations self.old.core self.new.core }
-        ensures log { kernel_log self.new ≡ kernel_log self.old }
-        ensures pool { kernel_pool self.new ≡ kernel_pool self.old }
-        ensures content { D.seen (kernel_device self.new) ≡ D.seen (kernel_device self.old) }
-        // It reads each page once at most, but for two that are read first.
-        ensures calls { D.moment (kernel_device self.new)
-            ≤ D.moment (kernel_device self.old) + pages (kernel_pool self.old) + 2 }
+        ensures reads { ReadsPages self.old self.new }
         ensures schema { SameSchema self.old self.new }
         ensures restarts { StaysRestarting self.old self.new }
         ensures moments { LeavesFound self.old self.new }

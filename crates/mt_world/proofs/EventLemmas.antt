@@ -25,7 +25,7 @@ use Rattle.mt_txn.specs.Causes.{IsRefusedAtOnce, begin_cause, call_cause, first_
 use Rattle.mt_txn.specs.Events.{HasAborted, HasCalled, HasForced, HasReturned, HasStepped, IsAnsweredBy, IsBack, IsReturn}
 use Rattle.mt_txn.specs.Events.IsBack.{stands, drops as drops_back, undoes as undoes_back}
 use Rattle.mt_txn.specs.Events.IsReturn.{stays as stays_back, returns as returns_back}
-use Rattle.mt_txn.specs.Shown.{CallsOnce, FailsForGood, LeavesFound, SameSchema, Shows, Stays, StaysRestarting, is_failed, kernel_device}
+use Rattle.mt_txn.specs.Shown.{CallsOnce, FailsForGood, LeavesFound, ReadsDevice, SameSchema, Shows, Stays, StaysRestarting, is_failed, kernel_device}
 use Rattle.mt_txn.specs.Words.{kernel_state, kernel_store}
 use Rattle.mt_txn.specs.declared.answers.AbortStepped.{AbortStepped}
 use Rattle.mt_txn.specs.declared.answers.AbortStepped.TheVariants as abort
@@ -38,10 +38,10 @@ use Rattle.mt_world.specs.Acts.{Act}
 use Rattle.mt_world.specs.Moves.{IsStill, Moves}
 use Rattle.mt_world.specs.Moves.IsStill.{is_refused, call_waits, step_went, step_waits, step_again, step_full, abort_went, abort_waits, abort_again, abort_full, return_went, return_waits, return_again, return_full, force_went, force_idle}
 use Rattle.mt_world.specs.Moves.Moves.{stays, begins, calls, ends, drops, undoes, aborts, returns, settles, books}
-use Rattle.mt_world.specs.Due.{CallsAtEvent, FailsIn, IsBacked, IsBroken, IsCaused, IsDue, IsFlushed, IsReturned, IsStepped, SamePhases, SetsPhases}
+use Rattle.mt_world.specs.Due.{CallsAtEvent, FailsIn, IsAbortStepped, IsBroken, IsCaused, IsDue, IsFlushed, IsReturned, IsStepped, SamePhases, SetsPhases}
 use Rattle.mt_world.specs.Schedules.{HasMade}
 use Rattle.mt_world.specs.declared.events.Answer.{Answer}
-use Rattle.mt_world.specs.declared.events.Answer.TheVariants.{Begun, Called as CalledAs, Stepped, Backed, Returned, Forced, Refused}
+use Rattle.mt_world.specs.declared.events.Answer.TheVariants.{Begun, Called as CalledAs, Stepped, Undone, Returned, Forced, Refused}
 use Rattle.mt_world.specs.declared.events.Event.{Event}
 use Rattle.mt_world.specs.declared.events.Event.TheVariants.{Begin, Call, Step, AbortStep, BackStep, Force}
 
@@ -80,10 +80,10 @@ open_state (Some (Returning n)) is = absurd cc
 -- ---- events
 
 -- a step of an abort leads where its answer says
-back_moves : (state : ℕ → Option TxnState) (t : ℕ) (s z : State) → IsBack s t z → (acts : List Act) × Moves state s (AbortStep t) (Backed abort.More) acts z
-back_moves state t s _ stands = ([], stays _ _ (abort_went t))
-back_moves state t s _ (drops_back op ps runs given) = ([], drops t op ps runs given)
-back_moves state t s _ (undoes_back last inverse ps idle effect inverts given) = (_, undoes t last inverse ps idle effect inverts given)
+undo_moves : (state : ℕ → Option TxnState) (t : ℕ) (s z : State) → IsBack s t z → (acts : List Act) × Moves state s (AbortStep t) (Undone abort.More) acts z
+undo_moves state t s _ stands = ([], stays _ _ (abort_went t))
+undo_moves state t s _ (drops_back op ps runs given) = ([], drops t op ps runs given)
+undo_moves state t s _ (undoes_back last inverse ps idle effect inverts given) = (_, undoes t last inverse ps idle effect inverts given)
 
 -- a step of going back does too
 return_moves : (state : ℕ → Option TxnState) (t first : ℕ) (s z : State) → state t ≡ Some (Returning first) → IsReturn s t first z → (acts : List Act) × Moves state s (BackStep t) (Returned abort.More) acts z
@@ -174,7 +174,7 @@ module _ {D : Type 0} {g : Ghosts D} (k n : Kernel D g) where
 
   -- ---- a step
 
-  pub step_made : (t : ℕ) (outcome : StepOutcome) → IsStepped k t outcome n → CallsOnce k n → ((first : Base) (s : State) → Shows first s k → HasStepped first s t (Ok outcome) n) → SamePhases k n → SameSchema k n → FailsIn k (Stepped outcome) n → StaysRestarting k n → Found
+  pub step_made : (t : ℕ) (outcome : StepOutcome) → IsStepped k t outcome n → ReadsDevice k n → ((first : Base) (s : State) → Shows first s k → HasStepped first s t (Ok outcome) n) → SamePhases k n → SameSchema k n → FailsIn k (Stepped outcome) n → StaysRestarting k n → Found
       → HasMade k (Step t) (Stepped outcome) n
   step_made t outcome due once did phases schema fails restarts found = record { leads = λ first s starts shows. leads outcome first s shows (did first s shows); due = due; device = once; phases = phases; fails = fails; restarts = restarts; found = found; schema = schema }
     where
@@ -197,24 +197,24 @@ module _ {D : Type 0} {g : Ghosts D} (k n : Kernel D g) where
 
   -- ---- a step of an abort
 
-  pub back_made : (t : ℕ) (outcome : AbortStepped) → IsBacked k t outcome n → CallsOnce k n → ((first : Base) (s : State) → Shows first s k → HasAborted first s t (Ok outcome) n) → SetsPhases k (AbortStep t) (Backed outcome) n → SameSchema k n → FailsIn k (Backed outcome) n → StaysRestarting k n → Found
-      → HasMade k (AbortStep t) (Backed outcome) n
-  back_made t outcome due once did phases schema fails restarts found = record { leads = λ first s starts shows. leads outcome first s (did first s shows); due = due; device = once; phases = phases; fails = fails; restarts = restarts; found = found; schema = schema }
+  pub undo_made : (t : ℕ) (outcome : AbortStepped) → IsAbortStepped k t outcome n → ReadsDevice k n → ((first : Base) (s : State) → Shows first s k → HasAborted first s t (Ok outcome) n) → SetsPhases k (AbortStep t) (Undone outcome) n → SameSchema k n → FailsIn k (Undone outcome) n → StaysRestarting k n → Found
+      → HasMade k (AbortStep t) (Undone outcome) n
+  undo_made t outcome due once did phases schema fails restarts found = record { leads = λ first s starts shows. leads outcome first s (did first s shows); due = due; device = once; phases = phases; fails = fails; restarts = restarts; found = found; schema = schema }
     where
-      leads : (outcome : AbortStepped) (first : Base) (s : State) → HasAborted first s t (Ok outcome) n → Leads first s (AbortStep t) (Backed outcome)
-      leads abort.More first s did = ∥∥₁_map did (λ (z, back, shows). let moves = back_moves (kernel_state k) t s z back in (moves.0, z, moves.1, shows))
-      leads (abort.Wait other) first s did = still (AbortStep t) (Backed (abort.Wait other)) first s (abort_waits t other) did
-      leads abort.Again first s did = still (AbortStep t) (Backed abort.Again) first s (abort_again t) did
-      leads abort.Flush first s did = still (AbortStep t) (Backed abort.Flush) first s (abort_full t) did
+      leads : (outcome : AbortStepped) (first : Base) (s : State) → HasAborted first s t (Ok outcome) n → Leads first s (AbortStep t) (Undone outcome)
+      leads abort.More first s did = ∥∥₁_map did (λ (z, back, shows). let moves = undo_moves (kernel_state k) t s z back in (moves.0, z, moves.1, shows))
+      leads (abort.Wait other) first s did = still (AbortStep t) (Undone (abort.Wait other)) first s (abort_waits t other) did
+      leads abort.Again first s did = still (AbortStep t) (Undone abort.Again) first s (abort_again t) did
+      leads abort.Flush first s did = still (AbortStep t) (Undone abort.Flush) first s (abort_full t) did
       leads abort.Ended first s did = ∥∥₁_map did.1 (λ nothing. ([], gone s t, aborts t nothing, did.0))
 
-  pub back_phases : (t : ℕ) (outcome : AbortStepped) → (outcome ≢ abort.Ended → SameStates k.core n.core) → SameCommits k.core n.core
-      → (outcome ≡ abort.Ended → (state_in n.core.live.members t ≡ None) × SameStatesBut k.core n.core t) → SetsPhases k (AbortStep t) (Backed outcome) n
-  back_phases t abort.More same commits out = (same (λ e. cc), commits)
-  back_phases t (abort.Wait other) same commits out = (same (λ e. cc), commits)
-  back_phases t abort.Again same commits out = (same (λ e. cc), commits)
-  back_phases t abort.Flush same commits out = (same (λ e. cc), commits)
-  back_phases t abort.Ended same commits out = let gone = out refl in (gone.0, gone.1, commits)
+  pub undo_phases : (t : ℕ) (outcome : AbortStepped) → (outcome ≢ abort.Ended → SameStates k.core n.core) → SameCommits k.core n.core
+      → (outcome ≡ abort.Ended → (state_in n.core.live.members t ≡ None) × SameStatesBut k.core n.core t) → SetsPhases k (AbortStep t) (Undone outcome) n
+  undo_phases t abort.More same commits out = (same (λ e. cc), commits)
+  undo_phases t (abort.Wait other) same commits out = (same (λ e. cc), commits)
+  undo_phases t abort.Again same commits out = (same (λ e. cc), commits)
+  undo_phases t abort.Flush same commits out = (same (λ e. cc), commits)
+  undo_phases t abort.Ended same commits out = let gone = out refl in (gone.0, gone.1, commits)
 
   -- ---- going back begins
 
@@ -222,12 +222,15 @@ module _ {D : Type 0} {g : Ghosts D} (k n : Kernel D g) where
   pub store_device : kernel_store n ≡ kernel_store k → kernel_device n ≡ kernel_device k
   store_device same = ap (λ (s : Store D). s.device) same
 
+  pub kernel_same : n ≡ k → kernel_device n ≡ kernel_device k
+  kernel_same same = ap (λ (x : Kernel D g). kernel_device x) same
+
   -- ---- a step of going back
 
   abbrev HasGoneBack : ℕ → Result AbortStepped Refusal → Type 0
   HasGoneBack t result = (base : Base) (s : State) (first : ℕ) → Shows base s k → kernel_state k t ≡ Some (Returning first) → HasReturned base s t first result n
 
-  pub return_made : (t : ℕ) (outcome : AbortStepped) → IsReturned k t outcome n → CallsOnce k n → HasGoneBack t (Ok outcome) → SetsPhases k (BackStep t) (Returned outcome) n → SameSchema k n → FailsIn k (Returned outcome) n → StaysRestarting k n → Found
+  pub return_made : (t : ℕ) (outcome : AbortStepped) → IsReturned k t outcome n → ReadsDevice k n → HasGoneBack t (Ok outcome) → SetsPhases k (BackStep t) (Returned outcome) n → SameSchema k n → FailsIn k (Returned outcome) n → StaysRestarting k n → Found
       → HasMade k (BackStep t) (Returned outcome) n
   return_made t outcome due once did phases schema fails restarts found = record {
     leads = λ base s starts shows. let goes = returning_to (is_failed k) (kernel_state k t) due.may in leads outcome goes.0 goes.1 base s (did base s goes.0 shows goes.1);

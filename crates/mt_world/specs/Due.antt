@@ -13,8 +13,8 @@ use Rattle.mt_pool.specs.declared.flushes.Flushed.{Flushed as FlushOutcome}
 use Rattle.mt_pool.specs.declared.flushes.Flushed.TheVariants as flush
 use Rattle.mt_restart.specs.Rotated.{IsKeptCause, early_cause}
 use Rattle.mt_txn.specs.Events.{IsAnsweredBy, IsForcedBy}
-use Rattle.mt_txn.specs.Shown.{CallsOnce, is_failed, kernel_device, kernel_log, kernel_pool}
-use Rattle.mt_txn.specs.Work.{IsAbortForOther, IsForOther, LowersAbort, LowersReturn, LowersSteps}
+use Rattle.mt_txn.specs.Shown.{CallsOnce, ReadsDevice, is_failed, kernel_device, kernel_log, kernel_pool}
+use Rattle.mt_txn.specs.Work.{IsAbortForOther, IsForOther, LowersSteps, LowersUndoing, NoMoreAreLeft, NoneAreLeft}
 use Rattle.mt_txn.specs.declared.answers.AbortStepped.{AbortStepped}
 use Rattle.mt_txn.specs.declared.answers.AbortStepped.TheVariants as abort
 use Rattle.mt_txn.specs.declared.answers.Stepped.{Stepped as StepOutcome}
@@ -22,7 +22,7 @@ use Rattle.mt_txn.specs.declared.answers.Stepped.TheVariants as step
 use Rattle.mt_txn.specs.declared.kernel.Kernel.{Kernel}
 use Rattle.mt_txn.specs.Words.{kernel_book, kernel_commits, kernel_count, kernel_members, kernel_state, kernel_steps, kernel_undo_steps, kernel_begin_cause, kernel_call_cause, kernel_step_cause, kernel_commit_cause, kernel_abort_begin_cause, kernel_abort_cause, kernel_back_cause, kernel_return_cause, IsKernelFault, IsKernelFailure, StatesStay, StatesStayBut, UncommittedStay, StateIsSet, CommitsStay, FrameIsWanted}
 use Rattle.mt_world.specs.declared.events.Answer.{Answer}
-use Rattle.mt_world.specs.declared.events.Answer.TheVariants.{Begun, Called, Stepped, Committing, Aborting, Backed, Returning, Returned, Forced, Flushed, Rotated, Refused}
+use Rattle.mt_world.specs.declared.events.Answer.TheVariants.{Begun, Called, Stepped, Committing, Aborting, Undone, Returning, Returned, Forced, Flushed, Rotated, Refused}
 use Rattle.mt_world.specs.declared.events.Event.{Event}
 use Rattle.mt_world.specs.declared.events.Event.TheVariants.{Begin, Call, Step, Commit, AbortBegin, AbortStep, Back, BackStep, Force, Flush, Rotate}
 
@@ -41,16 +41,18 @@ module _ {D : Type 0} {g : Ghosts D} where
     pub full : outcome ≡ step.Flush → FrameIsWanted k n
 
   -- and so a step of an abort
-  pub record IsBacked (k : Kernel D g) (t : ℕ) (outcome : AbortStepped) (n : Kernel D g) : Type 0 where
+  pub record IsAbortStepped (k : Kernel D g) (t : ℕ) (outcome : AbortStepped) (n : Kernel D g) : Type 0 where
     pub may : kernel_abort_cause k t ≡ None
-    pub work : LowersAbort (pages (kernel_pool k)) (Ok outcome) (kernel_undo_steps k t) (kernel_undo_steps n t)
+    pub work : LowersUndoing NoneAreLeft (pages (kernel_pool k)) (Ok outcome) (kernel_undo_steps k t)
+        (kernel_undo_steps n t)
     pub other : IsAbortForOther (kernel_members k) t outcome
     pub full : outcome ≡ abort.Flush → FrameIsWanted k n
 
   -- And so a step of going back. Once that ends, the operations count that it went back to.
   pub record IsReturned (k : Kernel D g) (t : ℕ) (outcome : AbortStepped) (n : Kernel D g) : Type 0 where
     pub may : kernel_return_cause k t ≡ None
-    pub work : LowersReturn (pages (kernel_pool k)) (Ok outcome) (kernel_undo_steps k t) (kernel_undo_steps n t)
+    pub work : LowersUndoing NoMoreAreLeft (pages (kernel_pool k)) (Ok outcome) (kernel_undo_steps k t)
+        (kernel_undo_steps n t)
     pub other : IsAbortForOther (kernel_members k) t outcome
     pub full : outcome ≡ abort.Flush → FrameIsWanted k n
     pub count : (first : ℕ) → kernel_state k t ≡ Some (state.Returning first) → outcome ≡ abort.Ended
@@ -87,7 +89,7 @@ module _ {D : Type 0} {g : Ghosts D} where
   IsDue k (AbortBegin t) (Refused why) n = kernel_abort_begin_cause k t ≡ Some why
   IsDue k (AbortBegin t) answer n = kernel_abort_begin_cause k t ≡ None
   IsDue k (AbortStep t) (Refused why) n = IsCaused (kernel_abort_cause k t) why ⊎ IsKernelFault k n why
-  IsDue k (AbortStep t) (Backed outcome) n = IsBacked k t outcome n
+  IsDue k (AbortStep t) (Undone outcome) n = IsAbortStepped k t outcome n
   IsDue k (AbortStep t) answer n = ⊥
   IsDue k (Back t first) (Refused why) n = kernel_back_cause k t first ≡ Some why
   IsDue k (Back t first) answer n = kernel_back_cause k t first ≡ None
@@ -108,11 +110,12 @@ module _ {D : Type 0} {g : Ghosts D} where
 -- ---- what is in memory
 
 module _ {D : Type 0} {g : Ghosts D} where
-  -- A step, a force and a flush call the device once at most, a rotation as often as it has to. No other event does.
+  -- A step reads the device, and a force and a flush call it, once at most. A rotation calls it as often as it has to,
+  -- and no other event does.
   abbrev pub CallsAtEvent : Kernel D g → Event → Kernel D g → Type 0
-  CallsAtEvent k (Step t) n = CallsOnce k n
-  CallsAtEvent k (AbortStep t) n = CallsOnce k n
-  CallsAtEvent k (BackStep t) n = CallsOnce k n
+  CallsAtEvent k (Step t) n = ReadsDevice k n
+  CallsAtEvent k (AbortStep t) n = ReadsDevice k n
+  CallsAtEvent k (BackStep t) n = ReadsDevice k n
   CallsAtEvent k Force n = CallsOnce k n
   CallsAtEvent k Flush n = CallsOnce k n
   CallsAtEvent k Rotate n = ⊤
@@ -134,7 +137,7 @@ module _ {D : Type 0} {g : Ghosts D} where
   SetsPhases k (Begin session) (Begun t) n = StateIsSet k n t (Some state.Open) × CommitsStay k n
   SetsPhases k (Commit t) (Committing place) n = StateIsSet k n t (Some state.Committing) × IsQueued k t n
   SetsPhases k (AbortBegin t) Aborting n = StateIsSet k n t (Some state.Aborting) × CommitsStay k n
-  SetsPhases k (AbortStep t) (Backed abort.Ended) n = (kernel_state n t ≡ None) × StatesStayBut k n t × CommitsStay k n
+  SetsPhases k (AbortStep t) (Undone abort.Ended) n = (kernel_state n t ≡ None) × StatesStayBut k n t × CommitsStay k n
   SetsPhases k (Back t first) Returning n = StateIsSet k n t (Some (state.Returning first)) × CommitsStay k n
   SetsPhases k (BackStep t) (Returned abort.Ended) n = StateIsSet k n t (Some state.Open) × CommitsStay k n
   SetsPhases k Force (Forced outcome) n = UncommittedStay k n

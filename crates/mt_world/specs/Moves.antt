@@ -19,7 +19,7 @@ use Rattle.mt_txn.specs.declared.answers.KernelForced.TheVariants as forced
 use Rattle.mt_txn.specs.declared.answers.Stepped.TheVariants as step
 use Rattle.mt_world.specs.Acts.{Act}
 use Rattle.mt_world.specs.declared.events.Answer.{Answer}
-use Rattle.mt_world.specs.declared.events.Answer.TheVariants.{Begun, Called, Stepped, Committing, Aborting, Backed, Returning, Returned, Forced, Flushed, Rotated, Refused}
+use Rattle.mt_world.specs.declared.events.Answer.TheVariants.{Begun, Called, Stepped, Committing, Aborting, Undone, Returning, Returned, Forced, Flushed, Rotated, Refused}
 use Rattle.mt_world.specs.declared.events.Event.{Event}
 use Rattle.mt_world.specs.declared.events.Event.TheVariants.{Begin, Call, Step, Commit, AbortBegin, AbortStep, Back, BackStep, Force, Flush, Rotate}
 
@@ -33,10 +33,10 @@ pub data IsStill : Event → Answer → Type 0 where
   step_full : (t : ℕ) → IsStill (Step t) (Stepped step.Flush)
   commit_begun : (t place : ℕ) → IsStill (Commit t) (Committing place)
   abort_begun : (t : ℕ) → IsStill (AbortBegin t) Aborting
-  abort_went : (t : ℕ) → IsStill (AbortStep t) (Backed abort.More)
-  abort_waits : (t other : ℕ) → IsStill (AbortStep t) (Backed (abort.Wait other))
-  abort_again : (t : ℕ) → IsStill (AbortStep t) (Backed abort.Again)
-  abort_full : (t : ℕ) → IsStill (AbortStep t) (Backed abort.Flush)
+  abort_went : (t : ℕ) → IsStill (AbortStep t) (Undone abort.More)
+  abort_waits : (t other : ℕ) → IsStill (AbortStep t) (Undone (abort.Wait other))
+  abort_again : (t : ℕ) → IsStill (AbortStep t) (Undone abort.Again)
+  abort_full : (t : ℕ) → IsStill (AbortStep t) (Undone abort.Flush)
   back_begun : (t first : ℕ) → IsStill (Back t first) Returning
   return_went : (t : ℕ) → IsStill (BackStep t) (Returned abort.More)
   return_waits : (t other : ℕ) → IsStill (BackStep t) (Returned (abort.Wait other))
@@ -57,13 +57,13 @@ pub data Moves (state : ℕ → Option TxnState) (s : State) : Event → Answer 
       → Moves state s (Step t) (Stepped (step.Replied (reply_of s.base op)))
       (record { txn = t; op = op; reply = reply_of s.base op; undoes = false } ∷ []) (ended s t op)
   drops : (t : ℕ) (op : Op) (ps : List Pending) → s.running t ≡ Some op → GivesBack t op s.pending ps
-      → Moves state s (AbortStep t) (Backed abort.More) [] (dropped s t ps)
+      → Moves state s (AbortStep t) (Undone abort.More) [] (dropped s t ps)
   undoes : (t : ℕ) (last : Entry) (inverse : Op) (ps : List Pending) → s.running t ≡ None
       → last_effect t s.standing ≡ Some last → inverse_of last.op last.reply ≡ Some inverse
       → GivesBack t last.op s.pending ps
-      → Moves state s (AbortStep t) (Backed abort.More)
+      → Moves state s (AbortStep t) (Undone abort.More)
       (record { txn = t; op = inverse; reply = reply_of s.base inverse; undoes = true } ∷ []) (undone s t inverse ps)
-  aborts : (t : ℕ) → last_effect t s.standing ≡ None → Moves state s (AbortStep t) (Backed abort.Ended) [] (gone s t)
+  aborts : (t : ℕ) → last_effect t s.standing ≡ None → Moves state s (AbortStep t) (Undone abort.Ended) [] (gone s t)
   -- the last effect after the first so many, and its inverse, which both stay
   returns : (t first : ℕ) (last : Entry) (inverse : Op) (ps : List Pending) → state t ≡ Some (phase.Returning first)
       → s.running t ≡ None → last_effect t s.standing ≡ Some last

@@ -1,7 +1,7 @@
 -- What events and their answers say of a transaction, and which commits they acknowledge.
 use Rattle.std.specs.Prelude.{ℕ, ◌==◌, cond, List, [], ◌∷◌, ◌++◌, drop, map, take, Option, Some, None}
 use Rattle.mt_core.specs.declared.calls.Called.TheVariants as call
-use Rattle.mt_model.specs.Backwards.{calls_back}
+use Rattle.mt_model.specs.Backwards.{OpenCalls, back_to}
 use Rattle.mt_model.specs.History.{Call as Replied}
 use Rattle.mt_model.specs.declared.history.Committed.{Committed}
 use Rattle.mt_model.specs.declared.operations.Op.{Op}
@@ -41,12 +41,14 @@ with_reply so_far reply = record so_far {
   counting = so_far.counting ++ replied so_far.started reply;
 }
 
--- It has gone back: what counted after the first so many was taken back, the last of it first. An inverse finds what
--- its operation left, so its reply is known.
+-- It has gone back to the first so many. An inverse finds what its operation left, so its reply is known.
+abbrev pub reported_calls : Reported → OpenCalls
+reported_calls so_far = record { all = so_far.calls; counted = so_far.counting }
+
 abbrev pub gone_back : Reported → Reported
 gone_back so_far = record so_far {
-  calls = so_far.calls ++ calls_back (drop so_far.first so_far.counting);
-  counting = take so_far.first so_far.counting;
+  calls = (back_to (reported_calls so_far) so_far.first).all;
+  counting = (back_to (reported_calls so_far) so_far.first).counted;
 }
 
 -- what one more event with its answer says of transaction t

@@ -74,7 +74,7 @@ fn undo<D: Device>(kernel: &mut Kernel<D>, txn: TxnNo) -> Answer
         kernel.new }
 {
     match kernel.abort_step(txn) {
-        Ok(stepped) => Answer::Backed(stepped),
+        Ok(stepped) => Answer::Undone(stepped),
         Err(refusal) => Answer::Refused(refusal),
     }
 }

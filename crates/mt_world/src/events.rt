@@ -44,7 +44,7 @@ pub enum Answer {
     /// The transaction is to be undone.
     Aborting,
     /// What the abort's step came to.
-    Backed(AbortStepped),
+    Undone(AbortStepped),
     /// The transaction is to go back.
     Returning,
     /// What the step of going back came to.

@@ -1,7 +1,8 @@
 use Rattle.std.proofs.Common.{◌-◌}
 use Rattle.mt_txn.specs.Shown.{SameSchema, StaysRestarting}
 use Rattle.mt_alone.specs.Driven.{IsEnding}
-use Rattle.mt_alone.specs.Plays.{Play, OpenCalls}
+use Rattle.mt_model.specs.Backwards.{OpenCalls}
+use Rattle.mt_alone.specs.Plays.{Play}
 use Rattle.mt_alone.proofs.forces.force_commit.Given as goal
 
 abbrev pub invariant-loop-step : goal.invariant-loop-step

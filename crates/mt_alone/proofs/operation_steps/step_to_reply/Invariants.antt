@@ -3,7 +3,8 @@ use Rattle.mt_core.specs.Work.{steps_in}
 use Rattle.mt_model.specs.declared.operations.Op.{Op}
 use Rattle.mt_txn.specs.Shown.{SameSchema, StaysRestarting}
 use Rattle.mt_alone.specs.Driven.{IsCalling}
-use Rattle.mt_alone.specs.Plays.{Play, OpenCalls}
+use Rattle.mt_model.specs.Backwards.{OpenCalls}
+use Rattle.mt_alone.specs.Plays.{Play}
 use Rattle.mt_alone.proofs.operation_steps.step_to_reply.Given as goal
 
 abbrev pub invariant-loop-step : goal.invariant-loop-step

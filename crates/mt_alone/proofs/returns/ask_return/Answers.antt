@@ -19,7 +19,7 @@ returns-then-not-wants_memory-clause-neared g c = λ p n had start.
     let e = c.back_step-answer.ensures in
     let stood = c.loop.invariant.goes p n had start in
     nearer_from p c.args.txn n had c.args.kernel.now c.loop.kernel c.back_step-answer.new.self c.back_step-answer.result stood.1
-    (asked_return p c.args.txn n had c.loop.kernel c.back_step-answer.new.self c.back_step-answer.result (pages c.loop.kernel.core.operations.store.pool) stood.0 (λ is. absurd (let no : false ≡ true = sym c.if-abort_wants_frame.false ∙ c.abort_wants_frame.ensures.1 is in cc)) e.returned e.leaves.states (λ many at is. (e.leaves.opened many at is).0) e.moves.work e.moves.other e.cause (λ w is. (e.early w is).1))
+    (asked_return p c.args.txn n had c.loop.kernel c.back_step-answer.new.self c.back_step-answer.result (pages c.loop.kernel.core.operations.store.pool) stood.0 (λ is. absurd (let no : false ≡ true = sym c.if-abort_wants_frame.false ∙ c.abort_wants_frame.ensures.1 is in cc)) e.returned e.leaves.states (λ many at is. (e.leaves.ends is many at).0) e.moves.work e.moves.other e.cause (λ w is. (e.early w is).1))
 
 pub loop-preserved : goal.loop-preserved
 loop-preserved g c =

@@ -1,7 +1,8 @@
 use Rattle.std.proofs.Common.{ℕ}
 use Rattle.mt_txn.specs.Shown.{SameSchema, StaysRestarting}
 use Rattle.mt_alone.specs.Driven.{IsReturning}
-use Rattle.mt_alone.specs.Plays.{OpenCalls, Play}
+use Rattle.mt_model.specs.Backwards.{OpenCalls}
+use Rattle.mt_alone.specs.Plays.{Play}
 use Rattle.mt_alone.proofs.ReturnLemmas.{ReturnsBy}
 use Rattle.mt_alone.proofs.returns.ask_return.Given as goal
 

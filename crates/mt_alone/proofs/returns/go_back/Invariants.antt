@@ -2,7 +2,8 @@ use Rattle.std.proofs.Common.{◌+◌, ◌≤◌, ℕ}
 use Rattle.mt_core.specs.Work.{undo_steps}
 use Rattle.mt_txn.specs.Shown.{SameSchema, StaysRestarting}
 use Rattle.mt_alone.specs.Driven.{IsReturning}
-use Rattle.mt_alone.specs.Plays.{OpenCalls, Play}
+use Rattle.mt_model.specs.Backwards.{OpenCalls}
+use Rattle.mt_alone.specs.Plays.{Play}
 use Rattle.mt_alone.proofs.returns.go_back.Given as goal
 
 abbrev pub invariant-loop-step : goal.invariant-loop-step

@@ -13,4 +13,4 @@ pub returns-clause-aborted : goal.returns-clause-aborted
 returns-clause-aborted g c = λ p calls o.
     let D = g.D.Device in
     let e = c.in_ok-abort_begin.ensures in
-    c.undo.ensures.undone p (abort_goes p c.args.kernel.now c.abort_begin.new.self c.args.txn calls o e.state e.aborts) (abort_few p c.args.kernel.now c.abort_begin.new.self c.args.txn calls o e.state e.aborts e.running)
+    c.undo.ensures.undone p (abort_goes p c.args.kernel.now c.abort_begin.new.self c.args.txn calls o e.state e.begins.state) (abort_few p c.args.kernel.now c.abort_begin.new.self c.args.txn calls o e.state e.begins.state e.begins.running)

@@ -33,4 +33,4 @@ returns-in-Err-clause-unserved g c =
     let new = c.in-Err.device in
     not_begun c.in-Err.refusal (barred_by _ _ c.in-Err.refusal c.in-Err.ensures.refused.cause)
     (stands_same D c.args.device new c.requires.settled c.in-Err.ensures.moments (λ t le. g.met.D.Device.counts_now new t (D.seen new) le (g.met.D.Device.present new)))
-    (λ early. c.in-Err.ensures.refused.unwritten early.1) (Keeps-refl (g.O.Write.contents c.args.out.now))
+    (λ early. (c.in-Err.ensures.refused.reads early.1).same) (Keeps-refl (g.O.Write.contents c.args.out.now))

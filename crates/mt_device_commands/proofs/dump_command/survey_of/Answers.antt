@@ -36,4 +36,4 @@ returns-in-Err-clause-stands g c =
     stands_same D c.args.device new c.requires.settled c.in-Err.ensures.moments (λ t le. g.met.D.Device.counts_now new t (D.seen new) le (g.met.D.Device.present new))
 
 pub returns-in-Err-clause-early : goal.returns-in-Err-clause-early
-returns-in-Err-clause-early g c = λ early. c.in-Err.ensures.refused.unwritten early.1
+returns-in-Err-clause-early g c = λ early. (c.in-Err.ensures.refused.reads early.1).same

@@ -1,6 +1,6 @@
 use Rattle.std.proofs.Common.{◌≡◌, ◌∙◌, ℕ, List, length, sym, ap, subst}
 use Rattle.std.specs.Prelude.{IfOk}
-use Rattle.mt_index.specs.Checks.{bytes_of}
+use Rattle.mt_space.specs.PageLists.{bytes_of}
 use Rattle.mt_steps.proofs.Formatting.{formatted_good}
 use Rattle.mt_steps.specs.Plans.{IsGood}
 use Rattle.mt_op.specs.Begun.{FitsPages}

@@ -1,8 +1,6 @@
 use Rattle.mt_frame.specs.Grammar.{AreOfFormat}
 use Rattle.std.proofs.Common.{subst, sym, ◌∙◌}
 use Rattle.mt_frame.proofs.Rows.{one_body}
-use Rattle.std.proofs.lemmas.Result.{err_from_is_err_and}
-use Rattle.mt_frame.proofs.Rows.{wrong_is, wrong_there}
 use Rattle.mt_frame.proofs.decoders.row_of_format.Goals as goal
 
 -- the bytes are the row of one list of records, and that one is not of the format

@@ -1,6 +1,7 @@
 use Rattle.std.proofs.Common.{◌≡◌, ◌≢◌, ◌<◌, ◌^◌, ◌∙◌, ℕ, List, length, get_or, ap, subst, arith}
 use Rattle.mt_index.specs.Pages.{depth_in, pointer_at}
-use Rattle.mt_index.specs.Checks.{bytes_of, IsMarked, Marks, IsStuck}
+use Rattle.mt_index.specs.Checks.{IsMarked, Marks, IsStuck}
+use Rattle.mt_space.specs.PageLists.{bytes_of}
 use Rattle.mt_index.proofs.Marks.{marked_more}
 use Rattle.mt_index.proofs.Pointers.{in_directory}
 use Rattle.mt_index.proofs.Sounds.{sound_walks, pointer_real}

@@ -1,4 +1,4 @@
-use Rattle.mt_index.specs.Checks.{bytes_of}
+use Rattle.mt_space.specs.PageLists.{bytes_of}
 use Rattle.mt_index.proofs.Marks.{IsMarking}
 use Rattle.mt_index.proofs.bucket_marks.mark_chain.Given as goal
 

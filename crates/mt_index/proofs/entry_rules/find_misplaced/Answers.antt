@@ -1,6 +1,7 @@
 use Rattle.std.proofs.Common.{◌∙◌, sym, ap, arith}
 use Rattle.mt_bucket.specs.Page.{next_of}
-use Rattle.mt_index.specs.Checks.{bytes_of, IsMisplaced}
+use Rattle.mt_index.specs.Checks.{IsMisplaced}
+use Rattle.mt_space.specs.PageLists.{bytes_of}
 use Rattle.mt_index.proofs.Settled.{holder_empty, passed_end, walking_start, walking_inside, walking_kind, walking_more, walking_all, none_follows}
 use Rattle.mt_index.proofs.entry_rules.find_misplaced.Goals as goal
 

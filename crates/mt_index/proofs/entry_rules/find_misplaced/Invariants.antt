@@ -1,5 +1,6 @@
 use Rattle.std.proofs.Common.{length}
-use Rattle.mt_index.specs.Checks.{bytes_of, holder_in}
+use Rattle.mt_index.specs.Checks.{holder_in}
+use Rattle.mt_space.specs.PageLists.{bytes_of}
 use Rattle.mt_index.proofs.Settled.{IsWalking}
 use Rattle.mt_index.proofs.entry_rules.find_misplaced.Given as goal
 

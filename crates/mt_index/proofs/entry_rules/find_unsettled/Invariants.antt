@@ -1,5 +1,6 @@
 use Rattle.std.proofs.Common.{◌<◌, ℕ}
-use Rattle.mt_index.specs.Checks.{bytes_of, Settles}
+use Rattle.mt_index.specs.Checks.{Settles}
+use Rattle.mt_space.specs.PageLists.{bytes_of}
 use Rattle.mt_index.proofs.entry_rules.find_unsettled.Given as goal
 
 abbrev pub invariant-loop-number : goal.invariant-loop-number

@@ -3,7 +3,8 @@ use Rattle.mt_bucket.specs.Entries.{Entry}
 use Rattle.mt_bucket.specs.Hash.{hash}
 use Rattle.mt_bucket.specs.Page.{count_of, next_of}
 use Rattle.mt_index.specs.Pages.{depth_in, pointer_at}
-use Rattle.mt_index.specs.Checks.{bytes_of, entry_at, holder_in}
+use Rattle.mt_index.specs.Checks.{entry_at, holder_in}
+use Rattle.mt_space.specs.PageLists.{bytes_of}
 use Rattle.mt_index.proofs.Settled.{holder_noted, passed_entry, passed_page, passed_twice}
 use Rattle.mt_index.proofs.entry_rules.pass.Goals as goal
 

@@ -1,5 +1,5 @@
 use Rattle.std.proofs.Common.{◌≡◌, ◌≢◌, ◌∙◌, ℕ, get_or, sym, ap}
-use Rattle.mt_index.specs.Checks.{bytes_of}
+use Rattle.mt_space.specs.PageLists.{bytes_of}
 use Rattle.mt_index.proofs.Settled.{bucket_settles, misplaced_unsettled, answer_follows}
 use Rattle.mt_index.proofs.entry_rules.unsettled_from.Goals as goal
 

@@ -1,6 +1,6 @@
 use Rattle.std.proofs.Common.{◌∙◌, ap, subst, sym}
 use Rattle.mt_index.specs.Pages.{IsDirectory}
-use Rattle.mt_index.specs.Checks.{bytes_of}
+use Rattle.mt_space.specs.PageLists.{bytes_of}
 use Rattle.mt_index.specs.Broken.{map_broken, directory_broken, next_broken, pointers_broken, bytes_broken}
 use Rattle.mt_index.proofs.Sounds.{sound_nexts, sound_pointer}
 use Rattle.mt_index.proofs.index_rules.check.Goals as goal

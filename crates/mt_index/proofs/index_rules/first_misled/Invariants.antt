@@ -1,6 +1,7 @@
 use Rattle.std.proofs.Common.{◌≡◌, ◌<◌, ℕ}
 use Rattle.mt_space.specs.Kinds.{kind}
-use Rattle.mt_index.specs.Checks.{bytes_of, HasNext}
+use Rattle.mt_index.specs.Checks.{HasNext}
+use Rattle.mt_space.specs.PageLists.{bytes_of}
 use Rattle.mt_index.proofs.index_rules.first_misled.Given as goal
 
 abbrev pub invariant-loop-number : goal.invariant-loop-number

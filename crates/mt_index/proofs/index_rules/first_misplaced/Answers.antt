@@ -1,6 +1,7 @@
 use Rattle.std.proofs.Common.{◌≢◌, ◌<◌, ◌^◌, ℕ, length}
 use Rattle.mt_index.specs.Pages.{depth_in, pointer_at}
-use Rattle.mt_index.specs.Checks.{bytes_of, Settles}
+use Rattle.mt_index.specs.Checks.{Settles}
+use Rattle.mt_space.specs.PageLists.{bytes_of}
 use Rattle.mt_index.specs.Broken.{chain_broken, place_broken}
 use Rattle.mt_index.proofs.Sounds.{sound_settles, pointer_real}
 use Rattle.mt_index.proofs.Breaking.{placed_settles}

@@ -1,7 +1,7 @@
 use Rattle.std.proofs.Common.{◌≡◌, ◌<◌, ◌∙◌, refl, sym, List, length, get_or, ap, subst, arith}
 use Rattle.mt_space.specs.declared.changes.PageChange.{PageChange}
 use Rattle.mt_space.specs.Changes.{IsUntouched}
-use Rattle.mt_steps.proofs.Overlaid.{named_at}
+use Rattle.mt_overlay.proofs.Overlaid.{named_at}
 use Rattle.std.specs.Prelude.{All, Contains, IsTrue, false}
 use Rattle.std.proofs.lemmas.List.{take_all}
 use Rattle.std.proofs.lemmas.List.Elements.{All-more}

@@ -1,7 +1,7 @@
 use Rattle.std.proofs.Common.{◌≡◌, ◌<◌, ℕ, [], true, false, length, get_or}
 use Rattle.mt_log.specs.Quiet.{OnlyReads}
 use Rattle.mt_pool.specs.Images.{slot}
-use Rattle.mt_page_rules.specs.Whole.{AreWhole}
+use Rattle.mt_space.specs.PageLists.{AreWhole}
 use Rattle.mt_replay.proofs.page_slots.read_slots.Given as goal
 
 abbrev pub invariant-loop-number : goal.invariant-loop-number

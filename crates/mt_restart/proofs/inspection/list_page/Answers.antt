@@ -1,5 +1,5 @@
 use Rattle.std.proofs.Common.{ℕ, ap, get_or, length, refl, sym, ◌∙◌}
-use Rattle.mt_index.specs.Checks.{bytes_of}
+use Rattle.mt_space.specs.PageLists.{bytes_of}
 use Rattle.mt_model.specs.Views.{relations_of}
 use Rattle.mt_op.proofs.Surveyed.{records_page}
 use Rattle.mt_restart.proofs.Listing.{lists_page, lists_skipped}

@@ -1,5 +1,5 @@
 use Rattle.std.proofs.Common.{◌≡◌, ◌+◌, ℕ, length, subst, sym, arith}
-use Rattle.mt_index.specs.Checks.{bytes_of}
+use Rattle.mt_space.specs.PageLists.{bytes_of}
 use Rattle.mt_steps.specs.Plans.{IsGood}
 use Rattle.mt_restart.specs.Inspected.{Lists}
 use Rattle.mt_restart.proofs.Listing.{lists_both, lists_none}

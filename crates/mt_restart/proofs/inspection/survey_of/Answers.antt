@@ -1,5 +1,5 @@
 use Rattle.std.proofs.Common.{◌≡◌, ◌<◌, ℕ, List, ap, get_or, length, subst, ◌∙◌}
-use Rattle.mt_index.specs.Checks.{bytes_of}
+use Rattle.mt_space.specs.PageLists.{bytes_of}
 use Rattle.mt_index.specs.Pages.{depth_in}
 use Rattle.mt_model.specs.Views.{base_of}
 use Rattle.mt_counters.specs.Counters.{count_in}

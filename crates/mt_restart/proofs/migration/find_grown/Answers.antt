@@ -76,14 +76,14 @@ returns g c =
     let some : 3 ≤ length x.restored.pages.items = let low = (ruling_fits seen x.ruling r.marked.area.rules).pages.0 in let count = r.marked.count in omega (arith, low, count) in
     record {
       found = p.found seen marked;
-      grown_are = IfOk-weaker c.prepare.result _ _ (λ f same. record { slot = x.ruling; old = x.restored.pages.items; replayed = r.replayed; extension = subst (ExtendsSchema more.relations more.new_counters x.restored.pages.items) (sym same) e.extended }) p.restored;
+      grown_are = IfOk-weaker c.prepare.result _ _ (λ f same. record { slot = x.ruling; old = x.restored.pages.items; first = r.has_format; replayed = r.replayed; extension = subst (ExtendsSchema more.relations more.new_counters x.restored.pages.items) (sym same) e.extended }) p.restored;
       shows = λ relations counters b can. IfOk-weaker c.prepare.result _ _
           (λ f same. subst (λ (items : List (List ℕ)). ShowsGrown more relations counters items b) (sym same)
           (shows_grown more x.restored.pages.items y.restored.pages.items e.extended relations counters b some can.fits (subst IsBase (sym can.stands.is) can.recoverable.serial.bounds) (r.found relations counters b can))) p.restored;
       reads = reads_then D g.met.D.Device.only_now c.args.device.now c.replay_of.new.device c.extend_schema.new.device c.replay_of.ensures.reads c.extend_schema.ensures.reads;
       cause = IfErr-weaker c.prepare.result _ _ (λ why cause. ⊎_elim
           (λ memory. subst (IsCauseNotToCarry more seen failed) (sym memory) tt)
-          (λ full. subst (IsCauseNotToCarry more seen failed) (sym full.0) (record { slot = y.ruling; items = y.restored.pages.items; grown_are = record { slot = x.ruling; old = x.restored.pages.items; replayed = r.replayed; extension = e.extended }; turn_barred = full.1 seen marked })) cause) p.cause;
+          (λ full. subst (IsCauseNotToCarry more seen failed) (sym full.0) (record { slot = y.ruling; items = y.restored.pages.items; grown_are = record { slot = x.ruling; old = x.restored.pages.items; first = r.has_format; replayed = r.replayed; extension = e.extended }; turn_barred = full.1 seen marked })) cause) p.cause;
       unformatted = IfErr-weaker c.prepare.result _ _ (λ why cause none. absurd (ruled seen x.ruling r.marked.area.rules none)) p.cause;
       other = IfErr-weaker c.prepare.result _ _ (λ why cause is. absurd (r.none_other is)) p.cause;
       quiet = λ not. e.quiet (λ e. cc) ∙ r.quiet (λ e. cc);

@@ -48,7 +48,7 @@ returns-in-Err-clause-refused g c =
       cause = e.cause;
       unformatted = e.unformatted;
       other = e.other;
-      unwritten = λ not. (e.reads not).same;
+      reads = e.reads;
       settled = λ relations counters b can not. e.settled relations counters b can not;
     }
 

@@ -1,6 +1,6 @@
 use Rattle.std.proofs.Common.{◌∙◌, length, sym, ap, subst}
 use Rattle.mt_base.specs.Limits.{IsRelationCount}
-use Rattle.mt_index.specs.Checks.{bytes_of}
+use Rattle.mt_space.specs.PageLists.{bytes_of}
 use Rattle.mt_op.specs.Operations.{operation_frames}
 use Rattle.mt_op.specs.declared.operations.Operations.{Operations}
 use Rattle.mt_restart.proofs.Based.{base_of_good}

@@ -1,7 +1,7 @@
 use Rattle.std.proofs.Common.{◌<◌, ◌∙◌, ap, length, sym, subst}
 use Rattle.mt_base.specs.declared.refusal.Refusal.{Refusal}
 use Rattle.mt_disk.specs.Disk.{LeavesOnly}
-use Rattle.mt_index.specs.Checks.{bytes_of}
+use Rattle.mt_space.specs.PageLists.{bytes_of}
 use Rattle.mt_restart.proofs.Based.{base_of_good}
 use Rattle.mt_restart.proofs.Refusals.{not_refused, refused_so}
 use Rattle.mt_restart.proofs.Opened.{base_in_bounds, opened_as}
@@ -64,6 +64,6 @@ returns-in-Err-clause-refused g c =
       other = e.other;
       left = e.no_other_refusal;
       formatted = λ s formatted. never_full c.slots_are_read_back.ensures s (D.seen d) (D.faults d < D.faults c.recover.new.device) why formatted e.cause;
-      unwritten = λ not. (e.reads not).same;
+      reads = e.reads;
       settled = λ relations counters b can not. c.recover.ensures.settled relations counters b can (refused_so c.recover.result why Refusal.DeviceFailed c.in-Err.is not);
     }

@@ -1,5 +1,5 @@
 use Rattle.std.proofs.Common.{◌≡◌, ◌∙◌, length, ap, sym, arith}
-use Rattle.mt_index.specs.Checks.{bytes_of}
+use Rattle.mt_space.specs.PageLists.{bytes_of}
 use Rattle.mt_log.specs.Words.{has_failed}
 use Rattle.mt_op.specs.Begun.{ShowsOpening}
 use Rattle.mt_pool.specs.Kept.{IsKept, store_frames}

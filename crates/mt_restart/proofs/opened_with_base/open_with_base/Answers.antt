@@ -4,7 +4,7 @@ use Rattle.mt_disk.proofs.Frame.{leaves_more}
 use Rattle.mt_restart.proofs.Again.{read_stands, recovers}
 use Rattle.mt_base.specs.declared.refusal.Refusal.{Refusal}
 use Rattle.mt_disk.specs.Disk.{LeavesOnly}
-use Rattle.mt_index.specs.Checks.{bytes_of}
+use Rattle.mt_space.specs.PageLists.{bytes_of}
 use Rattle.mt_model.specs.Views.{base_of}
 use Rattle.mt_restart.proofs.Based.{base_of_good}
 use Rattle.mt_restart.proofs.Counted.{begins_on, begins_on_pages}
@@ -115,7 +115,7 @@ returns-in-Err-clause-refused g c =
       other = e.other;
       left = e.no_other_refusal;
       formatted = λ s formatted. never_full c.slots_are_read_back.ensures s (D.seen o) (D.faults o < D.faults n) c.in-Err.refusal formatted e.cause;
-      unwritten = λ not. read.same;
+      reads = λ not. read;
       settled = λ relations counters b can not. read_stands D g.met.D.Device.counts_now o n read.same read.moments Two relations counters b can (e.only (λ is. not (one_refusal c.in-Err.refusal Refusal.DeviceFailed is)));
     }
 
@@ -139,7 +139,7 @@ returns-in-Err-survey_of-clause-refused g c =
       other = λ is. absurd (not_other c.slots_are_read_back.ensures (D.seen o) c.in-Ok.found.restored.pages.items c.in-Ok.ensures.restored is);
       left = λ relations counters b can. inl memory;
       formatted = λ s formatted full. let wrong = sym memory ∙ full in absurd cc;
-      unwritten = λ not. read.same;
+      reads = λ not. read;
       settled = λ relations counters b can not. read_stands D g.met.D.Device.counts_now o n read.same read.moments Two relations counters b can (c.in-Ok.ensures.only (λ e. cc));
     }
 
@@ -165,6 +165,6 @@ returns-in-Err-turn_to-clause-refused g c =
       other = x.other;
       left = x.no_other_refusal;
       formatted = λ s formatted full. let wrong = sym is ∙ full in absurd cc;
-      unwritten = λ not. absurd (not is);
+      reads = λ not. absurd (not is);
       settled = λ relations counters b can not. absurd (not is);
     }

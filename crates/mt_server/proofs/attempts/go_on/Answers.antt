@@ -1,8 +1,8 @@
 use Rattle.std.proofs.Common.{[], ◌≡◌, ◌<◌, ◌+◌, ℕ, suc, take, length, arith, Ok, Option, None, Some, refl, subst, ◌∙◌}
 use Rattle.std.proofs.lemmas.Result.{err_from_is_err_and}
 use Rattle.mt_server.proofs.AttemptLemmas.{at_end, begun_at, ended_at, line_more, own_at, stopped_at, waits_on}
-use Rattle.mt_server.specs.Hearing.{HasRan, Reached, Turning, open_calls, within}
-use Rattle.mt_locked.specs.Tokens.{TxnSeen}
+use Rattle.mt_server.specs.Hearing.{HasRan, Reached, Turning, within}
+use Rattle.mt_locked.specs.Tokens.{TxnSeen, open_calls}
 use Rattle.mt_server.specs.declared.attempts.Progress.TheVariants as progress
 use Rattle.mt_server.proofs.attempts.go_on.Goals as goal
 
@@ -16,7 +16,7 @@ pub returns-in_err-back-clause-runs : goal.returns-in_err-back-clause-runs
 returns-in_err-back-clause-runs g c = λ booked.
     let r = err_from_is_err_and c.from_residual.result c.from_residual.ensures.1 in
     rw (r.1, r.2) (stopped_at g.J.Naming.base c.args.txn.done.session (within booked (open_calls c.args.txn) c.args.pass.now) c.args.lines.now c.loop-line.line-index c.line-item.result c.args.out.now.items c.loop-line.out.items c.answer_line.new.out.items
-    c.loop-line.kept c.loop-line.pass c.answer_line.new.pass c.in_err-back.field-0.0 c.loop-line.invariant.pass (c.loop-line.invariant.reached booked) c.in_err-back.ensures.turns)
+    c.loop-line.kept c.loop-line.pass c.answer_line.new.pass c.in_err-back.field-0.0 (omega arith) c.line-item.is c.loop-line.invariant.pass (c.loop-line.invariant.reached booked) c.in_err-back.ensures.turns)
 
 pub returns-in-None-clause-runs : goal.returns-in-None-clause-runs
 returns-in-None-clause-runs g c = λ booked.
@@ -47,4 +47,4 @@ returns-clause-runs g c = λ booked.
     let whole : c.loop-line.line-index ≡ length c.args.lines.now = omega arith in
     let start = within booked (open_calls c.args.txn) c.args.pass.now in
     let reached = subst (λ (n : ℕ). Reached g.J.Naming.base c.args.txn.done.session start (take n c.args.lines.now) c.args.out.now.items c.loop-line.out.items (Some c.loop-line.kept) c.loop-line.pass) whole (c.loop-line.invariant.reached booked) in
-    at_end g.J.Naming.base c.args.txn.done.session start c.args.lines.now c.args.out.now.items c.loop-line.out.items c.end.new.out.items c.loop-line.kept c.loop-line.pass c.end.new.pass c.end.result reached c.end.ensures
+    at_end g.J.Naming.base c.args.txn.done.session start c.args.lines.now c.args.out.now.items c.loop-line.out.items c.end.new.out.items c.loop-line.kept c.loop-line.pass c.end.new.pass c.end.result c.loop-line.invariant.pass reached c.end.ensures

@@ -1,6 +1,7 @@
 use Rattle.std.proofs.Common.{◌≡◌, ℕ, List, Some, take}
 use Rattle.mt_model.specs.History.{Call}
-use Rattle.mt_server.specs.Hearing.{Reached, open_calls, within}
+use Rattle.mt_locked.specs.Tokens.{open_calls}
+use Rattle.mt_server.specs.Hearing.{Reached, within}
 use Rattle.mt_server.proofs.attempts.go_on.Given as goal
 
 abbrev pub invariant-loop-line : goal.invariant-loop-line

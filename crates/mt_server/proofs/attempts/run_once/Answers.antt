@@ -1,5 +1,6 @@
 use Rattle.std.proofs.Common.{◌∷◌, [], subst, sym}
-use Rattle.mt_server.specs.Hearing.{Running, between, open_calls, within}
+use Rattle.mt_locked.specs.Tokens.{open_calls}
+use Rattle.mt_server.specs.Hearing.{Running, between, within}
 use Rattle.mt_server.proofs.AttemptLemmas.{few_ran, run_fresh}
 use Rattle.mt_script.specs.declared.lines.Line.TheVariants.{Begin}
 use Rattle.mt_locked.specs.Seen.{PassSeen}

@@ -23,6 +23,11 @@ returns-in-Err-Failed-clause-runs g c = λ booked.
     same_start g.J.Naming.base c.args.session booked c.args.pass.now c.loop-run.pass (line.Begin ∷ c.args.lines.now) c.args.out.now.items c.loop-run.out.items c.run_once.new.out.items c.run_once.new.pass (Err halt.Failed) c.loop-run.invariant.pass c.loop-run.invariant.out
     (subst (λ (s : Halt). Running g.J.Naming.base c.args.session (between booked c.loop-run.pass) (line.Begin ∷ c.args.lines.now) c.loop-run.out.items c.run_once.new.out.items c.run_once.new.pass (Err s)) c.in-Err-Failed.field-0-is (c.in-Err-Failed.ensures.runs booked))
 
+pub returns-in-Err-Unheard-clause-runs : goal.returns-in-Err-Unheard-clause-runs
+returns-in-Err-Unheard-clause-runs g c = λ booked.
+    same_start g.J.Naming.base c.args.session booked c.args.pass.now c.loop-run.pass (line.Begin ∷ c.args.lines.now) c.args.out.now.items c.loop-run.out.items c.run_once.new.out.items c.run_once.new.pass (Err halt.Unheard) c.loop-run.invariant.pass c.loop-run.invariant.out
+    (subst (λ (s : Halt). Running g.J.Naming.base c.args.session (between booked c.loop-run.pass) (line.Begin ∷ c.args.lines.now) c.loop-run.out.items c.run_once.new.out.items c.run_once.new.pass (Err s)) c.in-Err-Unheard.field-0-is (c.in-Err-Unheard.ensures.runs booked))
+
 pub returns-clause-runs : goal.returns-clause-runs
 returns-clause-runs g c = λ booked.
     same_start g.J.Naming.base c.args.session booked c.args.pass.now c.loop-run.pass (line.Begin ∷ c.args.lines.now) c.args.out.now.items c.loop-run.out.items c.run_once-2.new.out.items c.run_once-2.new.pass c.run_once-2.result c.loop-run.invariant.pass c.loop-run.invariant.out (c.run_once-2.ensures.runs booked)

@@ -1,7 +1,8 @@
+use Rattle.std.proofs.lemmas.Result.{err_from_is_err_and}
 use Rattle.std.proofs.Common.{◌≡◌, IfSome, subst}
 use Rattle.mt_script.specs.declared.answers.Answer.TheVariants.{Refused}
 use Rattle.mt_script.specs.declared.lines.Line.TheVariants as line
-use Rattle.mt_server.proofs.HearingLemmas.{gone_not_back, lets_go_on, stops_behind, reported_commit, reported_refused, same_telling}
+use Rattle.mt_server.proofs.HearingLemmas.{gone_not_back, lets_go_on, stops_line, reported_commit, reported_refused, same_telling, unheard_commit}
 use Rattle.mt_server.proofs.line_answers.commit.Goals as goal
 
 pub returns-in_ok-tell_committed-in-Ok-clause-turns : goal.returns-in_ok-tell_committed-in-Ok-clause-turns
@@ -16,4 +17,9 @@ returns-in-Some-clause-turns g c =
 
 pub returns-in-None-clause-turns : goal.returns-in-None-clause-turns
 returns-in-None-clause-turns g c =
-    stops_behind c.args.pass.now c.commit.new.pass _ _ c.fail.result c.in-Err.ensures.same c.fail.ensures.stops
+    stops_line g.J.Naming.base c.args.txn c.args.pass.now c.commit.new.pass line.Commit _ _ c.fail.result c.in-Err.ensures.same c.fail.ensures.stops
+
+pub returns-in_err-tell_committed-in-Ok-clause-turns : goal.returns-in_err-tell_committed-in-Ok-clause-turns
+returns-in_err-tell_committed-in-Ok-clause-turns g c =
+    let p = err_from_is_err_and c.from_residual.result c.from_residual.ensures.1 in
+    rw (p.1, p.2) (unheard_commit g.J.Naming.base c.args.txn c.args.pass.now c.commit.new.pass _ _ c.in-Ok.place c.in_err-tell_committed-in-Ok.field-0.0 c.in_err-tell_committed-in-Ok.ensures.err c.in-Ok.ensures.entered)

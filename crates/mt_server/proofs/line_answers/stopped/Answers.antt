@@ -1,10 +1,11 @@
+use Rattle.std.proofs.Common.{inl}
 use Rattle.std.proofs.lemmas.Result.{IfErr-weaker}
 use Rattle.mt_server.proofs.HearingLemmas.{lets_live, reported_refused}
 use Rattle.mt_script.specs.declared.lines.Line.TheVariants as line
 use Rattle.mt_server.proofs.line_answers.stopped.Goals as goal
 
 pub returns-in-DeviceFailed-clause-turns : goal.returns-in-DeviceFailed-clause-turns
-returns-in-DeviceFailed-clause-turns g c = λ op may. c.failed.ensures.stops
+returns-in-DeviceFailed-clause-turns g c = λ op may. inl c.failed.ensures.stops
 
 pub returns-in-Die-clause-turns : goal.returns-in-Die-clause-turns
 returns-in-Die-clause-turns g c = λ op may. c.died.ensures.turns op

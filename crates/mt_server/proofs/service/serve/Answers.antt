@@ -30,3 +30,6 @@ pub returns-clause-few : goal.returns-clause-few
 returns-clause-few g c =
     let few : length c.args.scripts.items ≤ 64 = omega arith in
     IfOk-weaker c.serve_named.result _ _ (λ s began. few) c.serve_named.ensures.began
+
+pub returns-clause-outcome : goal.returns-clause-outcome
+returns-clause-outcome g c = rw c.as_slice.ensures.value at c.serve_named.ensures.outcome

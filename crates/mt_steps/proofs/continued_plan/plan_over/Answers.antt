@@ -2,7 +2,7 @@ use mathlib.Core.Logic.{∥∥₁_map}
 use Rattle.std.proofs.Common.{refl, sym}
 use Rattle.std.proofs.lemmas.Result.{IfOk-weaker}
 use Rattle.mt_model.specs.declared.operations.Op.TheVariants.{Scan}
-use Rattle.mt_steps.specs.Overlays.{copied}
+use Rattle.mt_overlay.specs.Overlays.{copied}
 use Rattle.mt_steps.proofs.Promised.{ok_both, asks_same, quiet_planned}
 use Rattle.mt_steps.proofs.Naming.{quiet_reported}
 use Rattle.mt_steps.proofs.continued_plan.plan_over.Goals as goal
@@ -18,12 +18,10 @@ returns-in_default c = let f = c.plan.ensures in rw (← c.copies.view_is) (reco
   same = refl;
   lock = f.lock;
   asks = f.asks;
-  mode = f.mode;
   made = f.made;
   takes = f.takes;
   there = f.there;
   few = f.few;
-  quiet = f.quiet;
   idle = f.idle;
   full = f.full;
   broken = f.broken;

@@ -1,9 +1,9 @@
 use Rattle.std.proofs.Common.{ℕ, subst, sym}
 use Rattle.mt_steps.specs.Acts.{HasGood}
-use Rattle.mt_steps.specs.Overlays.{copied}
+use Rattle.mt_overlay.specs.Overlays.{copied}
 use Rattle.mt_steps.specs.Planners.{PlansScan}
 use Rattle.mt_steps.specs.Scanned.{IsScannedTo}
-use Rattle.mt_steps.specs.declared.page_copies.PageCopies.{PageCopies}
+use Rattle.mt_overlay.specs.declared.page_copies.PageCopies.{PageCopies}
 use Rattle.mt_steps.proofs.continued_plan.scan_over.Goals as goal
 
 pub scan-requires-clause-good : goal.scan-requires-clause-good

@@ -16,7 +16,7 @@ use Rattle.mt_steps.specs.Acts.{IsAct}
 use Rattle.mt_steps.specs.Plans.{HasNoRecord}
 use Rattle.mt_space.proofs.Changing.{replaced_other}
 use Rattle.mt_steps.proofs.Modest.{modest_nothing, modest_same, file_empties}
-use Rattle.mt_steps.proofs.Asking.{all_at_hand}
+use Rattle.mt_overlay.proofs.Overlaid.{all_at_hand}
 use Rattle.mt_steps.proofs.Adding.{file_kept, adds_done, adds_nothing}
 use Rattle.mt_steps.specs.Tells.{TakesNone}
 use Rattle.mt_steps.proofs.Apart.{records_stay}

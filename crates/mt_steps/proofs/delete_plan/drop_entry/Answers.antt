@@ -9,7 +9,7 @@ use Rattle.mt_index.specs.Pages.{AreFormed}
 use Rattle.mt_index.specs.Answers.{InMaps, Amends, Asks, IsInBucket, AreSeen}
 use Rattle.mt_model.specs.declared.operations.Op.TheVariants.{Delete}
 use Rattle.mt_steps.specs.Acts.{IsAct, IsTaken}
-use Rattle.mt_steps.specs.Overlays.{shown}
+use Rattle.mt_overlay.specs.Overlays.{shown}
 use Rattle.mt_base.specs.declared.modes.Mode.TheVariants.{Write}
 use Rattle.mt_steps.specs.Logged.{logged_of}
 use Rattle.mt_model.specs.declared.operations.Reply.TheVariants.{Was}
@@ -46,8 +46,8 @@ returns-in-Endless g c = ∥∥₁_elim c.requires.good (hlevel props) (λ fact.
     outcome (after c.args.first.list.items good.0) (c.in_ok-overlay.ensures.agrees good.0 good.1) good.2
     (taken_map fact.0 (g.V.Pages.total c.args.views.now) good.0 good.2 c.args.first.list.items c.args.name.now _ good.3 placed.1))
 
-pub overlay_of-requires-clause-short : goal.overlay_of-requires-clause-short
-overlay_of-requires-clause-short g c = ∥∥₁_map c.requires.good (λ fact. let good = fact.1 in (good.0, good.1, (fact.2 good.0 good.1 good.2 good.3).1.short))
+pub over-requires-clause-short : goal.over-requires-clause-short
+over-requires-clause-short g c = ∥∥₁_map c.requires.good (λ fact. let good = fact.1 in (good.0, good.1, (fact.2 good.0 good.1 good.2 good.3).1.short))
 
 pub join-requires-clause-short : goal.join-requires-clause-short
 join-requires-clause-short g c = ∥∥₁_map c.requires.good (λ fact.

@@ -10,13 +10,13 @@ use Rattle.std.proofs.lemmas.Result.{IfOk-weaker}
 use Rattle.mt_model.specs.declared.operations.Op.TheVariants.{Insert}
 use Rattle.mt_steps.specs.Acts.{IsAct}
 use Rattle.mt_steps.specs.Plans.{IsModest}
-use Rattle.mt_steps.specs.Overlays.{shown}
+use Rattle.mt_overlay.specs.Overlays.{shown}
 use Rattle.mt_steps.specs.Logged.{logged_of}
 use Rattle.mt_model.specs.declared.operations.Reply.TheVariants.{Done}
 use Rattle.mt_steps.proofs.Single.{lock_some}
 use Rattle.mt_steps.proofs.Telling.{tells_weaker, logs_something}
 use Rattle.mt_steps.proofs.Asking.{add_needs, add_inside, shown_at_hand, few_more}
-use Rattle.mt_steps.proofs.Overlaid.{below_some}
+use Rattle.mt_overlay.proofs.Overlaid.{below_some}
 use Rattle.mt_steps.proofs.Modest.{placed_modest, added_modest, modest_trans, modest_more, insert_needs, shortage_few}
 use Rattle.mt_steps.proofs.Entering.{added_is, full_is, endless_is, placed_map, placed_leaves, entered}
 use Rattle.mt_steps.specs.Tells.{TakesAlone}
@@ -32,8 +32,8 @@ returns-in-Endless g c = λ value. ∥∥₁_elim c.requires.good (hlevel props)
     outcome (after c.args.plan.changes.list.items good.0) (c.in_ok-overlay.ensures.agrees good.0 good.1) good.2
     (placed_map fact.0 (g.V.Pages.total c.args.views.now) good.0 good.2 c.args.plan.changes.list.items c.args.plan.name _ good.3 placed))
 
-pub overlay_of-requires-clause-short : goal.overlay_of-requires-clause-short
-overlay_of-requires-clause-short g c = ∥∥₁_map c.requires.good (λ fact. let good = fact.3 in (good.0, good.1, (fact.4 good.0 good.1 good.2 good.3 good.4).short))
+pub over-requires-clause-short : goal.over-requires-clause-short
+over-requires-clause-short g c = ∥∥₁_map c.requires.good (λ fact. let good = fact.3 in (good.0, good.1, (fact.4 good.0 good.1 good.2 good.3 good.4).short))
 
 pub join-requires-clause-short : goal.join-requires-clause-short
 join-requires-clause-short g c = ∥∥₁_map c.requires.good (λ fact.

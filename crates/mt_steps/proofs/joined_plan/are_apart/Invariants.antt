@@ -1,6 +1,6 @@
 use Rattle.std.proofs.Common.{◌≡◌, ℕ, ◌<◌, false, get_or}
 use Rattle.mt_space.specs.declared.changes.PageChange.{PageChange}
-use Rattle.mt_steps.specs.Overlays.{names_page}
+use Rattle.mt_overlay.specs.Overlays.{names_page}
 use Rattle.mt_steps.proofs.joined_plan.are_apart.Given as goal
 
 abbrev pub invariant-loop-change : goal.invariant-loop-change

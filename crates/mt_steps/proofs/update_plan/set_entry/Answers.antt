@@ -11,7 +11,7 @@ use Rattle.mt_index.specs.Pages.{AreFormed}
 use Rattle.mt_index.specs.Answers.{InMaps, Amends, Asks, IsInBucket, AreSeen}
 use Rattle.mt_model.specs.declared.operations.Op.TheVariants.{Update}
 use Rattle.mt_steps.specs.Acts.{IsAct, IsMoved}
-use Rattle.mt_steps.specs.Overlays.{shown}
+use Rattle.mt_overlay.specs.Overlays.{shown}
 use Rattle.mt_base.specs.declared.modes.Mode.TheVariants.{Write}
 use Rattle.mt_steps.specs.Logged.{logged_of}
 use Rattle.mt_model.specs.declared.operations.Reply.TheVariants.{Was}
@@ -49,8 +49,8 @@ returns-in-Endless g c = λ name value seen. ∥∥₁_elim c.requires.good (hle
     outcome (after c.args.plan.changes.list.items good.0) (c.in_ok-overlay.ensures.agrees good.0 good.1) good.2
     (moved_map fact.0 (g.V.Pages.total c.args.views.now) good.0 good.2 c.args.plan.changes.list.items fact.2 c.args.plan.name _ _ good.3 placed.1).0)
 
-pub overlay_of-requires-clause-short : goal.overlay_of-requires-clause-short
-overlay_of-requires-clause-short g c = ∥∥₁_map c.requires.good (λ fact. let good = fact.4 in (good.0, good.1, (fact.5 good.0 good.1 good.2 good.3 good.4).1.short))
+pub over-requires-clause-short : goal.over-requires-clause-short
+over-requires-clause-short g c = ∥∥₁_map c.requires.good (λ fact. let good = fact.4 in (good.0, good.1, (fact.5 good.0 good.1 good.2 good.3 good.4).1.short))
 
 pub join-requires-clause-short : goal.join-requires-clause-short
 join-requires-clause-short g c = ∥∥₁_map c.requires.good (λ fact.

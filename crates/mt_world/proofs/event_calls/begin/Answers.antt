@@ -4,13 +4,14 @@ use Rattle.mt_world.specs.Moves.IsStill.{is_refused}
 use Rattle.mt_world.specs.declared.events.Answer.TheVariants.{Refused}
 use Rattle.mt_world.specs.declared.events.Event.TheVariants.{Begin}
 use Rattle.mt_world.proofs.EventLemmas.{fails_err, fails_ok, begin_made, caused, parts_phases, still_made}
+use Rattle.mt_txn.proofs.Answering.{may_of}
 use Rattle.mt_txn.proofs.Showing.{parts_stay}
 use Rattle.mt_world.proofs.event_calls.begin.Goals as goal
 
 pub returns-in-Ok : goal.returns-in-Ok
 returns-in-Ok g c =
     let D = g.D.Device in let k = c.args.kernel.now in let n = c.begin.new.self in let e = c.in-Ok.ensures in
-    begin_made k n c.args.session c.in-Ok.txn e.number e.may e.begun e.device (e.opened, e.commits) e.schema (fails_ok k n _ _ e.fails (λ broken. cc)) e.restarts e.moments
+    begin_made k n c.args.session c.in-Ok.txn e.number (may_of (begin_cause (is_failed k) k.core) k n _ e.early) e.begun e.device (e.opened, e.commits) e.schema (fails_ok k n _ _ e.fails (λ broken. cc)) e.restarts e.moments
 
 pub returns-in-Err : goal.returns-in-Err
 returns-in-Err g c =

@@ -11,11 +11,11 @@ pub returns-in-Ok : goal.returns-in-Ok
 returns-in-Ok g c =
     let D = g.D.Device in let k = c.args.kernel.now in let n = c.back_step.new.self in let e = c.in-Ok.ensures in
     return_made k n c.args.txn c.in-Ok.stepped
-    (record { may = e.may; work = e.moves.work; other = e.moves.other; full = λ is. e.moves.full (ap Ok is); count = λ first goes is. (e.leaves.opened first goes (ap Ok is)).1 }) e.once e.returned
-    (return_phases k n c.args.txn c.in-Ok.stepped e.may e.leaves.states e.leaves.commits (λ first goes is. (e.leaves.opened first goes (ap Ok is)).0)) e.schema (fails_ok k n _ _ e.fails (λ broken. cc)) e.restarts e.moments
+    (record { may = e.may; work = e.moves.work; other = e.moves.other; full = λ is. e.moves.full (ap Ok is); count = λ first goes is. (e.leaves.ends (ap Ok is) first goes).1 }) e.reads e.returned
+    (return_phases k n c.args.txn c.in-Ok.stepped e.may e.leaves.states e.leaves.commits (λ first goes is. (e.leaves.ends (ap Ok is) first goes).0)) e.schema (fails_ok k n _ _ e.fails (λ broken. cc)) e.restarts e.moments
 
 pub returns-in-Err : goal.returns-in-Err
 returns-in-Err g c =
     let D = g.D.Device in let k = c.args.kernel.now in let n = c.back_step.new.self in let e = c.in-Err.ensures in
     still_made k n (BackStep c.args.txn) (Refused c.in-Err.refusal) (is_refused _ _) (return_stays k n c.args.txn c.in-Err.refusal e.early e.returned)
-    (caused_or (return_cause (is_failed k) k.core c.args.txn) c.in-Err.refusal e.cause) e.once (e.leaves.err_states, e.leaves.commits) e.schema (fails_err k n c.in-Err.refusal e.fails) e.restarts e.moments
+    (caused_or (return_cause (is_failed k) k.core c.args.txn) c.in-Err.refusal e.cause) e.reads (e.leaves.err_states, e.leaves.commits) e.schema (fails_err k n c.in-Err.refusal e.fails) e.restarts e.moments

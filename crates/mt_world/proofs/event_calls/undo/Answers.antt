@@ -4,16 +4,16 @@ use Rattle.mt_txn.specs.Causes.{abort_cause}
 use Rattle.mt_world.specs.Moves.IsStill.{is_refused}
 use Rattle.mt_world.specs.declared.events.Answer.TheVariants.{Refused}
 use Rattle.mt_world.specs.declared.events.Event.TheVariants.{AbortStep}
-use Rattle.mt_world.proofs.EventLemmas.{fails_err, fails_ok, back_made, back_phases, caused_or, still_made}
+use Rattle.mt_world.proofs.EventLemmas.{fails_err, fails_ok, undo_made, undo_phases, caused_or, still_made}
 use Rattle.mt_world.proofs.event_calls.undo.Goals as goal
 
 pub returns-in-Ok : goal.returns-in-Ok
 returns-in-Ok g c =
     let D = g.D.Device in let k = c.args.kernel.now in let n = c.abort_step.new.self in let e = c.in-Ok.ensures in
-    back_made k n c.args.txn c.in-Ok.stepped (record { may = e.may; work = e.moves.work; other = e.moves.other; full = λ is. e.moves.full (ap Ok is) }) e.once e.aborted
-    (back_phases k n c.args.txn c.in-Ok.stepped e.leaves.states e.leaves.commits (λ is. e.leaves.out (ap Ok is))) e.schema (fails_ok k n _ _ e.fails (λ broken. cc)) e.restarts e.moments
+    undo_made k n c.args.txn c.in-Ok.stepped (record { may = e.may; work = e.moves.work; other = e.moves.other; full = λ is. e.moves.full (ap Ok is) }) e.reads e.aborted
+    (undo_phases k n c.args.txn c.in-Ok.stepped e.leaves.states e.leaves.commits (λ is. e.leaves.ends (ap Ok is))) e.schema (fails_ok k n _ _ e.fails (λ broken. cc)) e.restarts e.moments
 
 pub returns-in-Err : goal.returns-in-Err
 returns-in-Err g c =
     let D = g.D.Device in let k = c.args.kernel.now in let n = c.abort_step.new.self in let e = c.in-Err.ensures in
-    still_made k n (AbortStep c.args.txn) (Refused c.in-Err.refusal) (is_refused _ _) e.aborted (caused_or (abort_cause (is_failed k) k.core c.args.txn) c.in-Err.refusal e.cause) e.once (e.leaves.err_states, e.leaves.commits) e.schema (fails_err k n c.in-Err.refusal e.fails) e.restarts e.moments
+    still_made k n (AbortStep c.args.txn) (Refused c.in-Err.refusal) (is_refused _ _) e.aborted (caused_or (abort_cause (is_failed k) k.core c.args.txn) c.in-Err.refusal e.cause) e.reads (e.leaves.err_states, e.leaves.commits) e.schema (fails_err k n c.in-Err.refusal e.fails) e.restarts e.moments

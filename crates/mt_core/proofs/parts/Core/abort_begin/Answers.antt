@@ -1,8 +1,8 @@
-use Rattle.std.proofs.Common.{◌≡◌, ◌∙◌, ◌≤◌, List, get_or, Some, true, refl, subst, sym, arith}
+use Rattle.std.proofs.Common.{◌∙◌, ◌≤◌, List, get_or, Some, refl, subst, sym, arith}
 use Rattle.std.specs.Option.{option_map}
 use Rattle.mt_live.specs.Entries.{Entry}
 use Rattle.mt_live.specs.Lives.{member_of, has_room}
-use Rattle.mt_live.specs.Members.{with_state}
+use Rattle.mt_live.specs.Members.{Member, standing_count, with_state}
 use Rattle.mt_live.specs.declared.transactions.TxnState.TheVariants.{Aborting}
 use Rattle.mt_pool.specs.Views.{pages}
 use Rattle.mt_core.specs.Runs.{state_in}
@@ -26,6 +26,10 @@ returns-clause-state g c = λ origin base safe. let e = c.set_state.ensures in l
 
 pub returns-clause-aborts : goal.returns-clause-aborts
 returns-clause-aborts g c = let k = c.args.self.now in states_set k.live.members c.set_state.new.self.members c.args.txn Aborting (there_open (member_of k.live.members c.args.txn) c.requires) c.set_state.ensures.member
+
+pub returns-clause-count : goal.returns-clause-count
+returns-clause-count g c = λ t. let k = c.args.self.now in
+    changed_keeps (option_map (λ (m : Member). standing_count m.calls)) (λ m. with_state m Aborting) k.live.members c.set_state.new.self.members c.args.txn (λ m. refl) c.set_state.ensures.member t
 
 pub returns-clause-few : goal.returns-clause-few
 returns-clause-few g c = λ origin base safe. let k = c.args.self.now in let all = pages k.operations.store.pool in

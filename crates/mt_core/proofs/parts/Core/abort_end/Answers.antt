@@ -3,12 +3,11 @@ use Rattle.std.proofs.Props.{props}
 use Rattle.std.specs.Prelude.{[], None}
 use Rattle.mt_live.proofs.Alone.{put_other}
 use Rattle.mt_core.proofs.Members.{states_put}
-use Rattle.mt_core.specs.Runs.{state_in}
+use Rattle.mt_core.specs.Runs.{state_in, is_working}
 use Rattle.std.proofs.Common.{rules, ◌≡◌, ◌∙◌, ◌≤◌, ◌-◌, false, refl, sym, ap, subst, arith}
 use Rattle.std.specs.Prelude.{OnErr}
 use Rattle.std.proofs.lemmas.Result.{err_from_is_err_and}
 use Rattle.mt_core.specs.Consistent.{state_of, IsIn}
-use Rattle.mt_core.specs.Runs.{is_open}
 use Rattle.mt_core.specs.declared.parts.Core.{Core}
 use Rattle.mt_core.proofs.Aborted.{ended_in, none_pending}
 use Rattle.mt_core.proofs.Calling.{txn_low}
@@ -51,7 +50,7 @@ returns-clause-gone g c = λ origin base safe. let k = c.args.self.now in let e 
     let enough = end_enough g.D.Device origin base k c.args.txn safe.fit c.requires.at_work in
     let idle = runs_none k.running.items c.args.txn c.requires.idle in
     let z : Core g.row.D.Denot = record k { live = c.leave.new.self; locks = c.release.new.self; escrow = c.leave-2.new.self; reserved = k.reserved - 128 } in
-    let closed : is_open (member_of c.leave.new.self.members c.args.txn) ≡ false = ap is_open (m.member c.args.txn) ∙ gone_closed (member_of k.live.members) c.args.txn in
+    let closed : is_working (member_of c.leave.new.self.members c.args.txn) ≡ false = ap is_working (m.member c.args.txn) ∙ gone_closed (member_of k.live.members) c.args.txn in
     let gone_now = gone_in g.D.Device origin base k z c.args.txn safe c.requires.at_work c.requires.idle c.requires.nothing m.standing m.member m.begun m.count c.release.ensures.released c.leave-2.ensures.committed
     (c.leave-2.ensures.pending ∙ sym (none_pending origin.first (state_of k base) c.args.txn safe.fit.kept idle c.requires.nothing)) c.leave-2.ensures.aside (omega arith) in
     let low = txn_low g.D.Device origin base k c.args.txn safe.fit c.requires.at_work in

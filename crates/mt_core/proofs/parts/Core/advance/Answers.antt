@@ -92,7 +92,7 @@ returns g c = record {
   book = search rules;
   durable = search rules;
   moments = search rules;
-  once = search rules;
+  reads = search rules;
   others = λ x at.
       let k = c.args.self.now in let r = c.index_mut.result.now in let e = c.step.ensures.steps in
       let q : OpScope = c.step.new.scope in

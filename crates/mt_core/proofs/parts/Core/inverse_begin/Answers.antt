@@ -93,20 +93,26 @@ returns-in_default-2-clause-nothing g c = λ is. let k = c.args.self.now in
     let none : inverse_of x.0.op x.0.reply ≡ None = (λ i. inverse_of (x.2 i) (x.3 i)) ∙ sym c.in_ok-inverse.ensures.inverse ∙ c.in_default-2.is in
     let here : is_some (inverse_of x.0.op x.0.reply) ≡ false = ap is_some none in absurd cc
 
-pub returns-in-Ok-clause-fewer : goal.returns-in-Ok-clause-fewer
-returns-in-Ok-clause-fewer g c = λ is. let k = c.args.self.now in let e = c.in-Ok.ensures in let s = c.in-Ok.scope in let t = c.args.txn in
-    let x = last_entry (last_effect t k.live.standing) c.in-Some.last.op.now c.in-Some.last.reply.now c.in-Some.ensures.last in
-    let r : OpScope = s in let all = pages k.operations.store.pool in
-    let back : s.undoes ≢ 0 = ∥∥₁_elim c.requires.safe (hlevel props) (λ (origin, base, safe).
-    let number : last_operation (member_of k.live.members t) ≡ Some c.in-Some.last.number = sym c.in-Some.ensures.number in
-    let due = undo_fresh g.D.Device origin base k t (k.last + 1) c.in-Some.last.number safe (backwards_open (member_of k.live.members t) c.requires.backwards) (omega arith) number in
-    λ zero. due.1 (sym c.get-undoes.ensures ∙ sym e.named.3 ∙ zero)) in
-    let n : Core g.row.D.Denot = record k { running = c.push_reserved.new.self; reserved = k.reserved - 106496 } in
-    let items = c.push_reserved.ensures.items ∙ ap (λ (rs : List OpScope). rs ++ r ∷ []) c.reserve.ensures.items in
-    let now = undo_begun k n r (subst (λ u. All (λ (q : OpScope). q.txn ≢ u) k.running.items) (sym e.named.0) c.requires.idle) back items refl refl in
-    let own : undo_steps n t ≡ work_of s + (effects_left all k.live.standing t - (2 * all + 10)) = subst (λ u. undo_steps n u ≡ work_of s + (effects_left all k.live.standing u - (2 * all + 10))) e.named.0 now in
-    let before = undo_idle k t c.requires.idle in let work = e.work in
-    let cut = cut_left all t k.live.standing x.0 x.1 in omega (arith, own, before, work, cut)
+pub returns-in-Ok-clause-begins : goal.returns-in-Ok-clause-begins
+returns-in-Ok-clause-begins g c = record {
+  fewer = λ is. let k = c.args.self.now in let e = c.in-Ok.ensures in let s = c.in-Ok.scope in let t = c.args.txn in
+      let x = last_entry (last_effect t k.live.standing) c.in-Some.last.op.now c.in-Some.last.reply.now c.in-Some.ensures.last in
+      let r : OpScope = s in let all = pages k.operations.store.pool in
+      let back : s.undoes ≢ 0 = ∥∥₁_elim c.requires.safe (hlevel props) (λ (origin, base, safe).
+      let number : last_operation (member_of k.live.members t) ≡ Some c.in-Some.last.number = sym c.in-Some.ensures.number in
+      let due = undo_fresh g.D.Device origin base k t (k.last + 1) c.in-Some.last.number safe (backwards_open (member_of k.live.members t) c.requires.backwards) (omega arith) number in
+      λ zero. due.1 (sym c.get-undoes.ensures ∙ sym e.named.3 ∙ zero)) in
+      let n : Core g.row.D.Denot = record k { running = c.push_reserved.new.self; reserved = k.reserved - 106496 } in
+      let items = c.push_reserved.ensures.items ∙ ap (λ (rs : List OpScope). rs ++ r ∷ []) c.reserve.ensures.items in
+      let now = undo_begun k n r (subst (λ u. All (λ (q : OpScope). q.txn ≢ u) k.running.items) (sym e.named.0) c.requires.idle) back items refl refl in
+      let own : undo_steps n t ≡ work_of s + (effects_left all k.live.standing t - (2 * all + 10)) = subst (λ u. undo_steps n u ≡ work_of s + (effects_left all k.live.standing u - (2 * all + 10))) e.named.0 now in
+      let before = undo_idle k t c.requires.idle in let work = e.work in
+      let cut = cut_left all t k.live.standing x.0 x.1 in omega (arith, own, before, work, cut);
+  drawn = search rules;
+  same = search rules;
+  err_left = search rules;
+  undrawn = search rules;
+}
 
 pub returns-in_err-reserve-clause-restartable : goal.returns-in_err-reserve-clause-restartable
 returns-in_err-reserve-clause-restartable g c = λ origin base later safe_k safe_n r. let k = c.args.self.now in

@@ -4,11 +4,10 @@ use Rattle.std.specs.Prelude.{IfSome}
 use Rattle.mt_live.specs.Entries.{Entry}
 use Rattle.mt_live.specs.Lives.{member_of, has_room}
 use Rattle.mt_live.specs.Members.{Member, with_state, standing_count}
-use Rattle.mt_live.specs.declared.transactions.TxnState.{TxnState}
-use Rattle.mt_live.specs.declared.transactions.TxnState.TheVariants.{Open, Returning}
+use Rattle.mt_live.specs.declared.transactions.TxnState.TheVariants.{Returning}
 use Rattle.mt_pool.specs.Views.{pages}
 use Rattle.mt_core.specs.Restartable.{HasEnds}
-use Rattle.mt_core.specs.Runs.{state_in, is_open}
+use Rattle.mt_core.specs.Runs.{state_in, is_working}
 use Rattle.mt_core.specs.Work.{abort_steps, effects_left, most_steps}
 use Rattle.mt_core.specs.declared.parts.Core.{Core}
 use Rattle.mt_core.proofs.Beginning.{changed_in, reopened, reopened_states, there_open, returning_goes, other_forwards}
@@ -20,7 +19,7 @@ use Rattle.mt_core.proofs.parts.Core.return_begin.Goals as goal
 
 pub returns-clause-state : goal.returns-clause-state
 returns-clause-state g c = λ origin base safe. let e = c.set_state.ensures in let k = c.args.self.now in let t = c.args.txn in
-    let was : is_open (member_of k.live.members t) ≡ true = open_works (member_of k.live.members t) c.requires.opened in
+    let was : is_working (member_of k.live.members t) ≡ true = open_works (member_of k.live.members t) c.requires.opened in
     changed_in g.D.Device origin base k (record k { live = c.set_state.new.self }) t (λ m. with_state m (Returning c.args.first)) safe e.member e.begun e.standing e.count (λ m. refl)
     (λ m is outcome. record {
       many = outcome.many;
@@ -53,7 +52,7 @@ returns-clause-few_steps g c = λ origin base safe. let k = c.args.self.now in l
 pub returns-clause-restartable : goal.returns-clause-restartable
 returns-clause-restartable g c = λ origin base later safe_k safe_n r. let e = c.set_state.ensures in let k = c.args.self.now in let t = c.args.txn in
     let n : Core g.row.D.Denot = record k { live = c.set_state.new.self } in
-    let was : is_open (member_of k.live.members t) ≡ true = open_works (member_of k.live.members t) c.requires.opened in
+    let was : is_working (member_of k.live.members t) ≡ true = open_works (member_of k.live.members t) c.requires.opened in
     stays_same g.D.Device origin k n base later safe_k safe_n (quiet_store g.D.Device origin k n refl) (record { book = refl; commits = refl }) e.standing
     (kept_num k.live.members n.live.members t (option_map (λ m. with_state m (Returning c.args.first)) (member_of k.live.members t)) e.member (same_at_work (member_of k.live.members t) (Returning c.args.first) was refl))
     (eases_put (state_in k.live.members) (state_in n.live.members) t (Some (Returning c.args.first)) (states_set k.live.members c.set_state.new.self.members t (Returning c.args.first) (there_open (member_of k.live.members t) was) e.member)

@@ -19,10 +19,16 @@ returns-clause-nothing g c = λ is. let k = c.args.self.now in let t = c.args.tx
     let some : is_some (last_effect t (after_first t c.from.result k.live.standing)) ≡ true = search rules in
     absurd (after_some t c.from.result k.live.standing some (ap (last_effect t) (sym c.in_ok-make_room.ensures.standing) ∙ c.inverse_begin.ensures.nothing is))
 
-pub returns-clause-same : goal.returns-clause-same
-returns-clause-same g c = λ is. let k = c.args.self.now in let t = c.args.txn in
-    let some : is_some (last_effect t (after_first t c.from.result k.live.standing)) ≡ true = search rules in
-    absurd (after_some t c.from.result k.live.standing some (ap (last_effect t) (sym c.in_ok-make_room.ensures.standing) ∙ c.inverse_begin.ensures.nothing is))
+pub returns-clause-begins : goal.returns-clause-begins
+returns-clause-begins g c = record {
+  fewer = search rules;
+  drawn = search rules;
+  same = λ is. let k = c.args.self.now in let t = c.args.txn in
+      let some : is_some (last_effect t (after_first t c.from.result k.live.standing)) ≡ true = search rules in
+      absurd (after_some t c.from.result k.live.standing some (ap (last_effect t) (sym c.in_ok-make_room.ensures.standing) ∙ c.inverse_begin.ensures.nothing is));
+  err_left = search rules;
+  undrawn = search rules;
+}
 
 pub returns-clause-restartable : goal.returns-clause-restartable
 returns-clause-restartable g c = λ origin base later safe_k safe_n r.

@@ -19,9 +19,8 @@ use Rattle.std.proofs.lemmas.Result.{err_from_is_err_and}
 use Rattle.mt_core.proofs.Laboring.{steps_at, steps_removed, some_left, both_at}
 use Rattle.std.proofs.Common.{true}
 use Rattle.mt_live.specs.Lives.{member_of}
-use Rattle.mt_core.specs.Runs.{is_open}
+use Rattle.mt_core.specs.Runs.{is_working, IsOwned}
 use Rattle.mt_core.specs.Restartable.{StepAppends}
-use Rattle.mt_core.specs.Runs.{IsOwned}
 use Rattle.mt_core.proofs.Restarts.{area_then, at_place, end_then, ended as ends_restartable, goes_on, notes_then}
 use Rattle.mt_op.specs.Holds.{IsNext, KeepsLocks}
 use Rattle.mt_plock.specs.Releasing.{locks_without}
@@ -109,7 +108,7 @@ returns-in-Err-clause-stepped g c = record {
   why = search rules;
   faults = search rules;
   moments = search rules;
-  once = search rules;
+  reads = search rules;
 }
 
 pub returns-in-Ok-clause-stepped : goal.returns-in-Ok-clause-stepped
@@ -142,7 +141,7 @@ returns-in-Ok-clause-stepped g c = record {
   why = search rules;
   faults = search rules;
   moments = search rules;
-  once = search rules;
+  reads = search rules;
 }
 
 pub returns-in_err-stepped-clause-stepped : goal.returns-in_err-stepped-clause-stepped
@@ -181,7 +180,7 @@ returns-in_err-stepped-clause-stepped g c = record {
   why = search rules;
   faults = search rules;
   moments = search rules;
-  once = search rules;
+  reads = search rules;
 }
 
 pub returns-in-Err-clause-restartable : goal.returns-in-Err-clause-restartable
@@ -198,7 +197,7 @@ returns-in-Err-clause-restartable g c = λ origin base later safe_k safe_n r.
     let owned : IsOwned m.live.members m.live.standing q = subst (IsOwned m.live.members m.live.standing) (sym now) (ready.fit.owned place q inside) in
     let ends = subst (StepAppends origin k m q) was (c.advance.ensures.appends origin base safe_k q now) in
     let live = c.advance.ensures.live in
-    let working : is_open (member_of k.live.members q.txn) ≡ true = ap (λ l. is_open (member_of l.members q.txn)) (sym live) ∙ owned.at_work in
+    let working : is_working (member_of k.live.members q.txn) ≡ true = ap (λ l. is_working (member_of l.members q.txn)) (sym live) ∙ owned.at_work in
     let fore = same.undoes ∙ c.requires.forward x at in
     ends_restartable g.D.Device origin k n base later q c.in-Err.reply safe_k safe_n (area_then g.D.Device origin k m n ends.area c.note_end.ensures.store) (end_then g.D.Device origin k m n q c.in-Err.reply ends.appends c.note_end.ensures.store)
     (notes_then g.D.Device origin k m n q c.in-Err.reply c.advance.ensures.book c.advance.ensures.commits live (c.note_end.ensures.notes q now)) fore working ready.replies r

@@ -5,6 +5,7 @@ use Rattle.std.specs.Vec.{with_item}
 use Rattle.mt_op.specs.Operations.{world}
 use Rattle.mt_op.specs.declared.scope.OpScope.{OpScope}
 use Rattle.mt_core.specs.Runs.{IsRunning}
+use Rattle.mt_core.proofs.Writing.{back_writes}
 use Rattle.mt_core.proofs.Dropping.{gone_back}
 use mathlib.Core.Logic.{∥∥₁_map}
 use Rattle.std.proofs.Common.{◌≡◌, get_or, set, ap, arith}
@@ -66,6 +67,7 @@ returns g c = record {
       let old : r ≡ x = c.index_mut.ensures.value ∙ sym (get_or_default k.running.items c.args.place x r c.requires.within) ∙ sym at in
       let new : q ≡ y = sym (now ∙ get_or-set_same k.running.items c.args.place q y c.requires.within) in
       subst (λ (X : Type 0). X) (λ i. LeavesStanding (old i) (new i) c.take_back.result) (puts_back r q c.take_back.result (λ is. (e.more is).1) e.flush e.err);
+  writes = back_writes c.index_mut.result.now _ _ c.take_back.result c.take_back.ensures.back.records;
   why = search rules;
   faults = search rules;
   back = λ origin base safe.
@@ -80,7 +82,7 @@ returns g c = record {
   book = search rules;
   durable = search rules;
   moments = search rules;
-  once = search rules;
+  reads = search rules;
   others = λ x at.
       let k = c.args.self.now in let r = c.index_mut.result.now in let e = c.take_back.ensures.back in
       let q : OpScope = c.take_back.new.scope in

@@ -1,6 +1,6 @@
 use mathlib.Core.Logic.{∥∥₁_elim, ∥∥₁_map}
 use Rattle.std.proofs.Props.{props}
-use Rattle.std.proofs.Common.{rules, ◌≡◌, ◌∙◌, ◌<◌, ◌≤◌, Ok, length, get_or, sym, ap, subst, arith}
+use Rattle.std.proofs.Common.{rules, ◌≡◌, ◌∙◌, ◌<◌, ◌≤◌, ◌+◌, Ok, length, get_or, sym, ap, subst, arith}
 use Rattle.std.specs.Prelude.{Result}
 use Rattle.std.proofs.lemmas.Result.{err_from_is_err_and}
 use Rattle.mt_base.specs.declared.refusal.Refusal.{Refusal}
@@ -18,6 +18,9 @@ use Rattle.mt_op.specs.declared.scope.OpScope.{OpScope}
 use Rattle.mt_core.proofs.Restarts.{goes_on, quiet_then}
 use Rattle.mt_plock.specs.Releasing.{locks_without}
 use Rattle.mt_core.specs.PageLocks.{GivesLocksBack}
+use Rattle.mt_core.specs.Writes.{BackWrites}
+use Rattle.mt_log.specs.Words.{appended}
+use Rattle.mt_pool.specs.declared.store.Store.{Store}
 use Rattle.mt_core.proofs.parts.Core.take_back_step.Goals as goal
 
 pub drop_out-requires-clause-cleared : goal.drop_out-requires-clause-cleared
@@ -61,12 +64,13 @@ returns-in-More-clause-put g c = record {
   commits = search rules;
   numbers = search rules;
   locks = search rules;
+  writes = search rules;
   durable = search rules;
   full = search rules;
   why = search rules;
   faults = search rules;
   moments = search rules;
-  once = search rules;
+  reads = search rules;
 }
 
 pub returns-in-Flush-clause-put : goal.returns-in-Flush-clause-put
@@ -84,12 +88,13 @@ returns-in-Flush-clause-put g c = record {
   commits = search rules;
   numbers = search rules;
   locks = search rules;
+  writes = search rules;
   durable = search rules;
   full = search rules;
   why = search rules;
   faults = search rules;
   moments = search rules;
-  once = search rules;
+  reads = search rules;
 }
 
 pub returns-in_err-take_back-clause-put : goal.returns-in_err-take_back-clause-put
@@ -110,12 +115,15 @@ returns-in_err-take_back-clause-put g c = record {
   locks = λ x at.
       let p = err_from_is_err_and c.from_residual.result c.from_residual.ensures.1 in
       subst (GivesLocksBack c.args.self.now c.take_back.new.self x) (sym p.1) c.take_back.ensures.locks;
+  writes = let p = err_from_is_err_and c.from_residual.result c.from_residual.ensures.1 in
+      subst (BackWrites (appended c.args.self.now.operations.store.log) (appended c.take_back.new.self.operations.store.log)) (sym p.1)
+      (subst (BackWrites (appended c.args.self.now.operations.store.log) (appended c.take_back.new.self.operations.store.log)) c.in_err-take_back.was c.take_back.ensures.writes);
   durable = search rules;
   full = search rules;
   why = search rules;
   faults = search rules;
   moments = search rules;
-  once = search rules;
+  reads = search rules;
 }
 
 pub returns-in-Clear-clause-put : goal.returns-in-Clear-clause-put
@@ -154,12 +162,14 @@ returns-in-Clear-clause-put g c = record {
       let now : q ≡ get_or items place q = get_or_default items place x q inside in
       let same : SameOp x q = c.take_back.ensures.same origin base safe x q at now in
       c.drop_out.ensures.locks q now ∙ ap (λ n. locks_without n c.take_back.new.self.operations.locks) same.number ∙ ap (locks_without x.number) c.take_back.ensures.locks);
+  writes = subst (λ (s : Store g.row.D.Denot). length (appended s.log) ≤ length (appended c.args.self.now.operations.store.log) + 1) (sym c.drop_out.ensures.store)
+      (subst (BackWrites (appended c.args.self.now.operations.store.log) (appended c.take_back.new.self.operations.store.log)) (c.in_ok-take_back.was ∙ ap Ok c.in-Clear.is) c.take_back.ensures.writes);
   durable = search rules;
   full = search rules;
   why = search rules;
   faults = search rules;
   moments = search rules;
-  once = search rules;
+  reads = search rules;
 }
 
 pub returns-in-More-clause-restartable : goal.returns-in-More-clause-restartable

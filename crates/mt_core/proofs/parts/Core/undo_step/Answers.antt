@@ -15,16 +15,13 @@ use Rattle.mt_base.specs.declared.refusal.Refusal.{Refusal}
 use Rattle.mt_core.specs.declared.steps.Stepping.{Stepping}
 use Rattle.std.specs.Prelude.{Result}
 use Rattle.std.proofs.lemmas.Result.{err_from_is_err_and}
-use Rattle.mt_live.specs.Machine.{State}
 use Rattle.mt_pool.specs.Views.{pages}
-use Rattle.mt_core.specs.Runs.{IsOwned}
+use Rattle.mt_core.specs.Runs.{IsOwned, is_working, TakesBack, state_in, is_undoing}
 use Rattle.mt_core.proofs.Undoing.{moved_of, total_at, inverse_moved, undo_removed, inverted_left, abort_at, back_with}
 use Rattle.mt_core.proofs.Laboring.{steps_at, steps_removed, some_left, both_at}
-use Rattle.std.proofs.Common.{true, ◌≢◌, Some}
+use Rattle.std.proofs.Common.{true, ◌≢◌}
 use Rattle.mt_live.specs.Lives.{member_of}
-use Rattle.mt_core.specs.Runs.{is_open}
 use Rattle.mt_core.specs.Restartable.{StepAppends}
-use Rattle.mt_core.specs.Runs.{TakesBack}
 use Rattle.mt_core.proofs.Restarts.{area_then, at_place, end_then, goes_on, inverse_restarts, inverted_consistent}
 use Rattle.mt_op.specs.Holds.{IsNext, KeepsLocks}
 use Rattle.mt_plock.specs.Releasing.{locks_without}
@@ -38,7 +35,6 @@ use Rattle.std.proofs.Common.{refl}
 use Rattle.mt_core.specs.PageLocks.{step_of}
 use Rattle.mt_core.specs.declared.steps.Going.TheVariants.{Flush}
 use Rattle.mt_core.proofs.GoingOn.{in_on, lowers_on, lowers_prop, other_on, quiet_on, same_going}
-use Rattle.mt_core.specs.Runs.{goes_back, state_in}
 use Rattle.std.proofs.Common.{◌*◌}
 use Rattle.mt_core.proofs.parts.Core.undo_step.Goals as goal
 
@@ -113,7 +109,7 @@ returns-in-Err-clause-stepped g c = record {
   why = search rules;
   faults = search rules;
   moments = search rules;
-  once = search rules;
+  reads = search rules;
 }
 
 pub returns-in-Ok-clause-stepped : goal.returns-in-Ok-clause-stepped
@@ -146,7 +142,7 @@ returns-in-Ok-clause-stepped g c = record {
   why = search rules;
   faults = search rules;
   moments = search rules;
-  once = search rules;
+  reads = search rules;
 }
 
 pub returns-in-Ok-clause-lowers : goal.returns-in-Ok-clause-lowers
@@ -228,7 +224,7 @@ returns-in_err-stepped-clause-stepped g c = record {
   why = search rules;
   faults = search rules;
   moments = search rules;
-  once = search rules;
+  reads = search rules;
 }
 
 pub returns-in-Err-clause-restartable : goal.returns-in-Err-clause-restartable
@@ -246,12 +242,12 @@ returns-in-Err-clause-restartable g c = λ origin base later safe_k safe_n r.
     let ends = subst (StepAppends origin k m q) was (c.advance.ensures.appends origin base safe_k q now) in
     let live = c.advance.ensures.live in
     let back : q.undoes ≢ 0 = λ is. c.requires.back x at (sym same.undoes ∙ is) in
-    let working : is_open (member_of k.live.members q.txn) ≡ true = ap (λ l. is_open (member_of l.members q.txn)) (sym live) ∙ owned.at_work in
+    let working : is_working (member_of k.live.members q.txn) ≡ true = ap (λ l. is_working (member_of l.members q.txn)) (sym live) ∙ owned.at_work in
     let takes : TakesBack k.live.members k.live.standing q = subst (λ l. TakesBack l.members l.standing q) live (owned.inverse back) in
     let state = state_in m.live.members q.txn in
     let noted = inverted_consistent g.D.Device origin base (state_of m base) n q.txn q.op state (c.note_inverse.ensures.ends origin base made.0 q now) in
     inverse_restarts g.D.Device origin k m n base q c.in-Err.reply state (ap (λ l. state_in l.members q.txn) (sym live)) safe_k noted (area_then g.D.Device origin k m n ends.area c.note_inverse.ensures.outer.store) (end_then g.D.Device origin k m n q c.in-Err.reply ends.appends c.note_inverse.ensures.outer.store)
-    c.advance.ensures.book c.advance.ensures.commits live (c.note_inverse.ensures.notes q now) back (ap goes_back (ap (λ l. state_in l.members q.txn) (sym live)) ∙ owned.backwards back) working takes ready.replies r
+    c.advance.ensures.book c.advance.ensures.commits live (c.note_inverse.ensures.notes q now) back (ap is_undoing (ap (λ l. state_in l.members q.txn) (sym live)) ∙ owned.backwards back) working takes ready.replies r
 
 pub returns-in-Ok-clause-restartable : goal.returns-in-Ok-clause-restartable
 returns-in-Ok-clause-restartable g c = λ origin base later safe_k safe_n r. let k = c.args.self.now in let n = c.advance.new.self in let place = c.args.place in

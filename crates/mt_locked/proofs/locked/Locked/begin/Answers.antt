@@ -3,6 +3,7 @@ use Rattle.mt_model.specs.Views.{base_of}
 use Rattle.mt_locked.proofs.Keeping.{begins_one}
 use Rattle.mt_locked.proofs.Standings.{asked, at_once, goes_on}
 use Rattle.mt_locked.specs.Seen.{LockedSeen}
+use Rattle.mt_txn.proofs.Answering.{may_of}
 use Rattle.mt_locked.proofs.locked.Locked.begin.Goals as goal
 
 pub invariant_of-self-2 : goal.invariant_of-self-2
@@ -16,7 +17,7 @@ pub returns-clause-kernel : goal.returns-clause-kernel
 returns-clause-kernel g c =
     let D = g.D.Device in let e = c.begin.ensures in
     asked c.self.inside.standing c.in-Stands.kernel c.begin.new.self c.self.inside.end.view _ _ _ c.in-Stands.is c.self.view_is
-    (record { answers = record { refused = record { may = e.may; why = e.cause }; early = at_once _ _ _ _ e.early; opened = e.opened; err = e.err }; number = e.number; state = e.begun; device = e.device })
+    (record { answers = record { refused = record { may = may_of _ c.in-Stands.kernel c.begin.new.self c.begin.result e.early; why = e.cause }; early = at_once _ _ _ _ e.early; opened = e.opened; err = e.err }; number = e.number; state = e.begun; numbers = e.numbers; device = e.device })
 
 pub returns-clause-book : goal.returns-clause-book
 returns-clause-book g c =

@@ -33,5 +33,6 @@ returns-clause-kernel g c =
       states = e.keeps.states;
       err = e.keeps.err;
       memory = λ is. ap (λ (x : Kernel _ _). seen_of x) (e.memory is);
+      numbers = e.keeps.numbers;
       device = record { once = e.once; faults = reports _ _ c.force_step.result e.fails e.quiet };
     })

@@ -26,7 +26,9 @@ returns-clause-kernel g c =
       durable = e.leaves.durable;
       states = e.leaves.states;
       commits = e.leaves.commits;
-      device = record { once = e.once; faults = reports _ _ c.step.result e.fails e.quiet };
+      numbers = e.leaves.numbers;
+      reads = e.reads;
+      faults = reports _ _ c.step.result e.fails e.quiet;
     })
 
 pub returns-clause-book : goal.returns-clause-book

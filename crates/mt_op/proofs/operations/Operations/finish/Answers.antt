@@ -16,6 +16,7 @@ use Rattle.mt_pool.specs.declared.store.Store.{Store}
 use Rattle.mt_pool.proofs.Kept.{no_call}
 use Rattle.mt_space.specs.Rooms.{mapped, free_of, reserved_of}
 use Rattle.mt_steps.specs.Plans.{own_needs}
+use Rattle.mt_pool.proofs.Reading.{reads_nothing}
 use Rattle.mt_op.specs.Operations.{world, Acts}
 use Rattle.mt_op.specs.Work.{work_of}
 use Rattle.mt_op.specs.Stepping.{GoesAhead}
@@ -25,7 +26,7 @@ use Rattle.mt_space.specs.declared.space_map.SpaceMap.{SpaceMap}
 use Rattle.mt_op.specs.declared.scope.Stage.TheVariants.{Ready}
 use Rattle.mt_op.proofs.Ahead.{idle_ahead}
 use Rattle.mt_op.proofs.Budget.{ended_budget}
-use Rattle.mt_op.proofs.Faulting.{no_fault, no_fault_ok, once_same}
+use Rattle.mt_op.proofs.Faulting.{no_fault, no_fault_ok}
 use Rattle.mt_op.proofs.Going.{rests_same}
 use Rattle.mt_op.proofs.Right.{right_rests}
 use Rattle.mt_op.proofs.Finished.{has_reply, end_stands, planned_reply, open_still, settle_asks, settle_claimed, settle_mapped, settle_gives, settle_frees, one_reply, note_asks, note_whole, note_inside, note_few, note_followed, finished, finished_quietly}
@@ -156,7 +157,7 @@ returns-in_err-answer g c = let d = g.D.Device in let o = c.args.self.now in let
     record {
       ahead = subst (GoesAhead d o o s s) (sym is)
           (idle_ahead d o o s (λ opening relations counters right. right) (λ opening. rests_same (world d opening o))
-          (λ opening kept. no_call d opening o.store kept g.met.D.Device.only_now) (once_same _ _ refl) refl refl refl refl refl (Err refusal.NoMemory) tt c.requires.writing c.requires.budget
+          (λ opening kept. no_call d opening o.store kept g.met.D.Device.only_now) (reads_nothing d _ _ refl) refl refl refl refl refl (Err refusal.NoMemory) tt c.requires.writing c.requires.budget
           (λ is. absurd cc) (inl refl) (no_fault _ _ (Err refusal.NoMemory) refl refl));
       device = refl;
       ready = rw p.1 tt;
@@ -178,7 +179,7 @@ returns-in_err-append_end g c = let d = g.D.Device in let o = c.args.self.now in
           (idle_ahead d o n s
           (λ opening relations counters right. right_rests d opening relations counters o n right (f.kept opening right.kept) (e.rests opening) f.map f.rooms) e.rests
           (λ opening kept. subst (λ (x : g.row.D.Denot). LeavesOnly d.moment d.left_since o.store.device x (Explains opening o.store)) (sym f.device) (no_call d opening o.store kept g.met.D.Device.only_now))
-          (once_same _ _ (ap d.moment f.device)) spent f.area f.durable f.map f.locks (Err refusal.NoMemory) tt c.requires.writing c.requires.budget
+          (reads_nothing d _ _ f.device) spent f.area f.durable f.map f.locks (Err refusal.NoMemory) tt c.requires.writing c.requires.budget
           (λ is. absurd cc) (inl refl) (no_fault _ _ (Err refusal.NoMemory) refl (ap d.faults f.device))));
       device = f.device;
       ready = rw p.1 tt;
@@ -277,7 +278,7 @@ returns g c = let d = g.D.Device in let seen = d.seen in let o = c.args.self.now
         flush = λ e. absurd cc;
         why = tt;
         faults = no_fault_ok _ _ _ (ap d.faults device);
-        once = once_same _ _ (ap d.moment device);
+        reads = reads_nothing d _ _ device;
       };
       device = device;
       ready = ap (λ (x : OpScope). x.stage) ready;

@@ -1,6 +1,6 @@
 use Rattle.std.proofs.Common.{◌≡◌, ◌+◌, ℕ, arith, refl, subst, sym, ◌∙◌}
 use Rattle.mt_model.specs.Views.{base_of, relations_of}
-use Rattle.mt_op.proofs.Surveyed.{idle_steady, read_held, read_idle, read_right, reads_both, reads_none}
+use Rattle.mt_op.proofs.Surveyed.{idle_steady, read_held, read_idle, read_right, reads_both, reads_none, same_twice}
 use Rattle.mt_op.specs.Operations.{world}
 use Rattle.mt_op.specs.Surveyed.{IsIdle}
 use Rattle.mt_op.specs.World.{held_in}
@@ -20,6 +20,7 @@ loop-number-init g c = record {
   relations = refl;
   counters = refl;
   read = reads_none g.D.Device g.met.D.Device.only_now c.args.self.now;
+  crash = λ k. (λ left. left, λ left. left);
   quiet = refl;
   calls = omega arith;
 }
@@ -45,6 +46,7 @@ loop-number-preserved g c =
       relations = c.list_page.ensures.relations ∙ was.relations;
       counters = c.list_page.ensures.counters ∙ was.counters;
       read = reads_both D o l.self c.list_page.new.self was.read c.list_page.ensures.read;
+      crash = same_twice _ _ _ was.crash c.list_page.ensures.crash;
       quiet = e.quiet (λ is. cc) ∙ was.quiet;
       calls = let before = was.calls in let one = c.list_page.ensures.once in omega (arith, before, one);
     }
@@ -66,3 +68,6 @@ returns-clause-calls g c =
 pub returns-in_err-list_page-clause-calls : goal.returns-in_err-list_page-clause-calls
 returns-in_err-list_page-clause-calls g c =
     let calls = c.loop-number.invariant.calls in let one = c.list_page.ensures.once in let all = c.count-number-end.ensures in let less = c.loop-number-test.true in omega arith
+
+pub returns-in_err-list_page-clause-crash : goal.returns-in_err-list_page-clause-crash
+returns-in_err-list_page-clause-crash g c = same_twice _ _ _ c.loop-number.invariant.crash c.list_page.ensures.crash

@@ -1,4 +1,5 @@
 use Rattle.std.proofs.Common.{◌≡◌, ◌≤◌, ◌+◌, ℕ, length}
+use Rattle.mt_disk.specs.Disk.{LeavesTheSame}
 use Rattle.mt_model.specs.Model.{Base}
 use Rattle.mt_model.specs.Views.{base_of, counters_of, relations_of}
 use Rattle.mt_op.specs.Operations.{IsRight, world}
@@ -18,6 +19,7 @@ invariant-loop-number g l = record {
   relations : relations_of l.base ≡ relations_of l.initial.base;
   counters : length (counters_of l.base) ≡ length (counters_of l.initial.base);
   read : OnlyReads g.D.Device l.initial.self l.self;
+  crash : LeavesTheSame (g.D.Device.may_leave l.initial.self.store.device) (g.D.Device.may_leave l.self.store.device);
   quiet : g.D.Device.faults l.self.store.device ≡ g.D.Device.faults l.initial.self.store.device;
   calls : g.D.Device.moment l.self.store.device ≤ g.D.Device.moment l.initial.self.store.device + l.number;
 }

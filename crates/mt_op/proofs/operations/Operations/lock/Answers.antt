@@ -18,12 +18,12 @@ pub returns-in_err-bring : goal.returns-in_err-bring
 returns-in_err-bring g c = let d = g.D.Device in let f = c.bring.ensures in let o = c.args.self.now in let s = c.args.scope.now in
     let p = err_from_is_err_and c.from_residual.result c.from_residual.ensures.1 in
     subst (LocksPage d o c.bring.new.self s s) (sym (p.1 ∙ ap Err (p.2 ∙ subst (λ (r : Result Bool Refusal). IfErr r (λ why. why ≡ refusal.DeviceFailed)) c.in_err-bring.was c.bring.ensures.only_device)))
-    (idle_locks d o c.bring.new.self s f.right f.rests f.moments f.once f.log f.map f.locks f.rooms (Err refusal.DeviceFailed) tt
+    (idle_locks d o c.bring.new.self s f.right f.rests f.moments f.reads f.log f.map f.locks f.rooms (Err refusal.DeviceFailed) tt
     (λ is. absurd cc) (inr refl) (fault_reported _ _ c.bring.result _ (Err refusal.DeviceFailed) f.cause c.in_err-bring.was refl))
 
 pub returns-then-not-branch : goal.returns-then-not-branch
 returns-then-not-branch g c = let d = g.D.Device in let f = c.bring.ensures in
-    idle_locks d c.args.self.now c.bring.new.self c.args.scope.now f.right f.rests f.moments f.once f.log f.map f.locks f.rooms (Ok stepped.Flush) tt
+    idle_locks d c.args.self.now c.bring.new.self c.args.scope.now f.right f.rests f.moments f.reads f.log f.map f.locks f.rooms (Ok stepped.Flush) tt
     (λ is. f.full (c.in_ok-bring.was ∙ ap Ok c.if-not-branch.true)) tt (no_fault_ok _ _ _ (unfailed _ _ c.bring.result _ f.cause c.in_ok-bring.was))
 
 pub look-requires-clause-right : goal.look-requires-clause-right
@@ -47,5 +47,5 @@ look-requires-clause-led g c = ⊎_elim inl (λ led. inr (led.0, led.1, ap (λ m
 
 pub returns : goal.returns
 returns g c = let d = g.D.Device in let f = c.bring.ensures in let l = c.look.ensures in
-    locks_behind d c.args.self.now c.bring.new.self c.args.scope.now f.right f.rests f.moments f.once f.log f.map f.locks f.rooms c.look.new.self c.look.new.scope c.look.result
+    locks_behind d c.args.self.now c.bring.new.self c.args.scope.now f.right f.rests f.moments f.reads f.log f.map f.locks f.rooms c.look.new.self c.look.new.scope c.look.result
     l.goes l.store l.map l.same l.never l.work l.locks l.scope l.only_memory (unfailed _ _ c.bring.result _ f.cause c.in_ok-bring.was)

@@ -5,8 +5,8 @@ use Rattle.mt_base.specs.declared.refusal.Refusal.TheVariants as refusal
 use Rattle.std.proofs.lemmas.Result.{err_from_is_err_and}
 use Rattle.mt_pool.specs.Views.{IsPool, IsThere, view}
 use Rattle.mt_pool.specs.declared.store.Store.{Store}
-use Rattle.mt_steps.specs.Overlays.{copied}
-use Rattle.mt_steps.specs.declared.overlay.PageCopy.{PageCopy}
+use Rattle.mt_overlay.specs.Overlays.{copied}
+use Rattle.mt_overlay.specs.declared.overlay.PageCopy.{PageCopy}
 use Rattle.mt_op.specs.World.{looked}
 use Rattle.mt_op.specs.declared.answers.Stepped.{Stepped}
 use Rattle.mt_op.specs.declared.answers.Stepped.TheVariants as stepped

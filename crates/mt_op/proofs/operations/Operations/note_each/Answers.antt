@@ -4,7 +4,7 @@ use Rattle.std.specs.Prelude.{IsSome}
 use Rattle.std.proofs.lemmas.List.{get_or-set_other}
 use Rattle.mt_plock.specs.declared.guards.PageLock.{PageLock}
 use Rattle.mt_space.specs.Changes.{after}
-use Rattle.mt_steps.proofs.Overlaid.{some_is}
+use Rattle.mt_overlay.proofs.Overlaid.{some_is}
 use Rattle.mt_op.specs.World.{looked, changes_in}
 use Rattle.mt_file.specs.Rooms.{IsRoom}
 use Rattle.mt_op.specs.declared.operations.Operations.{Operations}

@@ -7,12 +7,13 @@ use Rattle.mt_pool.proofs.Kept.{no_call}
 use Rattle.mt_disk.specs.Disk.{LeavesOnly}
 use Rattle.mt_pool.specs.Kept.{Explains}
 use Rattle.mt_pool.specs.declared.store.Store.{Store}
-use Rattle.mt_base.specs.declared.modes.Mode.TheVariants.{Read}
 use Rattle.mt_space.specs.Changes.{after}
 use Rattle.mt_steps.specs.Acts.{IfLock, IfMade, IfFull}
 use Rattle.mt_steps.specs.Asks.{AsksFor, HasSearched}
 use Rattle.mt_steps.specs.Plans.{InPages, IsPlanned, TakesPages, IsTight, free_pages, own_needs, record_bytes}
 use Rattle.mt_steps.specs.declared.act.Act.{Act}
+use Rattle.mt_steps.proofs.Asking.{asks_to_read}
+use Rattle.mt_pool.proofs.Reading.{reads_nothing}
 use Rattle.mt_op.specs.World.{looked}
 use Rattle.mt_op.specs.Holds.{IsAsked, IsUnseen}
 use Rattle.mt_op.specs.Operations.{world, IsOneOf}
@@ -25,7 +26,7 @@ use Rattle.mt_op.proofs.Searching.{searched_prop}
 use Rattle.mt_op.proofs.Choosing.{cause_memory, locked_some, locked_err, refused_plan, unled_goes, reading_of}
 use Rattle.mt_op.proofs.Work.{led_work, led_misled, plans_over, claim_free}
 use Rattle.mt_op.proofs.Known.{one_of, known_within}
-use Rattle.mt_op.proofs.Faulting.{no_fault, no_fault_ok, once_same}
+use Rattle.mt_op.proofs.Faulting.{no_fault, no_fault_ok}
 use Rattle.mt_op.proofs.operations.Operations.plan_step.Goals as goal
 
 pub returns-in_err-page : goal.returns-in_err-page
@@ -47,11 +48,14 @@ returns-in_ok-stepped-in-Lock g c = let d = g.D.Device in let o = c.args.self.no
 
 pub lock_next-requires-clause-unseen : goal.lock_next-requires-clause-unseen
 lock_next-requires-clause-unseen g c = let s = c.args.scope.now in
+    let can = ∥∥₁_map c.requires.right (λ (opening, relations, counters, right, k, small, some).
+    plans_over relations counters (world g.D.Device opening c.args.self.now) s c.requires.planning right.sound k small) in
     let l = subst (λ (a : Act). IfLock a (λ p mode. (looked s p ≡ None) × (p < s.seen.total))) c.in-Lock.is c.in_ok-page.ensures.lock in
     subst (λ (x : OpScope). IsUnseen x c.in-Lock.page c.in-Lock.mode) (sym (same_seen s c.plan_over.new.copies c.plan_over.ensures.same)) (record {
       new = l.0;
       inside = l.1;
-      reads = λ is. subst (λ (a : Act). IfLock a (λ p mode. mode ≡ Read)) c.in-Lock.is (c.in_ok-page.ensures.mode (reading_of s.op is));
+      reads = λ is. asks_to_read (looked s) s.room s.seen.total s.split s.op c.in-Lock.page c.in-Lock.mode can (reading_of s.op is)
+          (subst (λ (a : Act). IfLock a (AsksFor (looked s) s.room s.seen.total s.split s.op)) c.in-Lock.is c.in_ok-page.ensures.asks);
     })
 
 pub lock_next-requires-clause-asked : goal.lock_next-requires-clause-asked
@@ -94,7 +98,7 @@ returns-in-Made g c = let d = g.D.Device in let o = c.args.self.now in let s = c
       scope = f.scope;
       why = cause_memory c.keep_plan.result f.only_memory;
       faults = no_fault _ _ c.keep_plan.result f.only_memory (ap (λ (x : Store g.row.D.Denot). d.faults x.device) f.store);
-      once = once_same _ _ (ap (λ (x : Store g.row.D.Denot). d.moment x.device) f.store);
+      reads = reads_nothing d _ _ (ap (λ (x : Store g.row.D.Denot). x.device) f.store);
     }
 
 pub returns-in-Full : goal.returns-in-Full
@@ -121,7 +125,7 @@ returns-in-Full g c = let d = g.D.Device in let o = c.args.self.now in let s = c
       ));
       why = tt;
       faults = no_fault_ok _ _ _ refl;
-      once = once_same _ _ refl;
+      reads = reads_nothing d _ _ refl;
     })
 
 pub lock_next-requires-clause-right : goal.lock_next-requires-clause-right

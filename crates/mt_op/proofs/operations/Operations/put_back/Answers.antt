@@ -5,7 +5,7 @@ use Rattle.mt_log.specs.declared.log.Log.{Log}
 use Rattle.mt_pool.specs.Views.{view}
 use Rattle.mt_pool.proofs.Steady.{steady}
 use Rattle.mt_pool.proofs.Writes.{view_whole}
-use Rattle.mt_steps.specs.Overlays.{or_bytes}
+use Rattle.mt_overlay.specs.Overlays.{or_bytes}
 use Rattle.mt_op.specs.World.{looked}
 use Rattle.mt_op.proofs.operations.Operations.put_back.Goals as goal
 

@@ -4,7 +4,7 @@ use Rattle.std.proofs.lemmas.Int.{ints}
 use mathlib.Core.Logic.{∥∥₁_elim, ∥∥₁_map}
 use Rattle.mt_index.specs.Pages.{depth_in}
 use Rattle.mt_model.specs.Views.{base_of}
-use Rattle.mt_op.proofs.Surveyed.{counters_page, fixed_inside, read_held, read_idle, read_right, reads_both, same_base}
+use Rattle.mt_op.proofs.Surveyed.{counters_page, fixed_inside, read_held, read_idle, read_right, reads_both, same_base, same_twice}
 use Rattle.mt_op.specs.Operations.{IsRight, world}
 use Rattle.mt_op.specs.Surveyed.{IsIdle}
 use Rattle.mt_op.specs.World.{held_in}
@@ -117,3 +117,15 @@ returns-in_err-list_pages-clause-calls g c =
     let both = reads_both D c.args.self.now m n c.held_page.ensures.read c.held_page-2.ensures.read in
     let total : pages n.store.pool ≡ pages c.args.self.now.store.pool = ap (λ (p : Pool). pages p) both.pool in
     let one = c.held_page.ensures.once in let two = c.held_page-2.ensures.once in let calls = c.list_pages.ensures.calls in omega (arith, total, one, two, calls)
+
+pub returns-clause-crash : goal.returns-clause-crash
+returns-clause-crash g c = same_twice _ _ _ c.held_page.ensures.crash (same_twice _ _ _ c.held_page-2.ensures.crash c.list_pages.ensures.crash)
+
+pub returns-in_err-list_pages-clause-crash : goal.returns-in_err-list_pages-clause-crash
+returns-in_err-list_pages-clause-crash g c = same_twice _ _ _ c.held_page.ensures.crash (same_twice _ _ _ c.held_page-2.ensures.crash c.list_pages.ensures.crash)
+
+pub returns-in_err-held_page-2-clause-crash : goal.returns-in_err-held_page-2-clause-crash
+returns-in_err-held_page-2-clause-crash g c = same_twice _ _ _ c.held_page.ensures.crash c.held_page-2.ensures.crash
+
+pub returns-in_err-base-clause-crash : goal.returns-in_err-base-clause-crash
+returns-in_err-base-clause-crash g c = same_twice _ _ _ c.held_page.ensures.crash c.held_page-2.ensures.crash

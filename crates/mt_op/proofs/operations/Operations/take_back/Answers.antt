@@ -33,7 +33,7 @@ returns-in_err-bring g c = let d = g.D.Device in let f = c.bring.ensures in let 
     let p = err_from_is_err_and c.from_residual.result c.from_residual.ensures.1 in
     record {
       back = subst (TakesStepBack d o c.bring.new.self s s) (sym (p.1 ∙ ap Err (p.2 ∙ subst (λ (r : Result Bool Refusal). IfErr r (λ why. why ≡ refusal.DeviceFailed)) c.in_err-bring.was c.bring.ensures.only_device)))
-          (takes_none d o c.bring.new.self s f.right f.rests f.moments f.once f.log f.map f.locks
+          (takes_none d o c.bring.new.self s f.right f.rests f.moments f.reads f.log f.map f.locks
           few (Err refusal.DeviceFailed) tt c.requires.budget
           (λ is. absurd cc) (inr refl) (fault_reported _ _ c.bring.result _ (Err refusal.DeviceFailed) f.cause c.in_err-bring.was refl));
     }
@@ -42,7 +42,7 @@ pub returns-then-not-branch : goal.returns-then-not-branch
 returns-then-not-branch g c = let d = g.D.Device in let f = c.bring.ensures in let o = c.args.self.now in let s = c.args.scope.now in
     let few : c.args.scope.now.standing ≤ 8 = ∥∥₁_elim c.requires.right (hlevel props) (λ (opening, relations, counters, right, k). few_stand relations counters (world d opening c.args.self.now) c.args.scope.now k c.requires.stage) in
     record {
-      back = takes_none d o c.bring.new.self s f.right f.rests f.moments f.once f.log f.map f.locks
+      back = takes_none d o c.bring.new.self s f.right f.rests f.moments f.reads f.log f.map f.locks
           few (Ok taken.Flush) tt c.requires.budget
           (λ is. f.full (c.in_ok-bring.was ∙ ap Ok c.if-not-branch.true)) tt (no_fault_ok _ _ _ (unfailed _ _ c.bring.result _ f.cause c.in_ok-bring.was));
     }
@@ -64,7 +64,7 @@ pub returns : goal.returns
 returns g c = let d = g.D.Device in let f = c.bring.ensures in let o = c.args.self.now in let s = c.args.scope.now in
     let few : c.args.scope.now.standing ≤ 8 = ∥∥₁_elim c.requires.right (hlevel props) (λ (opening, relations, counters, right, k). few_stand relations counters (world d opening c.args.self.now) c.args.scope.now k c.requires.stage) in
     record {
-      back = takes_behind d o c.bring.new.self s f.right f.rests f.moments f.once f.log f.map f.locks
+      back = takes_behind d o c.bring.new.self s f.right f.rests f.moments f.reads f.log f.map f.locks
           few c.put_last_back.new.self c.put_last_back.new.scope c.put_last_back.result c.put_last_back.ensures (unfailed _ _ c.bring.result _ f.cause c.in_ok-bring.was);
     }
 

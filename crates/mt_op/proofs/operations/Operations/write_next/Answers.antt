@@ -23,7 +23,7 @@ returns-in_err-bring g c = let d = g.D.Device in let f = c.bring.ensures in let 
       map = f.map;
       stage = c.requires.writing;
       ahead = subst (GoesAhead d o c.bring.new.self s s) (sym (p.1 ∙ ap Err (p.2 ∙ subst (λ (r : Result Bool Refusal). IfErr r (λ why. why ≡ refusal.DeviceFailed)) c.in_err-bring.was c.bring.ensures.only_device)))
-          (idle_ahead d o c.bring.new.self s f.right f.rests f.moments f.once (ap used f.log) (ap area_size f.log) (ap durable f.log) f.map f.locks (Err refusal.DeviceFailed) tt c.requires.writing c.requires.budget
+          (idle_ahead d o c.bring.new.self s f.right f.rests f.moments f.reads (ap used f.log) (ap area_size f.log) (ap durable f.log) f.map f.locks (Err refusal.DeviceFailed) tt c.requires.writing c.requires.budget
           (λ is. absurd cc) (inr refl) (fault_reported _ _ c.bring.result _ (Err refusal.DeviceFailed) f.cause c.in_err-bring.was refl));
     }
 
@@ -32,7 +32,7 @@ returns-then-not-branch g c = let d = g.D.Device in let f = c.bring.ensures in
     record {
       map = f.map;
       stage = c.requires.writing;
-      ahead = idle_ahead d c.args.self.now c.bring.new.self c.args.scope.now f.right f.rests f.moments f.once (ap used f.log) (ap area_size f.log) (ap durable f.log) f.map f.locks (Ok stepped.Flush) tt c.requires.writing c.requires.budget
+      ahead = idle_ahead d c.args.self.now c.bring.new.self c.args.scope.now f.right f.rests f.moments f.reads (ap used f.log) (ap area_size f.log) (ap durable f.log) f.map f.locks (Ok stepped.Flush) tt c.requires.writing c.requires.budget
           (λ is. f.full (c.in_ok-bring.was ∙ ap Ok c.if-not-branch.true)) tt (no_fault_ok _ _ _ (unfailed _ _ c.bring.result _ f.cause c.in_ok-bring.was));
     }
 
@@ -54,7 +54,7 @@ returns g c = let d = g.D.Device in let f = c.bring.ensures in
     record {
       map = c.write_there.ensures.map ∙ f.map;
       stage = c.write_there.ensures.stage;
-      ahead = ahead_behind d c.args.self.now c.bring.new.self c.args.scope.now f.right f.rests f.moments f.once (ap used f.log) (ap area_size f.log) (ap durable f.log) f.map f.locks c.write_there.new.self c.write_there.new.scope c.write_there.result
+      ahead = ahead_behind d c.args.self.now c.bring.new.self c.args.scope.now f.right f.rests f.moments f.reads (ap used f.log) (ap area_size f.log) (ap durable f.log) f.map f.locks c.write_there.new.self c.write_there.new.scope c.write_there.result
           c.write_there.ensures.ahead c.write_there.ensures.device c.write_there.ensures.never (unfailed _ _ c.bring.result _ f.cause c.in_ok-bring.was);
     }
 

@@ -6,6 +6,7 @@ use Rattle.mt_base.specs.declared.refusal.Refusal.TheVariants as refusal
 use Rattle.mt_log.specs.Batch.{joined}
 use Rattle.mt_log.specs.Seen.{LogSeen, bytes_in}
 use Rattle.mt_pool.proofs.Logged.{longer_appended}
+use Rattle.mt_pool.proofs.Reading.{reads_nothing}
 use Rattle.mt_op.proofs.LogSeen.{same_appended}
 use Rattle.mt_pool.specs.Views.{view}
 use Rattle.mt_pool.specs.Writes.{due_image}
@@ -14,7 +15,7 @@ use Rattle.mt_op.specs.World.{changes_in}
 use Rattle.mt_op.specs.Stepping.{GoesAhead}
 use Rattle.mt_op.proofs.Ahead.{idle_ahead}
 use Rattle.mt_op.proofs.Budget.{area_small, write_fits, write_within, write_left}
-use Rattle.mt_op.proofs.Faulting.{no_fault, no_fault_ok, once_same}
+use Rattle.mt_op.proofs.Faulting.{no_fault, no_fault_ok}
 use Rattle.mt_op.proofs.Right.{right_rests, with_store}
 use Rattle.mt_op.proofs.Work.{writing_work}
 use Rattle.mt_op.proofs.Written.{writes_goes, next_short, store_writes, store_stays, writes_right}
@@ -41,7 +42,7 @@ returns-in_err-write g c = let d = g.D.Device in let f = c.in_err-write.ensures 
       ahead = subst (GoesAhead d o n s s) (sym is)
           (idle_ahead d o n s
           (λ opening relations counters right. right_rests d opening relations counters o n right (f.keeps.kept opening right.kept) (store_stays d opening o c.write.new.self f.device f.steps.pool same) refl refl)
-          (λ opening. store_stays d opening o c.write.new.self f.device f.steps.pool same) f.keeps.moments (once_same _ _ (ap d.moment f.device)) (ap bytes_in f.steps.log) (ap (λ (x : LogSeen). x.end - x.start) f.steps.log) (ap (λ (x : LogSeen). joined x.batches) f.steps.log) refl refl (Err refusal.NoMemory) tt c.requires.writing c.requires.budget
+          (λ opening. store_stays d opening o c.write.new.self f.device f.steps.pool same) f.keeps.moments (reads_nothing d _ _ f.device) (ap bytes_in f.steps.log) (ap (λ (x : LogSeen). x.end - x.start) f.steps.log) (ap (λ (x : LogSeen). joined x.batches) f.steps.log) refl refl (Err refusal.NoMemory) tt c.requires.writing c.requires.budget
           (λ is. absurd cc) (inl refl) (no_fault _ _ (Err refusal.NoMemory) refl (ap d.faults f.device)));
       device = f.device;
       map = refl;
@@ -92,7 +93,7 @@ returns g c = let f = c.in_ok-write.ensures in let seen = g.D.Device.seen in let
         flush = λ is. absurd cc;
         why = tt;
         faults = no_fault_ok _ _ _ (ap g.D.Device.faults f.device);
-        once = once_same _ _ (ap g.D.Device.moment f.device);
+        reads = reads_nothing g.D.Device _ _ f.device;
       };
       device = f.device;
       map = refl;

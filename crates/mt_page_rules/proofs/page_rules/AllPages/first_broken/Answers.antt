@@ -1,7 +1,8 @@
 use Rattle.std.proofs.Common.{◌≡◌, ◌∙◌, ◌<◌, ℕ, List, Option, None, length, get_or, ap, sym, subst, arith}
 use Rattle.std.specs.Prelude.{MatchOption, IfSome}
 use Rattle.mt_index.specs.Broken.{IsBroken}
-use Rattle.mt_index.specs.Checks.{bytes_of, IsSound}
+use Rattle.mt_index.specs.Checks.{IsSound}
+use Rattle.mt_space.specs.PageLists.{bytes_of}
 use Rattle.mt_counters.specs.Counters.{AreCounters}
 use Rattle.mt_steps.specs.Plans.{IsGood}
 use Rattle.mt_base.specs.declared.format.Format.{Format}

@@ -1,5 +1,5 @@
 use Rattle.std.proofs.Common.{◌<◌, ℕ, length}
-use Rattle.mt_index.specs.Checks.{bytes_of}
+use Rattle.mt_space.specs.PageLists.{bytes_of}
 use Rattle.mt_space.specs.Kinds.{kind, CanBe}
 use Rattle.mt_page_rules.proofs.page_rules.AllPages.has_map.Given as goal
 

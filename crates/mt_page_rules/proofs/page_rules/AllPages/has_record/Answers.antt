@@ -1,5 +1,5 @@
 use Rattle.std.proofs.Common.{◌≡◌, ◌∙◌, ◌<◌, ℕ, length, get_or, ap, sym, subst}
-use Rattle.mt_index.specs.Checks.{bytes_of}
+use Rattle.mt_space.specs.PageLists.{bytes_of}
 use Rattle.mt_slots.specs.Page.{Row}
 use Rattle.mt_space.specs.Kinds.{kind}
 use Rattle.mt_page_rules.proofs.Checked.{alike, differ, empty_slot, its_record, keys_alike, keys_differ, no_records, own_record, page_is}

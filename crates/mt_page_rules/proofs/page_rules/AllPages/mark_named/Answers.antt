@@ -2,7 +2,8 @@ use Rattle.std.proofs.Common.{◌≡◌, ◌∙◌, ◌+◌, ◌*◌, ◌<◌, �
 use Rattle.mt_base.specs.declared.numbers.RecordName.{RecordName}
 use Rattle.mt_bucket.specs.Entries.{Entry}
 use Rattle.mt_bucket.specs.Page.{count_of}
-use Rattle.mt_index.specs.Checks.{bytes_of, entry_at}
+use Rattle.mt_index.specs.Checks.{entry_at}
+use Rattle.mt_space.specs.PageLists.{bytes_of}
 use Rattle.mt_page_rules.specs.Naming.{MarksNamed, place}
 use Rattle.mt_page_rules.proofs.Checked.{page_is}
 use Rattle.mt_page_rules.proofs.Naming.{its_page, its_place, mark_more}

@@ -1,6 +1,6 @@
 use Rattle.std.proofs.Common.{◌+◌, ◌<◌, List, Bool, Global, Vec, length, ap, sym, subst, arith}
 use Rattle.mt_bucket.specs.Page.{count_of}
-use Rattle.mt_index.specs.Checks.{bytes_of}
+use Rattle.mt_space.specs.PageLists.{bytes_of}
 use Rattle.mt_page_rules.specs.Naming.{AreNamed, MarksNamed}
 use Rattle.mt_page_rules.proofs.Naming.{named_more, named_other}
 use Rattle.mt_page_rules.proofs.page_rules.AllPages.named_slots.Goals as goal

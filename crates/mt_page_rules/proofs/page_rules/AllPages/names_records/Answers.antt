@@ -1,7 +1,8 @@
 use Rattle.std.proofs.Common.{◌≡◌, ◌∙◌, ◌<◌, ℕ, List, true, false, ap, sym, subst, arith}
 use Rattle.mt_bucket.specs.Entries.{Entry}
 use Rattle.mt_bucket.specs.Page.{count_of}
-use Rattle.mt_index.specs.Checks.{bytes_of, entry_at}
+use Rattle.mt_index.specs.Checks.{entry_at}
+use Rattle.mt_space.specs.PageLists.{bytes_of}
 use Rattle.mt_page_rules.specs.Checks.{HasRecord, IsNamedWell}
 use Rattle.mt_page_rules.proofs.Checked.{each_more, page_is}
 use Rattle.mt_page_rules.proofs.Naming.{entry_well}

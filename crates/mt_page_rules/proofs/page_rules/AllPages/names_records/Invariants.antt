@@ -1,5 +1,6 @@
 use Rattle.std.proofs.Common.{◌<◌, ℕ}
-use Rattle.mt_index.specs.Checks.{bytes_of, entry_at}
+use Rattle.mt_index.specs.Checks.{entry_at}
+use Rattle.mt_space.specs.PageLists.{bytes_of}
 use Rattle.mt_page_rules.specs.Checks.{IsNamedWell}
 use Rattle.mt_page_rules.proofs.page_rules.AllPages.names_records.Given as goal
 

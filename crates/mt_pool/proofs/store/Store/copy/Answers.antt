@@ -11,7 +11,7 @@ returns-clause-keeps g c =
     let kept : (opening : _) → IsKept g.D.Device opening c.args.self.now → IsKept g.D.Device opening _ = λ opening k.
     let e = c.copy.ensures in let pool = c.args.self.now.pool in
     kept_read g.D.Device opening c.args.self.now k pool c.copy.new.device k.frames (subst (λ (l : List ℕ). Shows pool l) (sym e.seen) k.shows) refl refl refl
-    (λ q. ap (λ (l : List ℕ). view pool l q) e.seen) e.seen e.crash in
+    (λ q. ap (λ (l : List ℕ). view pool l q) e.seen) e.seen (λ c. (e.crash c).0) in
     record {
       kept = kept;
       moments = λ opening k.
@@ -24,3 +24,6 @@ copy-requires-clause-pool g c = (steady g.D.Device c.args.self.now c.requires.op
 
 pub copy-requires-clause-shows : goal.copy-requires-clause-shows
 copy-requires-clause-shows g c = (steady g.D.Device c.args.self.now c.requires.open).shows
+
+pub returns-clause-reads : goal.returns-clause-reads
+returns-clause-reads g c = let e = c.copy.ensures in record { once = e.time.at_once; seen = e.seen; crash = e.crash }

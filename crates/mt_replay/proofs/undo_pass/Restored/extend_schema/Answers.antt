@@ -2,7 +2,7 @@ use Rattle.std.proofs.Common.{◌≡◌, ◌≤◌, ◌+◌, ◌∙◌, ℕ, ℤ
 use Rattle.std.specs.Bool.{MatchBool, OnFalse, OnTrue}
 use Rattle.std.proofs.lemmas.List.{get_or_read_under, set-get_or}
 use Rattle.mt_model.specs.Tables.{started}
-use Rattle.mt_page_rules.specs.Whole.{AreWhole}
+use Rattle.mt_space.specs.PageLists.{AreWhole}
 use Rattle.mt_counters.specs.Counters.{AreCounters}
 use Rattle.mt_counters.specs.Extended.{IsExtended, TakesMore}
 use Rattle.mt_replay.specs.Extension.{CanExtend, ExtendsSchema}

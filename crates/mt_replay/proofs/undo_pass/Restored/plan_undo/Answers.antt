@@ -4,7 +4,7 @@ use Rattle.mt_inverse.specs.Steps.{IsWithinSteps}
 use Rattle.mt_model.specs.declared.operations.Op.{Op}
 use Rattle.mt_space.specs.Changes.{PageBytes, after}
 use Rattle.mt_steps.specs.Acts.{IfFull, IfLock, IfMade}
-use Rattle.mt_steps.specs.Overlays.{AreAtHand}
+use Rattle.mt_overlay.specs.Overlays.{AreAtHand}
 use Rattle.mt_steps.specs.Plans.{InPages, IsPlanned, IsTight, TakesPages, free_pages, own_needs, record_bytes}
 use Rattle.mt_steps.specs.declared.act.Act.{Act}
 use Rattle.mt_replay.specs.Memory.{AreFirst}

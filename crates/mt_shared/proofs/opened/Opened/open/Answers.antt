@@ -4,12 +4,12 @@ use Rattle.mt_live.specs.Machine.{start}
 use Rattle.mt_model.specs.Views.{base_of}
 use Rattle.mt_model.specs.declared.tables.Base.{Base}
 use Rattle.mt_locked.proofs.Keeping.{began_so}
-use Rattle.mt_shared.proofs.Openings.{first_book, no_memory}
+use Rattle.mt_shared.proofs.Openings.{first_book, just_opened, no_memory}
 use Rattle.mt_disk.specs.Disk.{LeavesOnly}
 use Rattle.mt_restart.specs.Recovered.{StandsStill}
 use Rattle.mt_restart.specs.Resumed.{HasTurnedOver, IsRestoredBase}
 use Rattle.mt_steps.specs.Listed.{IsSame}
-use Rattle.mt_txn.specs.Seen.{KernelSeen}
+use Rattle.mt_txn.specs.Seen.{KernelSeen, seen_of}
 use Rattle.mt_shared.proofs.opened.Opened.open.Goals as goal
 
 pub new-requires-clause-began : goal.new-requires-clause-began
@@ -67,3 +67,9 @@ returns-clause-moments g c = λ relations counters b can.
 
 pub returns-in-Ok-new-clause-many : goal.returns-in-Ok-new-clause-many
 returns-in-Ok-new-clause-many g c = search rules
+
+pub returns-in-Ok-new-clause-opened : goal.returns-in-Ok-new-clause-opened
+returns-in-Ok-new-clause-opened g c =
+    let e = c.in-Ok-new.ensures in
+    just_opened g.D.Device (base_of c.in-Ok.opened.1) _ (seen_of c.in-Ok.opened.0) _ (ap base_of e.ok.0) e.kernel
+    c.in-Ok.ensures.opened.shows c.in-Ok.ensures.well

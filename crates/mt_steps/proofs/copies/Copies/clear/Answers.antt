@@ -1,4 +1,4 @@
-use Rattle.mt_steps.specs.Overlays.{copied}
+use Rattle.mt_overlay.specs.Overlays.{copied}
 use Rattle.mt_steps.proofs.copies.Copies.clear.Goals as goal
 
 pub invariant_of-self : goal.invariant_of-self

@@ -1,4 +1,4 @@
-use Rattle.mt_steps.specs.Overlays.{copied}
+use Rattle.mt_overlay.specs.Overlays.{copied}
 use Rattle.mt_steps.proofs.copies.Copies.new.Goals as goal
 
 pub invariant_of-result : goal.invariant_of-result

@@ -1,8 +1,8 @@
 use Rattle.std.proofs.Common.{ℕ, List, Option, [], ◌∷◌, ◌∙◌, ap}
-use Rattle.mt_steps.specs.Overlays.{copied, or_below}
-use Rattle.mt_steps.specs.declared.overlay.PageCopy.{PageCopy}
+use Rattle.mt_overlay.specs.Overlays.{copied, or_below}
+use Rattle.mt_overlay.specs.declared.overlay.PageCopy.{PageCopy}
 use Rattle.mt_index.proofs.Bucketwise.{gathered_still}
-use Rattle.mt_steps.proofs.Overlaid.{copied_append}
+use Rattle.mt_overlay.proofs.Overlaid.{copied_append}
 use Rattle.mt_steps.proofs.copies.Copies.put.Goals as goal
 
 pub invariant_of-self : goal.invariant_of-self

@@ -1,9 +1,9 @@
 use Rattle.std.proofs.Common.{arith, length, ◌≡◌, List, [], ◌∙◌, ap, subst, sym}
 use Rattle.std.proofs.lemmas.Grind.{common_steps}
 use Rattle.std.proofs.lemmas.List.{nil_from_length}
-use Rattle.mt_steps.specs.Overlays.{copied}
+use Rattle.mt_overlay.specs.Overlays.{copied}
 use Rattle.mt_steps.specs.Scanned.{IsScannedTo}
-use Rattle.mt_steps.specs.declared.overlay.PageCopy.{PageCopy}
+use Rattle.mt_overlay.specs.declared.overlay.PageCopy.{PageCopy}
 use Rattle.mt_steps.specs.declared.copies.Copies.TheInside.{Inside}
 use Rattle.mt_steps.proofs.copies.Copies.reserve.Goals.{then-capacity, else-capacity}
 use Rattle.mt_steps.proofs.copies.Copies.reserve.Goals as goal

@@ -1,4 +1,4 @@
-use Rattle.std.proofs.Common.{refl, ap}
+use Rattle.std.proofs.Common.{rules, refl, ap}
 use Rattle.mt_core.specs.declared.parts.Core.{Core}
 use mathlib.Core.Logic.{∥∥₁_elim, ∥∥₁_map}
 use Rattle.std.proofs.Props.{props}
@@ -12,8 +12,17 @@ invariant_of-self g c = record { well = well_led g.D.Device c.args.self.now.rela
 pub returns-clause-state : goal.returns-clause-state
 returns-clause-state g c = λ first s shows. led g.D.Device c.args.self.now.relations c.args.self.now.counters c.args.self.now.core c.return_begin.new.self (λ z. z) first s (stays_led g.D.Device c.args.self.now.relations c.args.self.now.counters c.args.self.now.core c.return_begin.new.self c.return_begin.ensures.state) shows
 
-pub returns-clause-work : goal.returns-clause-work
-returns-clause-work g c = ∥∥₁_elim c.args.self.now.well (hlevel props) (λ (origin, base, is, safe). c.return_begin.ensures.few_steps origin base safe)
+pub returns-clause-begins : goal.returns-clause-begins
+returns-clause-begins g c = let rest = c.return_begin.ensures.rest in record {
+  state = c.return_begin.ensures.returns;
+  work = ∥∥₁_elim c.args.self.now.well (hlevel props) (λ (origin, base, is, safe). c.return_begin.ensures.few_steps origin base safe);
+  running = search rules;
+  numbers = search rules;
+  commits = search rules;
+  counts = c.return_begin.ensures.count;
+  store = ap (λ (x : Core g.row.D.Denot). x.operations.store) rest;
+  locks = search rules;
+}
 
 pub returns-clause-restarts : goal.returns-clause-restarts
 returns-clause-restarts g c = λ first r. let D = g.D.Device in let k = c.args.self.now in

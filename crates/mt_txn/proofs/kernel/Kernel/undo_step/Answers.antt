@@ -15,7 +15,7 @@ use Rattle.std.proofs.Common.{◌≤◌, sym}
 use Rattle.mt_pool.specs.Views.{pages}
 use Rattle.mt_core.specs.Work.{LowersUndo, undo_steps}
 use Rattle.mt_txn.proofs.Showing.{at_place}
-use Rattle.mt_txn.specs.Work.{LowersAbort}
+use Rattle.mt_txn.specs.Work.{LowersUndoing, NoneAreLeft}
 use Rattle.mt_txn.specs.declared.answers.AbortStepped.{AbortStepped}
 use Rattle.mt_txn.proofs.Restarting.{meanwhile, restarts_on, undo_goes}
 use Rattle.mt_txn.proofs.Stepping.{others_of}
@@ -53,21 +53,21 @@ returns-in_err-reply-clause-steps g c = record {
       let lowers = subst (λ t. LowersUndo all c.undo_step-outcome.result (undo_steps k t) (undo_steps n t)) (c.requires.own at.0 at.1).0 (c.undo_step-outcome.ensures.lowers at.0 at.1) in
       let few : undo_steps n c.args.txn ≤ undo_steps k c.args.txn = subst (λ (r : Result Stepping Refusal). LowersUndo all r (undo_steps k c.args.txn) (undo_steps n c.args.txn)) c.in_err-reply.was lowers in
       let p = err_from_is_err_and c.from_residual.result c.from_residual.ensures.1 in
-      subst (λ (r : Result AbortStepped Refusal). LowersAbort all r (undo_steps k c.args.txn) (undo_steps n c.args.txn)) (sym p.1) few;
+      subst (λ (r : Result AbortStepped Refusal). LowersUndoing NoneAreLeft all r (undo_steps k c.args.txn) (undo_steps n c.args.txn)) (sym p.1) few;
   other = search rules;
   full = search rules;
   durable = search rules;
   commits = search rules;
   err_states = search rules;
-  goes = search rules;
+  ends = search rules;
   schema = search rules;
   restarts = λ first r. let D = g.D.Device in let k = c.args.self.now in
       restarts_on D k.relations k.counters first k.core c.undo_step-outcome.new.self (undo_goes D k.core c.undo_step-outcome.new.self c.args.place c.undo_step-outcome.result c.requires.within c.undo_step-outcome.ensures.steps) (c.undo_step-outcome.ensures.restartable) r;
   moments = λ first r schema. let D = g.D.Device in let k = c.args.self.now in
       meanwhile D k.relations k.counters first g.met.D.Device.only_now k.core _ c.undo_step-outcome.ensures.stepped.moments r schema;
-  once = c.undo_step-outcome.ensures.stepped.once;
+  reads = c.undo_step-outcome.ensures.stepped.reads;
   others = others_of c.args.self.now.core.running.items c.undo_step-outcome.new.self.running.items c.args.place c.args.txn c.requires.within (λ r at. (c.requires.own r at).0) c.undo_step-outcome.ensures.stepped.others;
-  inverted = λ first s shows. let p = err_from_is_err_and c.from_residual.result c.from_residual.ensures.1 in
+  leads = λ first s shows. let p = err_from_is_err_and c.from_residual.result c.from_residual.ensures.1 in
       err_inverted _ s c.args.txn (state_in c.args.self.now.core.live.members c.args.txn) c.from_residual.result p.0 p.1 (subst (UndoShown g.D.Device c.args.self.now.relations c.args.self.now.counters c.undo_step-outcome.new.self first s c.args.txn (state_in c.args.self.now.core.live.members c.args.txn)) (c.in_err-reply.was) (undo_shown g.D.Device c.args.self.now.relations c.args.self.now.counters c.args.self.now.core c.undo_step-outcome.new.self first s c.args.txn c.args.place c.undo_step-outcome.result c.requires.within (λ r there. (c.requires.own r there).0) c.undo_step-outcome.ensures.steps shows));
 }
 
@@ -86,15 +86,15 @@ returns-in-Ended-clause-steps g c = record {
   durable = search rules;
   commits = search rules;
   err_states = search rules;
-  goes = search rules;
+  ends = search rules;
   schema = search rules;
   restarts = λ first r. let D = g.D.Device in let k = c.args.self.now in
       restarts_on D k.relations k.counters first k.core c.undo_step-outcome.new.self (undo_goes D k.core c.undo_step-outcome.new.self c.args.place c.undo_step-outcome.result c.requires.within c.undo_step-outcome.ensures.steps) (c.undo_step-outcome.ensures.restartable) r;
   moments = λ first r schema. let D = g.D.Device in let k = c.args.self.now in
       meanwhile D k.relations k.counters first g.met.D.Device.only_now k.core _ c.undo_step-outcome.ensures.stepped.moments r schema;
-  once = c.undo_step-outcome.ensures.stepped.once;
+  reads = c.undo_step-outcome.ensures.stepped.reads;
   others = others_of c.args.self.now.core.running.items c.undo_step-outcome.new.self.running.items c.args.place c.args.txn c.requires.within (λ r at. (c.requires.own r at).0) c.undo_step-outcome.ensures.stepped.others;
-  inverted = λ first s shows. ended_inverted g.D.Device c.args.self.now.relations c.args.self.now.counters c.undo_step-outcome.new.self first s c.args.txn (state_in c.args.self.now.core.live.members c.args.txn) (subst (UndoShown g.D.Device c.args.self.now.relations c.args.self.now.counters c.undo_step-outcome.new.self first s c.args.txn (state_in c.args.self.now.core.live.members c.args.txn)) (c.in_ok-reply.was ∙ ap Ok c.in-Ended.is) (undo_shown g.D.Device c.args.self.now.relations c.args.self.now.counters c.args.self.now.core c.undo_step-outcome.new.self first s c.args.txn c.args.place c.undo_step-outcome.result c.requires.within (λ r there. (c.requires.own r there).0) c.undo_step-outcome.ensures.steps shows));
+  leads = λ first s shows. ended_inverted g.D.Device c.args.self.now.relations c.args.self.now.counters c.undo_step-outcome.new.self first s c.args.txn (state_in c.args.self.now.core.live.members c.args.txn) (subst (UndoShown g.D.Device c.args.self.now.relations c.args.self.now.counters c.undo_step-outcome.new.self first s c.args.txn (state_in c.args.self.now.core.live.members c.args.txn)) (c.in_ok-reply.was ∙ ap Ok c.in-Ended.is) (undo_shown g.D.Device c.args.self.now.relations c.args.self.now.counters c.args.self.now.core c.undo_step-outcome.new.self first s c.args.txn c.args.place c.undo_step-outcome.result c.requires.within (λ r there. (c.requires.own r there).0) c.undo_step-outcome.ensures.steps shows));
 }
 
 pub returns-in-Going-clause-steps : goal.returns-in-Going-clause-steps
@@ -121,13 +121,13 @@ returns-in-Going-clause-steps g c = record {
   durable = search rules;
   commits = search rules;
   err_states = search rules;
-  goes = search rules;
+  ends = search rules;
   schema = search rules;
   restarts = λ first r. let D = g.D.Device in let k = c.args.self.now in
       restarts_on D k.relations k.counters first k.core c.undo_step-outcome.new.self (undo_goes D k.core c.undo_step-outcome.new.self c.args.place c.undo_step-outcome.result c.requires.within c.undo_step-outcome.ensures.steps) (c.undo_step-outcome.ensures.restartable) r;
   moments = λ first r schema. let D = g.D.Device in let k = c.args.self.now in
       meanwhile D k.relations k.counters first g.met.D.Device.only_now k.core _ c.undo_step-outcome.ensures.stepped.moments r schema;
-  once = c.undo_step-outcome.ensures.stepped.once;
+  reads = c.undo_step-outcome.ensures.stepped.reads;
   others = others_of c.args.self.now.core.running.items c.undo_step-outcome.new.self.running.items c.args.place c.args.txn c.requires.within (λ r at. (c.requires.own r at).0) c.undo_step-outcome.ensures.stepped.others;
-  inverted = λ first s shows. going_inverted _ s c.args.txn (state_in c.args.self.now.core.live.members c.args.txn) c.going.result (abort_goes _ _ _ c.going.ensures) (subst (UndoShown g.D.Device c.args.self.now.relations c.args.self.now.counters c.undo_step-outcome.new.self first s c.args.txn (state_in c.args.self.now.core.live.members c.args.txn)) (c.in_ok-reply.was ∙ ap Ok c.in-Going.is) (undo_shown g.D.Device c.args.self.now.relations c.args.self.now.counters c.args.self.now.core c.undo_step-outcome.new.self first s c.args.txn c.args.place c.undo_step-outcome.result c.requires.within (λ r there. (c.requires.own r there).0) c.undo_step-outcome.ensures.steps shows));
+  leads = λ first s shows. going_inverted _ s c.args.txn (state_in c.args.self.now.core.live.members c.args.txn) c.going.result (abort_goes _ _ _ c.going.ensures) (subst (UndoShown g.D.Device c.args.self.now.relations c.args.self.now.counters c.undo_step-outcome.new.self first s c.args.txn (state_in c.args.self.now.core.live.members c.args.txn)) (c.in_ok-reply.was ∙ ap Ok c.in-Going.is) (undo_shown g.D.Device c.args.self.now.relations c.args.self.now.counters c.args.self.now.core c.undo_step-outcome.new.self first s c.args.txn c.args.place c.undo_step-outcome.result c.requires.within (λ r there. (c.requires.own r there).0) c.undo_step-outcome.ensures.steps shows));
 }

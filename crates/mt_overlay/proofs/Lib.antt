@@ -1,0 +1,2 @@
+pub mod Overlaid
+mod Placed

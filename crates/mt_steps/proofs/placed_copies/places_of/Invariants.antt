@@ -1,6 +1,0 @@
--- The copies passed have their places.
-use Rattle.mt_steps.proofs.Placed.{IsPlacing}
-use Rattle.mt_steps.proofs.placed_copies.places_of.Given as goal
-
-abbrev pub invariant-loop-i : goal.invariant-loop-i
-invariant-loop-i l = IsPlacing l.copies l.places l.i

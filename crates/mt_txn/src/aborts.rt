@@ -86,7 +86,8 @@ impl<D: Device> Kernel<D> {
         ensures numbers { NumbersStay self.old self.new }
         ensures locks { AtPlace (kernel_running self.old) place
             (λ r. AbortsLocks self.old.core self.new.core r result) }
-        ensures writes { UndoingWrites LogsNothing (appended (kernel_log self.old)) (appended (kernel_log self.new)) result }
+        ensures writes { UndoingWrites LogsNothing (appended (kernel_log self.old)) (appended (kernel_log self.new))
+            result }
     {
         let outcome = self.core.undo_step(self.alloc, place);
         self.failed = is_failure(&outcome);

@@ -24,8 +24,14 @@ SUBJECT = load(pathlib.Path(__file__).with_name("edits"), "edits").subject
 
 
 def edits_of(crate):
-    """Returns the turned bodies of a crate, or of a crate's folder."""
+    """Returns the turned bodies of a crate, or of a crate's folder, that the gate tries."""
     return sorted(glob.glob(f"{getattr(crate, 'folder', crate)}/turned/*.edit"))
+
+
+def more_of(crate):
+    """Returns those that the gate leaves out: each further body of a function that has one, and turned definitions of laws. Each of them
+    takes a check of its own."""
+    return sorted(glob.glob(f"{crate.folder}/turned/more/*.edit"))
 
 
 def read(edit):

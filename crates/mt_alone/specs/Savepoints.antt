@@ -19,7 +19,8 @@ WhatCountsLeads =
     → start.under_way ≡ None → HasPlayed relations counters start lines answers end
     → IfSome end.under_way (AreLed end.base)
 
--- On a base where calls are so, they go back to where any transaction's calls go.
+-- Such calls go back on their base as those of any transaction do: the base gives an inverse the reply that is known
+-- from what it takes back.
 abbrev pub GoesBackAlike : Type 0
 GoesBackAlike =
     (b : Base) (calls : OpenCalls) (n : ℕ) → IsBase b → AreLed b calls → back_on b calls n ≡ back_to calls n

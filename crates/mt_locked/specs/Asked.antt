@@ -115,6 +115,7 @@ module _ {D : Type 0} (g : Ghosts D) where
     pub numbers : NoneBegan k n
     pub device : SameDevice k n
 
+  -- A commit logs its record and no more: the state stays until a force ends, and no device is called.
   pub record DidCommit (k : KernelSeen D) (t : ℕ) (result : Result ℕ Refusal) (n : KernelSeen D) : Type 0 where
     pub answers : AnswersCommit k t result n
     pub state : StaysSeen k n

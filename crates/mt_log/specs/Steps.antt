@@ -36,6 +36,8 @@ pub record Stops (old new : LogSeen) (why : Refusal) : Type 0 where
   pub some : old.stage ≡ Idle → 0 < length old.waits
   pub now : new ≡ record (begun old) { stage = Failed }
 
+-- What a step of a force did, by its answer: there was nothing to force, it goes on, all that waited is durable up to
+-- this place, or the device failed.
 abbrev pub ForceSteps : LogSeen → LogSeen → Result Forced Refusal → Type 0
 ForceSteps old new (Ok Nothing) = StaysIdle old new
 ForceSteps old new (Ok More) = GoesOn old new

@@ -122,6 +122,8 @@ needs s Ready = 0
 needs s Taking = 22
 needs s Cleared = 0
 
+-- The bytes of the log that are left to an operation are enough for what its stage needs. One that only reads changes
+-- no page.
 pub record HasBudget (s : OpScope) : Type 0 where
   pub enough : needs s s.stage ≤ s.left
   pub reads : only_reads s.op ≡ true → changes_in s ≡ []
@@ -148,6 +150,8 @@ pub record Acts (relations counters : ℕ) (w z : World) (s t : OpScope) (reply 
   pub ended : z.records ≡ w.records ++ end_of s reply
   pub same : SameOp s t
 
+-- What a step did, by its answer. One that is ready acts on the base, with one reply. Every other, and one that is
+-- refused, ends nothing.
 abbrev pub Steps : ℕ → ℕ → World → World → OpScope → OpScope → Result Stepped Refusal → Type 0
 Steps relations counters w z s t (Ok (stepped.Ready first second)) =
     Acts relations counters w z s t first × (second ≡ first)

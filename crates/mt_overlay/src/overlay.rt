@@ -124,7 +124,8 @@ impl<'a, V: Pages> Overlay<'a, V> {
 impl<'a, V: Pages> Pages for Overlay<'a, V> {
     ghost use Rattle.mt_overlay.specs.Overlays.{shown_whole};
 
-    ghost is_sound = { λ overlay. V.is_sound overlay.views.now × AreCopies (V.at_hand overlay.views.now) overlay.copies.items };
+    ghost is_sound = { λ overlay. V.is_sound overlay.views.now
+        × AreCopies (V.at_hand overlay.views.now) overlay.copies.items };
 
     ghost total = { λ overlay. V.total overlay.views.now };
 

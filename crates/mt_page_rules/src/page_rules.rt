@@ -106,7 +106,8 @@ impl AllPages {
     // The first page of records whose bytes are none of the schema's.
     fn first_malformed(&self, relations: u16) -> Option<PageNo>
         ensures { MatchOption result (AreRecordPages self.now.format self.now.pages.items relations)
-            (λ p. (p < length self.now.pages.items) × (IsRecordPage self.now.format self.now.pages.items relations p → ⊥)) }
+            (λ p. (p < length self.now.pages.items)
+            × (IsRecordPage self.now.format self.now.pages.items relations p → ⊥)) }
     {
         for number in 0..self.pages.len() {
             if !self.is_record_page(number, relations) {

@@ -172,6 +172,7 @@ pub fn serve<D: Device + Drop + Send, G: Gate + Drop + Send + Sync, R: Threads +
     ensures outcome { IfOk result (λ s.
         AreAllReported (is_failed s.kernel) (map lines_in scripts.items) s.transcripts.items (kernel_book s.kernel)) }
     ensures began { IfOk result (λ s. IsServedOn (D.seen device) s.kernel) }
+    // The kernel that served began with so many frames, on a base that these bytes represent.
     ensures frames { IfOk result (λ _. IsOpenedWith ⟦<D as Device>⟧ frames (D.seen device)) }
     ensures idle { IfOk result (λ s. is_failed s.kernel ≡ false → IsIdle s.kernel) }
     ensures few { IfOk result (λ _. length scripts.items ≤ MAX_SESSIONS) }

@@ -37,6 +37,7 @@ AnswersIn g relations counters k t op result =
     ∥ ((origin : Origin) × (base : Base) × IsOrigin relations counters origin.first origin
     × IsConsistent g origin base k × IsAnswered g origin k (log_kept k) t op true result) ∥₁
 
+-- the same of a kernel, with the relations and counters that it has
 abbrev pub IsAnsweredBy : {D : Type 0} → {g : Ghosts D} → Kernel D g → ℕ → Op → Result Called Refusal → Type 0
 IsAnsweredBy {g = g} k t op result = AnswersIn g k.relations k.counters k.core t op result
 
@@ -96,6 +97,7 @@ AbortsTo Is s t (Ok abort.Flush) = Is s
 AbortsTo Is s t (Ok abort.Ended) = Is (gone s t) × ∥ last_effect t s.standing ≡ None ∥₁
 AbortsTo Is s t (Err why) = Is s
 
+-- the same of a kernel that represented this state before the step
 abbrev pub HasAborted : {D : Type 0} → {g : Ghosts D} → Base → State → ℕ → Result AbortStepped Refusal → Kernel D g
     → Type 0
 HasAborted first s t result n = AbortsTo (λ z. Shows first z n) s t result

@@ -73,7 +73,7 @@ size_sound (Scan r) = λ e. cc
 fault_sound : (relations counters : ℕ) (op : Op) → first_of (name_cause relations counters op) (size_cause op) ≡ Some refusal.DeviceFailed → ⊥
 fault_sound relations counters op = two_other (name_cause relations counters op) (size_cause op) refusal.DeviceFailed (name_sound relations counters op) (size_sound op)
 
--- ---- the causes, one behind the other
+-- ---- the causes, one after the other
 
 abbrev causes : Bool → Bool → Option Refusal → Option Refusal
 causes failed many fault = first_of (if failed then Some refusal.DeviceFailed else None) (first_of (if many then Some refusal.TooManyOperations else None) fault)
@@ -105,7 +105,7 @@ adds_only k t (Scan r) never = absurd (never tt)
 
 module _ {D : Type 0} (g : Ghosts D) (k : Core D) (t : ℕ) (op : Op) where
   abbrev IsRefusedIn : Refusal → Type 0
-  IsRefusedIn why = ∥ ((origin : Origin) × IsRefusedCall g origin k (log_kept k) t op true why) ∥₁
+  IsRefusedIn why = ∥ ((origin : Origin) × IsRefusedCall g origin k (log_kept k) t op why) ∥₁
 
   want_of : (why : Refusal) → AreAllFree (held_of k.locks) t (locks_of op) → IsRefusedIn why → IsCallWant op why
   want_of refusal.NoMemory free x = tt

@@ -106,7 +106,7 @@ module _ {D : Type 0} {g : Ghosts D} where
       undo = f.undo;
     }
 
-    -- a flush, and a force behind it
+    -- a flush, and a force after it
     pub eased_more : (k m x n : Kernel D g) (r : Result KernelForced Refusal) → (NobodyCommits k → Eases k m) → Stays m x → OnlyOperations m.core x.core → LeavesUndo m.core x.core
         → IsForcing x r n → NobodyCommits k → Eases k n
     eased_more k m x n r before stays only undo f nobody =

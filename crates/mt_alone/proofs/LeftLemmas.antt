@@ -1,4 +1,4 @@
--- What a device stands for behind the commits of a kernel, or of a play.
+-- What a device represents after the commits of a kernel, or of a play.
 use Rattle.std.proofs.Common.{◌≡◌, ◌≤◌, ◌<◌, ◌+◌, ◌-◌, ◌++◌, ◌∙◌, [], inl, inr, ℕ, List, Result, length, take, None, sym, ap, subst, arith, append-nil}
 use Rattle.std.proofs.Math.Seq.{take-append-add}
 use Rattle.std.proofs.Props.{props}
@@ -31,18 +31,18 @@ use Rattle.mt_txn.specs.Restarted.{all_commits, FindsCommits, FindsMeanwhile}
 use Rattle.mt_txn.specs.Shown.{IsFoundIn, Restarts}
 use Rattle.mt_txn.specs.declared.kernel.Kernel.{Kernel}
 
--- bytes that stand for what all of some commits lead to stand for these and no further ones
+-- bytes that represent what all of some commits lead to represent these and no further ones
 no_further : (relations counters : ℕ) (b : Base) (book : List Committed) (c : List ℕ) → ∥ CanRestart relations counters c (after b book) ∥₁
     → ∥ ((further : List Committed) × CanRestart relations counters c (after b (book ++ further))) ∥₁
 no_further relations counters b book c stands = ∥∥₁_map stands (λ found. ([], subst (λ (all : List Committed). CanRestart relations counters c (after b all)) (sym (append-nil book)) found))
 
--- a device alone stands for the play's commits
+-- a device alone represents the play's commits
 ended_stands : {D : Type 0} (g : Ghosts D) (relations counters : ℕ) (q : Play) (device : D) (why : RunFault) → IsDeviceLeft g relations counters why device q → StandsForMore g relations counters q device
 ended_stands g relations counters q device fault.Output x c leaves = no_further relations counters q.first q.book c (x.1 c leaves)
 ended_stands g relations counters q device (fault.Refused why) x c leaves = no_further relations counters q.first q.book c (x.2 c leaves)
 
 module _ {D : Type 0} {g : Ghosts D} where
-  -- what a restart finds is what the book leads to, and perhaps some of the commits under way behind it
+  -- what a restart finds is what the book leads to, and perhaps some of the commits under way after it
   pub stands_more : (b : Base) (n : Kernel D g) (c : List ℕ) → ∥ FindsCommits n.relations n.counters b n.core c ∥₁
       → ∥ ((further : List Committed) × CanRestart n.relations n.counters c (after b (n.core.book.items ++ further))) ∥₁
   stands_more b n c finds = ∥∥₁_map finds (λ f.
@@ -77,7 +77,7 @@ module _ {D : Type 0} {g : Ghosts D} where
         stands = turned_stands k device ended.may counts found;
       }
 
-  -- ---- behind a play
+  -- ---- after a play
 
   -- the book is the play's
   pub book_of : (q : Play) (n : Kernel D g) → IsLeft q n → ∥ (n.core.book.items ≡ q.book) ∥₁

@@ -1,4 +1,4 @@
--- Lines that ran, one behind the other, and how a run ends.
+-- Lines that ran, one after the other, and how a run ends.
 use Rattle.std.proofs.Common.{◌≡◌, ◌<◌, inl, inr, suc, ℕ, Bool, false, List, [], ◌∷◌, ◌++◌, Option, Some, None, length, take, drop, get_or, refl, ap, sym, subst, ◌∙◌, append_assoc, append-nil, take-append-drop}
 use Rattle.std.specs.Io.KnownBytes.{Appends}
 use Rattle.std.proofs.KnownBytes.{Appends-nil, Appends-trans}
@@ -46,7 +46,7 @@ no_line y other = refl
 pub silent : (a : Option (List ℕ)) (y : Refusal) → (y ≡ refusal.DeviceFailed → ⊥) → Appends a a (transcript_text (failure_line y))
 silent a y other = subst (λ (t : List Answer). Appends a a (transcript_text t)) (sym (no_line y other)) (text_none a)
 
--- the last of them was not heard, behind others that were
+-- the last of them was not heard, after others that were
 unheard_behind : (a b c : Option (List ℕ)) (xs ys : List Answer) → Appends a b (transcript_text xs) → IsUnheard b c ys → IsUnheard a c (xs ++ ys)
 unheard_behind a b c xs ys before u = record {
   heard = xs ++ u.heard;
@@ -57,7 +57,7 @@ unheard_behind a b c xs ys before u = record {
   front = u.front;
 }
 
--- what ends a run behind answers, behind those before them
+-- what ends a run after answers, after those before them
 pub reported_behind : (a b c : Option (List ℕ)) (xs ys : List Answer) (why : RunFault) → Appends a b (transcript_text xs) → IsReportedFor b c ys why → IsReportedFor a c (xs ++ ys) why
 reported_behind a b c xs ys fault.Output before (last, is, front) = (last, is, subst (λ (t : List Answer). AppendsFront a c (transcript_text t)) (sym (append_assoc xs ys last)) (appends_front a b c xs (ys ++ last) before front))
 reported_behind a b c xs ys (fault.Refused why) before (inl all) = inl (subst (λ (t : List Answer). Appends a c (transcript_text t)) (sym (append_assoc xs ys (failure_line why))) (appends_all a b c xs (ys ++ failure_line why) before all))

@@ -1,4 +1,4 @@
--- Sessions that were served, one behind the other, and how they end early.
+-- Sessions that were served, one after the other, and how they end early.
 use Rattle.std.proofs.Common.{◌≡◌, ◌<◌, ◌+◌, suc, ℕ, Bool, List, [], ◌∷◌, ◌++◌, Option, None, Result, Ok, Err, IfOk, arith, Some, length, take, drop, get_or, map, refl, ap, sym, subst, ◌∙◌, append_assoc, append-nil, length-append, take-append-drop}
 use Rattle.std.specs.Io.KnownBytes.{Appends}
 use Rattle.std.proofs.KnownBytes.{Appends-nil, Appends-trans}
@@ -31,7 +31,7 @@ none_reported : (a : Option (List ℕ)) → Appends a a (sessions_text [])
 unfolding sessions_from
 none_reported a = Appends-nil a
 
--- one more behind the others
+-- one more after the others
 sessions_more : (i : ℕ) (ts : List (List Answer)) (t : List Answer) → sessions_from i (ts ++ t ∷ []) ≡ sessions_from i ts ++ (session_line (i + length ts) ++ transcript_text t)
 unfolding sessions_from
 sessions_more i [] t =

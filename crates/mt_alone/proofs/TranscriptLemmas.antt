@@ -1,4 +1,4 @@
--- Texts of answers, and runs of lines, one behind the other.
+-- Texts of answers, and runs of lines, one after the other.
 use Rattle.std.proofs.Common.{◌≡◌, ℕ, ◌-◌, arith, get_or, length, length-append, List, [], ◌∷◌, ◌++◌, refl, ap, sym, subst, ◌∙◌, append_assoc, append-nil}
 use Rattle.mt_model.specs.History.{Call}
 use Rattle.mt_model.specs.declared.operations.Op.{Op}
@@ -43,7 +43,7 @@ reply_reported calls op reply all seen d was now is same outcome =
 pub none_reported : (was : List ℕ) → was ≡ was ++ transcript_text []
 none_reported was = sym (ap (λ (t : List ℕ). was ++ t) text_of_none ∙ append-nil was)
 
--- answers behind answers
+-- answers after answers
 pub all_reported : (as' bs : List Answer) (was mid now : List ℕ) → mid ≡ was ++ transcript_text as' → now ≡ mid ++ transcript_text bs → now ≡ was ++ transcript_text (as' ++ bs)
 all_reported as' bs was mid now before outcome =
     outcome ∙ (ap (λ (t : List ℕ). t ++ transcript_text bs) before

@@ -33,7 +33,7 @@ pub enum RunFault {
 
 /// Writes an answer with its line's end, after which this transaction is open. Unless there is one, the writer is
 /// flushed: so the lines of a transaction go out at its end. If the writer fails, it has written a beginning of them.
-fn tell<W: Write>(writer: &mut W, answer: &Answer, live: Option<TxnNo>) -> Result<(), Unheard>
+fn report<W: Write>(writer: &mut W, answer: &Answer, live: Option<TxnNo>) -> Result<(), Unheard>
     ensures all { OnOk result (Appends (W.contents writer.old) (W.contents writer.new)
         (answer_text answer.now ++ 10 ∷ [])) }
     ensures front { OnErr result (AppendsFront (W.contents writer.old) (W.contents writer.new)
@@ -69,7 +69,7 @@ fn end_unheard<D: Device>(kernel: &mut Kernel<D>, live: Option<TxnNo>) -> RunFau
 fn end_failed<W: Write>(writer: &mut W) -> RunFault
     ensures { IsStopped (W.contents writer.old) (W.contents writer.new) Refusal.DeviceFailed result }
 {
-    match tell(writer, &Answer::Refused(Refusal::DeviceFailed), None) {
+    match report(writer, &Answer::Refused(Refusal::DeviceFailed), None) {
         Ok(()) => RunFault::Refused(Refusal::DeviceFailed),
         Err(_) => RunFault::Output,
     }
@@ -111,7 +111,7 @@ pub(crate) fn run_line<D: Device, W: Write>(
         Err(refusal) => return Err(end_refused(writer, refusal)),
     };
     let why = ending(stop, &outcome.0);
-    match tell(writer, &outcome.0, outcome.1) {
+    match report(writer, &outcome.0, outcome.1) {
         Ok(()) => Ok((outcome.1, why)),
         Err(_) => Err(end_unheard(kernel, outcome.1)),
     }
@@ -157,7 +157,7 @@ pub(crate) fn end_live<D: Device, W: Write>(
     if let Err(refusal) = undo_open(kernel, txn) {
         return Err(end_refused(writer, refusal));
     }
-    match tell(writer, &Answer::Aborted, None) {
+    match report(writer, &Answer::Aborted, None) {
         Ok(()) => Ok(()),
         Err(_) => Err(RunFault::Output),
     }

@@ -19,7 +19,7 @@ pub(crate) fn wants_memory<T>(answer: &Result<T, Refusal>) -> bool
 }
 
 /// A force step, asked for again if it finds no memory.
-pub fn ask_force<D: Device>(kernel: &mut Kernel<D>) -> Result<KernelForced, Refusal>
+pub(crate) fn ask_force<D: Device>(kernel: &mut Kernel<D>) -> Result<KernelForced, Refusal>
     ensures forcing { IsForcing kernel.old result kernel.new }
     ensures schema { SameSchema kernel.old kernel.new }
     ensures restarts { StaysRestarting kernel.old kernel.new }
@@ -34,7 +34,7 @@ pub fn ask_force<D: Device>(kernel: &mut Kernel<D>) -> Result<KernelForced, Refu
 }
 
 /// Makes force steps until a commit is durable. If it is the only one, each step leaves one less.
-pub fn force_commit<D: Device>(kernel: &mut Kernel<D>, txn: TxnNo) -> Result<(), Refusal>
+pub(crate) fn force_commit<D: Device>(kernel: &mut Kernel<D>, txn: TxnNo) -> Result<(), Refusal>
     ensures committed { HasCommitted kernel.old txn result kernel.new }
     ensures schema { SameSchema kernel.old kernel.new }
     ensures restarts { StaysRestarting kernel.old kernel.new }
@@ -55,7 +55,7 @@ pub fn force_commit<D: Device>(kernel: &mut Kernel<D>, txn: TxnNo) -> Result<(),
 
 /// Makes sure that some frame has no page that is yet to be flushed. A page is flushed, and the log is forced before
 /// that if each of them waits for it.
-pub fn make_room<D: Device>(kernel: &mut Kernel<D>) -> Result<(), Refusal>
+pub(crate) fn make_room<D: Device>(kernel: &mut Kernel<D>) -> Result<(), Refusal>
     ensures eases { NobodyCommits kernel.old → Eases kernel.old kernel.new }
     ensures cause { IfErr result (Fails kernel.new) }
     ensures schema { SameSchema kernel.old kernel.new }

@@ -32,7 +32,7 @@ pub(crate) fn abort_wants_frame(answer: &Result<AbortStepped, Refusal>) -> bool
 
 /// A step of an operation, asked for again if it finds no memory, or no frame. `NoMemory` if it was asked
 /// nine times.
-pub fn ask_step<D: Device>(kernel: &mut Kernel<D>, txn: TxnNo) -> Result<Stepped, Refusal>
+pub(crate) fn ask_step<D: Device>(kernel: &mut Kernel<D>, txn: TxnNo) -> Result<Stepped, Refusal>
     ensures moved { HasMoved kernel.old txn result kernel.new }
     ensures schema { SameSchema kernel.old kernel.new }
     ensures restarts { StaysRestarting kernel.old kernel.new }
@@ -50,7 +50,7 @@ pub fn ask_step<D: Device>(kernel: &mut Kernel<D>, txn: TxnNo) -> Result<Stepped
 
 /// Takes an operation that was begun to its reply: each step leaves less of its work. Refused as its steps are, and
 /// by `Busy` if another transaction was in the way, which in a run alone none is.
-pub fn step_to_reply<D: Device>(kernel: &mut Kernel<D>, txn: TxnNo) -> Result<Reply, Refusal>
+pub(crate) fn step_to_reply<D: Device>(kernel: &mut Kernel<D>, txn: TxnNo) -> Result<Reply, Refusal>
     ensures replied { HasReplied kernel.old txn result kernel.new }
     ensures schema { SameSchema kernel.old kernel.new }
     ensures restarts { StaysRestarting kernel.old kernel.new }
@@ -67,7 +67,10 @@ pub fn step_to_reply<D: Device>(kernel: &mut Kernel<D>, txn: TxnNo) -> Result<Re
 
 /// A step of an abort, asked for again if it finds no memory, or no frame. `NoMemory` if it was asked nine
 /// times.
-pub fn ask_abort<D: Device>(kernel: &mut Kernel<D>, txn: TxnNo) -> Result<AbortStepped, Refusal>
+pub(crate) fn ask_abort<D: Device>(
+    kernel: &mut Kernel<D>,
+    txn: TxnNo,
+) -> Result<AbortStepped, Refusal>
     ensures backed { HasBacked kernel.old txn result kernel.new }
     ensures schema { SameSchema kernel.old kernel.new }
     ensures restarts { StaysRestarting kernel.old kernel.new }
@@ -85,7 +88,7 @@ pub fn ask_abort<D: Device>(kernel: &mut Kernel<D>, txn: TxnNo) -> Result<AbortS
 
 /// Takes an abort that was begun to its end: each step leaves less of its work. Refused as its steps are, and by
 /// `Busy` if another transaction was in the way, which in a run alone none is.
-pub fn undo<D: Device>(kernel: &mut Kernel<D>, txn: TxnNo) -> Result<(), Refusal>
+pub(crate) fn undo<D: Device>(kernel: &mut Kernel<D>, txn: TxnNo) -> Result<(), Refusal>
     ensures undone { HasUndone kernel.old txn result kernel.new }
     ensures schema { SameSchema kernel.old kernel.new }
     ensures restarts { StaysRestarting kernel.old kernel.new }

@@ -9,7 +9,10 @@ use mt_disk::Device;
 use mt_txn::{AbortStepped, Kernel};
 
 /// A step of going back, asked for again if it finds no memory, or no frame. `NoMemory` if it was asked nine times.
-pub fn ask_return<D: Device>(kernel: &mut Kernel<D>, txn: TxnNo) -> Result<AbortStepped, Refusal>
+pub(crate) fn ask_return<D: Device>(
+    kernel: &mut Kernel<D>,
+    txn: TxnNo,
+) -> Result<AbortStepped, Refusal>
     ensures neared { HasNeared kernel.old txn result kernel.new }
     ensures schema { SameSchema kernel.old kernel.new }
     ensures restarts { StaysRestarting kernel.old kernel.new }
@@ -27,7 +30,7 @@ pub fn ask_return<D: Device>(kernel: &mut Kernel<D>, txn: TxnNo) -> Result<Abort
 
 /// Takes a transaction that goes back to its end of that: each step leaves less of its work. Refused as its steps are,
 /// and by `Busy` if another transaction was in the way, which in a run alone none is.
-pub fn go_back<D: Device>(kernel: &mut Kernel<D>, txn: TxnNo) -> Result<(), Refusal>
+pub(crate) fn go_back<D: Device>(kernel: &mut Kernel<D>, txn: TxnNo) -> Result<(), Refusal>
     ensures returned { HasGoneBack kernel.old txn result kernel.new }
     ensures schema { SameSchema kernel.old kernel.new }
     ensures restarts { StaysRestarting kernel.old kernel.new }

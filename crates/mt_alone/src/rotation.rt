@@ -24,7 +24,7 @@ pub struct NotServed<D: Device> {
 impl<D: Device + Drop> NotServed<D> {
     /// Why they were not, and the device, with which everything else is dropped. It takes no memory.
     ///
-    /// Whatever a crash leaves of the device then stands for the play's commits, or for these and some that were under
+    /// Whatever a crash leaves of the device then represents the play's commits, or these and some that were under
     /// way.
     pub fn into_device(self) -> (RunFault, D)
         ensures why { result.0 ≡ self.why }

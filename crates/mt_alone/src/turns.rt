@@ -15,7 +15,7 @@ use mt_script::{Answer, Line};
 use mt_txn::{Called, Kernel};
 
 /// An answer, and the transaction that is open then; or the refusal for which the line is given up.
-pub type Turn = Result<(Answer, Option<TxnNo>), Refusal>;
+pub(crate) type Turn = Result<(Answer, Option<TxnNo>), Refusal>;
 
 /// What a refusal comes to: an answer, unless the device has failed.
 fn refused(refusal: Refusal, live: Option<TxnNo>) -> Turn
@@ -28,7 +28,7 @@ fn refused(refusal: Refusal, live: Option<TxnNo>) -> Turn
 }
 
 /// Begins a transaction.
-pub fn begin<D: Device>(kernel: &mut Kernel<D>, session: u32) -> Turn
+pub(crate) fn begin<D: Device>(kernel: &mut Kernel<D>, session: u32) -> Turn
     ensures answers { Answers session kernel.old None line.Begin result kernel.new }
     ensures schema { SameSchema kernel.old kernel.new }
     ensures restarts { StaysRestarting kernel.old kernel.new }
@@ -40,7 +40,7 @@ pub fn begin<D: Device>(kernel: &mut Kernel<D>, session: u32) -> Turn
 }
 
 /// Makes one operation in a transaction.
-pub fn call<D: Device>(kernel: &mut Kernel<D>, txn: TxnNo, op: &Op) -> Turn
+pub(crate) fn call<D: Device>(kernel: &mut Kernel<D>, txn: TxnNo, op: &Op) -> Turn
     ensures answers { AnswersWithin kernel.old txn (line.Call op.now) result kernel.new }
     ensures schema { SameSchema kernel.old kernel.new }
     ensures restarts { StaysRestarting kernel.old kernel.new }
@@ -56,7 +56,7 @@ pub fn call<D: Device>(kernel: &mut Kernel<D>, txn: TxnNo, op: &Op) -> Turn
 }
 
 /// Says how many operations of a transaction count.
-pub fn save<D: Device>(kernel: &mut Kernel<D>, txn: TxnNo) -> Turn
+pub(crate) fn save<D: Device>(kernel: &mut Kernel<D>, txn: TxnNo) -> Turn
     ensures answers { AnswersWithin kernel.old txn line.Save result kernel.new }
     ensures schema { SameSchema kernel.old kernel.new }
     ensures restarts { StaysRestarting kernel.old kernel.new }
@@ -68,7 +68,7 @@ pub fn save<D: Device>(kernel: &mut Kernel<D>, txn: TxnNo) -> Turn
 }
 
 /// Goes back to where the first so many operations of a transaction had ended, of those that count.
-pub fn back<D: Device>(kernel: &mut Kernel<D>, txn: TxnNo, first: u16) -> Turn
+pub(crate) fn back<D: Device>(kernel: &mut Kernel<D>, txn: TxnNo, first: u16) -> Turn
     ensures answers { AnswersWithin kernel.old txn (line.Back first) result kernel.new }
     ensures schema { SameSchema kernel.old kernel.new }
     ensures restarts { StaysRestarting kernel.old kernel.new }
@@ -83,7 +83,7 @@ pub fn back<D: Device>(kernel: &mut Kernel<D>, txn: TxnNo, first: u16) -> Turn
 }
 
 /// Commits a transaction.
-pub fn commit<D: Device>(kernel: &mut Kernel<D>, txn: TxnNo) -> Turn
+pub(crate) fn commit<D: Device>(kernel: &mut Kernel<D>, txn: TxnNo) -> Turn
     ensures answers { AnswersWithin kernel.old txn line.Commit result kernel.new }
     ensures schema { SameSchema kernel.old kernel.new }
     ensures restarts { StaysRestarting kernel.old kernel.new }
@@ -98,7 +98,7 @@ pub fn commit<D: Device>(kernel: &mut Kernel<D>, txn: TxnNo) -> Turn
 }
 
 /// Aborts a transaction, from its first step to its last.
-pub fn undo_open<D: Device>(kernel: &mut Kernel<D>, txn: TxnNo) -> Result<(), Refusal>
+pub(crate) fn undo_open<D: Device>(kernel: &mut Kernel<D>, txn: TxnNo) -> Result<(), Refusal>
     ensures aborted { HasAborted kernel.old txn result kernel.new }
     ensures schema { SameSchema kernel.old kernel.new }
     ensures restarts { StaysRestarting kernel.old kernel.new }
@@ -108,7 +108,7 @@ pub fn undo_open<D: Device>(kernel: &mut Kernel<D>, txn: TxnNo) -> Result<(), Re
 }
 
 /// Aborts a transaction, if a line asks for it.
-pub fn abort<D: Device>(kernel: &mut Kernel<D>, txn: TxnNo) -> Turn
+pub(crate) fn abort<D: Device>(kernel: &mut Kernel<D>, txn: TxnNo) -> Turn
     ensures answers { AnswersWithin kernel.old txn line.Abort result kernel.new }
     ensures schema { SameSchema kernel.old kernel.new }
     ensures restarts { StaysRestarting kernel.old kernel.new }
@@ -148,7 +148,7 @@ fn answer_within<D: Device>(kernel: &mut Kernel<D>, txn: TxnNo, line: &Line) -> 
 }
 
 /// The answer to a line, and the transaction that is open then.
-pub fn answer<D: Device>(
+pub(crate) fn answer<D: Device>(
     kernel: &mut Kernel<D>,
     session: u32,
     live: Option<TxnNo>,

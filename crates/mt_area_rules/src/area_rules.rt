@@ -27,8 +27,9 @@ pub struct AreaRules {
     undone: BTreeSet<(u64, u64)>,
 }
 
-// Puts an operation into a set of them.
-fn remember(set: &mut BTreeSet<(u64, u64)>, txn: u64, op: u64) -> Result<(), AllocError>
+/// Puts an operation into a set of them, each of which is after its transaction. It is refused for want of memory
+/// alone.
+pub fn note_operation(set: &mut BTreeSet<(u64, u64)>, txn: u64, op: u64) -> Result<(), AllocError>
     ensures { OnOk result ((t o : ℕ) → contains pair_cmp set.new (t, o) ≡
         (contains pair_cmp set.old (t, o) || ((txn == t) && (op == o)))) }
 {
@@ -103,7 +104,7 @@ fn note_finish(set: &mut BTreeSet<(u64, u64)>, entry: &Record) -> Result<(), All
             if *undoes != 0 {
                 return Ok(());
             }
-            remember(set, txn.get(), op.get())
+            note_operation(set, txn.get(), op.get())
         }
         _ => Ok(()),
     }
@@ -119,7 +120,7 @@ fn note_undoing(set: &mut BTreeSet<(u64, u64)>, entry: &Record) -> Result<(), Al
             if *undoes == 0 {
                 return Ok(());
             }
-            remember(set, txn.get(), *undoes)
+            note_operation(set, txn.get(), *undoes)
         }
         _ => Ok(()),
     }

@@ -4,4 +4,4 @@
 
 mod area_rules;
 
-pub use area_rules::AreaRules;
+pub use area_rules::{AreaRules, note_operation};

@@ -99,7 +99,7 @@ module _ (old mid new : Files) (file before behind : List ℕ) (scripts : List (
   unreported_at_once false was now (Err fault) served front why = subst (IsUnservedAtOnce old new file scripts was now) (sym why) (unheard_at_once texts (back_in false served) front)
   unreported_at_once true was now (Err fault) served front why = subst (IsUnservedAtOnce old new file scripts was now) (sym why) (failed_at_once texts (back_in true served) front)
 
--- ---- behind reads that left each file as it was
+-- ---- after reads that left each file as it was
 
 lent_then : (old mid new : Files) (name : List ℕ) → AreKept old mid → IsLent mid new name → IsLent old new name
 lent_then old mid new name kept lent = record { outcome = lent.outcome ∙ kept.outcome; there = lent.there; others = λ other apart. lent.others other apart ∙ kept.all other }

@@ -21,7 +21,7 @@ use Rattle.mt_alone.specs.declared.stops.Stop.{Stop}
 use Rattle.mt_cli.specs.Serves.{HasRunScripts, HaveServedOn, IsServedAtOnce, IsServedIn}
 use Rattle.mt_model.specs.Model.{Base}
 use Rattle.mt_script.specs.declared.lines.Line.{Line}
-use Rattle.mt_report.specs.Tellings.{reported_lines}
+use Rattle.mt_report.specs.AnswerLines.{reported_lines}
 use Rattle.mt_world.specs.declared.events.Answer.{Answer as Reported}
 use Rattle.mt_world.specs.declared.events.Event.{Event}
 

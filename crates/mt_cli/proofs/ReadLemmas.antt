@@ -1,4 +1,4 @@
--- Scripts that were read, one behind the other.
+-- Scripts that were read, one after the other.
 use Rattle.std.proofs.Common.{◌≡◌, ◌<◌, ◌+◌, ◌∙◌, inl, suc, ℕ, Bool, true, false, cond, List, [], ◌∷◌, ◌++◌, Option, Some, None, IfSome, length, take, drop, get_or, map, is_some, refl, ap, sym, subst, arith, take-append-drop, length-take-le, append_assoc, rules}
 use Rattle.std.proofs.Math.Seq.{drop-cons}
 use Rattle.std.specs.Io.KnownBytes.{Consumes, IsAtEnd}

@@ -61,7 +61,7 @@ module _ {D : Type 0} {g : Ghosts D} where
         end_is = x.end_is;
       })
 
-  -- ---- what the device stands for
+  -- ---- what the device represents
 
   -- nobody lives where a kernel stands beside a play, and its book is the play's
   resting : (p : Play) (n : Kernel D g) → IsBeside p None n → ∥ ((length n.core.live.members ≡ 0) × (n.core.book.items ≡ p.book)) ∥₁
@@ -94,7 +94,7 @@ module _ {D : Type 0} {g : Ghosts D} where
       }
 
   module _ where
-    -- what the device stands for behind whatever play it was left so
+    -- what the device represents after whatever play it was left so
     abbrev LeavesStanding : Base → NotServed D g → List ℕ → Type 0
     LeavesStanding b left d = (relations counters : ℕ) (q : Play) → q.first ≡ b → IsLeftBy relations counters left q → StandForMore relations counters b q.book d
 
@@ -153,7 +153,7 @@ module _ {D : Type 0} {g : Ghosts D} where
 
 -- ---- on bytes
 
--- what holds on each base that it was opened on, on some and on the one that the bytes stand for
+-- what holds on each base that it was opened on, on some and on the one that the bytes represent
 pub on_base : (c : List ℕ) (On Opened : ℕ → ℕ → Base → Type 0) → ((n m : ℕ) (b : Base) → Opened n m b → On n m b) → (n m : ℕ) (b : Base) → Opened n m b → ((n m : ℕ) (b : Base) → CanRestart n m c b → Opened n m b) → IsOnBase c On
 on_base c On Opened on n m b first can = record { some = (n, m, b, on n m b first); stood_for = λ n m b stands. on n m b (can n m b stands) }
 
@@ -179,7 +179,7 @@ module _ (stop : Bool) (c d : List ℕ) (scripts : List (List Line)) (was now : 
 pub put_back : (old mid new : Files) (name d : List ℕ) → IsLent old mid name → Puts mid new name d → Puts old new name d
 put_back old mid new name d lent put = record { outcome = put.outcome ∙ lent.outcome; held = put.held; others = λ other apart. put.others other apart ∙ lent.others other apart }
 
--- behind reads that left each file as it was
+-- after reads that left each file as it was
 pub served_then : (stop : Bool) (old mid new : Files) (name : List ℕ) (scripts : List (List Line)) (was now : Option (List ℕ)) → AreKept old mid → IsServedIn stop mid new name scripts was now → IsServedIn stop old new name scripts was now
 served_then stop old mid new name scripts was now kept x = record {
   before = x.before;

@@ -7,6 +7,7 @@ use Rattle.mt_base.specs.declared.refusal.Refusal.{Refusal}
 use Rattle.mt_disk.specs.declared.device.Device.{Ghosts}
 use Rattle.mt_model.specs.Views.{rows_of}
 use Rattle.mt_txn.specs.Shown.{Restarts}
+use Rattle.mt_txn.specs.Words.{kernel_counters, kernel_relations}
 use Rattle.mt_txn.specs.declared.kernel.Kernel.{Kernel}
 use Rattle.mt_format.specs.Schemas.{counters_in, device_bytes, relations_in, schema_base}
 use Rattle.mt_format.specs.declared.schema.Schema.{Schema}
@@ -38,7 +39,7 @@ use Rattle.mt_cli.specs.Reads.{IsUnread, IsUnreadScript, source_of}
 use Rattle.mt_report.specs.declared.event_words.EventWord.{EventWord}
 use Rattle.mt_report.specs.declared.read_faults.ReadFault.{ReadFault}
 use Rattle.mt_cli.specs.Serves.{AreEndedBy, HasNotRun, HasRunScripts, fault_of}
-use Rattle.mt_report.specs.Tellings.{reported_lines}
+use Rattle.mt_report.specs.AnswerLines.{reported_lines}
 use Rattle.mt_script.specs.Scripts.{IsScript}
 use Rattle.mt_alone.specs.Runs.{HasTurned, IsReportedFor, last_line}
 use Rattle.mt_world.specs.Schedules.{HasRunTo}
@@ -68,8 +69,8 @@ pub record StandsFirst {D : Type 0} {g : Ghosts D} (k : Kernel D g) : Type 0 whe
   pub first : IsFirst play
   pub beside : IsBeside play None k
   pub restarts : Restarts play.first k
-  pub relations : k.relations ≡ 2
-  pub counters : k.counters ≡ 1
+  pub relations : kernel_relations k ≡ 2
+  pub counters : kernel_counters k ≡ 1
 
 -- `try` ran these lines on such a kernel, or those up to the line that stopped it. Each was answered as the model does,
 -- or refused for a cause that a kernel beside the play had then; the texts of the answers were written.

@@ -179,7 +179,7 @@ abbrev pub StandForBook : Bool → ℕ → ℕ → Base → List Committed → L
 StandForBook false relations counters b book d = StandForAll relations counters b book d
 StandForBook true relations counters b book d = StandForMore relations counters b book d
 
--- They were served at once to a device of bytes c, and each has its transcript. The commits that the transcripts tell
+-- They were served at once to a device of bytes c, and each has its transcript. The commits that the transcripts report
 -- are those of one book, which is legal on the base of c. The device has bytes d now, which represent that book. If
 -- the device has failed a transcript may end with 2.
 pub record AreServedAtOnce (failed : Bool) (c : List ℕ) (scripts : List (List Line)) (texts : List (List ℕ))

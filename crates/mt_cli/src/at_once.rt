@@ -114,7 +114,7 @@ fn write_sessions<W: Write>(writer: &mut W, transcripts: &[Transcript]) -> Resul
 
 /// Writes the transcripts of scripts that were served, and answers how the command ends. It ends by the device's
 /// failure, if it failed meanwhile, and else by that of the output, if that failed.
-fn tell_sessions<O: Write>(
+fn report_sessions<O: Write>(
     out: &mut O,
     transcripts: &[Transcript],
     has_failed: bool,
@@ -183,7 +183,7 @@ pub(crate) fn serve_file_at_once<
                 has_failed,
             } = behind;
             folder.back(name, device);
-            tell_sessions(out, transcripts.as_slice(), has_failed)
+            report_sessions(out, transcripts.as_slice(), has_failed)
         }
         Err(refusal) => Err(Fault::Refused(refusal)),
     }

@@ -24,7 +24,7 @@ use mt_device_commands::{
 };
 use mt_disk::{Device, MemDevice};
 use mt_folder::{Folder, Reason};
-use mt_report::{Fault, ScheduleGrammar, tell, tell_unread, write_all_reported};
+use mt_report::{Fault, ScheduleGrammar, report_fault, report_unread, write_all_reported};
 use mt_restart::{Schema, fresh};
 use mt_script::{Script, ScriptGrammar, put};
 use mt_shared::Gate;
@@ -246,7 +246,7 @@ fn finish<O: Write, E: Write>(
         Ok(()) => Fault::Output,
         Err(fault) => fault,
     };
-    tell(err, command, reason, &fault);
+    report_fault(err, command, reason, &fault);
     REFUSED
 }
 
@@ -407,7 +407,7 @@ pub fn perform_words<
         }
         // for want of memory alone
         Err(CliFault::Refused(_)) => {
-            tell_unread(err);
+            report_unread(err);
             REFUSED
         }
     }

@@ -1,5 +1,5 @@
 -- Why a call is refused, from why its parts are.
-use Rattle.std.proofs.Common.{ℕ, Bool, ap, arith}
+use Rattle.std.proofs.Common.{ℕ, ap, arith}
 use Rattle.std.specs.Prelude.{ℤ}
 use Rattle.std.proofs.Props.{props}
 use Rattle.mt_disk.specs.declared.device.Device.{Ghosts}
@@ -39,9 +39,9 @@ Steps-prop (Add c d) = Step-prop d
 Steps-prop (Read c) = hlevel props
 Steps-prop (Scan r) = hlevel props
 
-module _ {D : Type 0} (g : Ghosts D) (origin : Origin) (k : Core D) (kept t : ℕ) (op : Op) (split : Bool) where
+module _ {D : Type 0} (g : Ghosts D) (origin : Origin) (k : Core D) (kept t : ℕ) (op : Op) where
   -- escrow admitted it
-  pub behind : (why : Refusal) → IsAskedFor k.escrow t op → IsUnreserved g origin k kept op split why → IsRefusedBehind g origin k kept t op split why
+  pub behind : (why : Refusal) → IsAskedFor k.escrow t op → IsUnreserved g origin k kept op why → IsRefusedBehind g origin k kept t op why
   behind refusal.NoMemory a u = tt
   behind refusal.DeviceFailed a u = absurd u
   behind refusal.NotFormatted a u = absurd u
@@ -64,7 +64,7 @@ module _ {D : Type 0} (g : Ghosts D) (origin : Origin) (k : Core D) (kept t : �
   behind refusal.WrongFormat a u = absurd u
 
   -- nobody was in the way
-  pub refused_call : (why : Refusal) → AreAllFree (held_of k.locks) t (locks_of op) → IsRefusedBehind g origin k kept t op split why → IsRefusedCall g origin k kept t op split why
+  pub refused_call : (why : Refusal) → AreAllFree (held_of k.locks) t (locks_of op) → IsRefusedBehind g origin k kept t op why → IsRefusedCall g origin k kept t op why
   refused_call refusal.NoMemory f b = tt
   refused_call refusal.DeviceFailed f b = (f, b)
   refused_call refusal.NotFormatted f b = (f, b)
@@ -87,7 +87,7 @@ module _ {D : Type 0} (g : Ghosts D) (origin : Origin) (k : Core D) (kept t : �
   refused_call refusal.WrongFormat f b = (f, b)
 
   -- somebody was
-  pub barred_call : (why : Refusal) → IsRefused (held_of k.locks) t (asks_of op) why → IsRefusedCall g origin k kept t op split why
+  pub barred_call : (why : Refusal) → IsRefused (held_of k.locks) t (asks_of op) why → IsRefusedCall g origin k kept t op why
   barred_call refusal.NoMemory b = tt
   barred_call refusal.DeviceFailed b = absurd b
   barred_call refusal.NotFormatted b = absurd b

@@ -1,5 +1,5 @@
 -- What steps do that the public ones share.
-use Rattle.std.specs.Prelude.{ℕ, ◌≡◌, ◌⊎◌, ◌++◌, [], Bool, IfErr, List, Ok, Result, length, slice_index_or, ◌≤◌, ◌∷◌, ◌+◌, ◌*◌, OnErr, OnOk, Some}
+use Rattle.std.specs.Prelude.{ℕ, ◌≡◌, ◌⊎◌, ◌++◌, [], IfErr, List, Ok, Result, length, slice_index_or, ◌≤◌, ◌∷◌, ◌+◌, ◌*◌, OnErr, OnOk, Some}
 use Rattle.mt_disk.specs.declared.device.Device.{Ghosts}
 use Rattle.mt_base.specs.declared.refusal.Refusal.{Refusal}
 use Rattle.mt_core.specs.Consistent.{Advances, AtPlace, GoesBack, IsConsistent, Origin, state_of, EndsIn, IsReadyAt, SameStates, UndoesIn, ReturnsIn, InvertsIn, state_in, DropsIn, IsClearedAt, BooksIn, SameUncommitted, IsCalled, MayRun, SameCommits, log_kept, CallsIn, IsAskedFor, IsGranted, IsRestored, without_call, IsLocked}
@@ -169,12 +169,12 @@ pub record LeavesFirst {D : Type 0} (g : Ghosts D) (k n : Core D) (txn : ℕ) : 
       → StaysRestartable g k n
 
 -- An operation of a transaction was called, its locks asked for first.
-pub record LocksCall {D : Type 0} (g : Ghosts D) (k n : Core D) (txn : ℕ)
-    (op : Op) (split : Bool) (r : Result Called Refusal) : Type 0 where
+pub record LocksCall {D : Type 0} (g : Ghosts D) (k n : Core D) (txn : ℕ) (op : Op)
+    (r : Result Called Refusal) : Type 0 where
   pub called : (origin : Origin) (base : Base) → IsConsistent g origin base k → MayRun origin k txn op
       → IsCalled g origin base (state_of k base) n txn op r
   pub answer : (origin : Origin) (base : Base) → IsConsistent g origin base k → MayRun origin k txn op
-      → IsAnswered g origin k (log_kept k) txn op split r
+      → IsAnswered g origin k (log_kept k) txn op r
   pub live : n.live ≡ k.live
   pub runs : CallRuns txn (2 * pages (core_pool k) + 9) k.running.items n.running.items r
   pub numbered : DrawsNumber k.last k.running.items n r
@@ -184,16 +184,16 @@ pub record LocksCall {D : Type 0} (g : Ghosts D) (k n : Core D) (txn : ℕ)
 
 -- A call that has its locks and its room in escrow is begun, or refused with all as it was.
 pub record StartsCall {D : Type 0} (g : Ghosts D) (k n : Core D) (txn : ℕ)
-    (end : Op) (split : Bool) (r : Result Unit (Refusal × Op)) : Type 0 where
+    (end : Op) (r : Result Unit (Refusal × Op)) : Type 0 where
   pub ok : (origin : Origin) (base : Base) (locks : List (Object × List Holder)) (escrow : Escrowed)
       → IsGranted g origin base locks escrow k txn end
       → OnOk r (CallsIn g origin base (without_call locks escrow k) n txn end)
   pub may : (origin : Origin) (base : Base) (locks : List (Object × List Holder)) (escrow : Escrowed)
       → IsGranted g origin base locks escrow k txn end
-      → OnOk r (HasReserves g origin k (log_kept k) end split)
+      → OnOk r (HasReserves g origin k (log_kept k) end)
   pub cause : (origin : Origin) (base : Base) (locks : List (Object × List Holder)) (escrow : Escrowed)
       → IsGranted g origin base locks escrow k txn end
-      → IfErr r (λ gone. IsUnreserved g origin k (log_kept k) end split gone.0)
+      → IfErr r (λ gone. IsUnreserved g origin k (log_kept k) end gone.0)
   pub back : IfErr r (λ gone. gone.1 ≡ end)
   pub err : OnErr r (IsRestored g k n)
   pub live : n.live ≡ k.live
@@ -205,16 +205,16 @@ pub record StartsCall {D : Type 0} (g : Ghosts D) (k n : Core D) (txn : ℕ)
 
 -- A call that has its locks is admitted, or refused with all as it was.
 pub record AdmitsCall {D : Type 0} (g : Ghosts D) (k n : Core D) (txn : ℕ)
-    (op : Op) (split : Bool) (r : Result Unit (Refusal × Op)) : Type 0 where
+    (op : Op) (r : Result Unit (Refusal × Op)) : Type 0 where
   pub ok : (origin : Origin) (base : Base) (locks : List (Object × List Holder))
       → IsLocked g origin base locks k txn op
       → OnOk r (CallsIn g origin base (without_call locks k.escrow k) n txn op)
   pub may : (origin : Origin) (base : Base) (locks : List (Object × List Holder))
       → IsLocked g origin base locks k txn op
-      → OnOk r (IsAdmittedBy g origin k (log_kept k) txn op split)
+      → OnOk r (IsAdmittedBy g origin k (log_kept k) txn op)
   pub cause : (origin : Origin) (base : Base) (locks : List (Object × List Holder))
       → IsLocked g origin base locks k txn op
-      → IfErr r (λ gone. IsRefusedBehind g origin k (log_kept k) txn op split gone.0)
+      → IfErr r (λ gone. IsRefusedBehind g origin k (log_kept k) txn op gone.0)
   pub back : IfErr r (λ gone. gone.1 ≡ op)
   pub err : OnErr r (IsRestored g k n)
   pub live : n.live ≡ k.live

@@ -1,5 +1,5 @@
 -- Why a call is refused, and what it had if it is not.
-use Rattle.std.specs.Prelude.{ℕ, ◌<◌, ◌≤◌, ◌+◌, ◌*◌, Bool, Result, Ok, Err, ⊤}
+use Rattle.std.specs.Prelude.{ℕ, ◌<◌, ◌≤◌, ◌+◌, ◌*◌, Result, Ok, Err, true, ⊤}
 use Rattle.mt_disk.specs.declared.device.Device.{Ghosts}
 use Rattle.mt_base.specs.declared.refusal.Refusal.{Refusal}
 use Rattle.mt_base.specs.declared.refusal.Refusal.TheVariants as refusal
@@ -20,8 +20,8 @@ use Rattle.mt_core.specs.declared.parts.Core.{Core}
 use Rattle.mt_core.specs.Seen.{core_log, core_pool}
 
 -- what a call reserves, for its operation and for the inverse of that: pages, and bytes of the log
-abbrev pub pages_asked : Op → Bool → ℕ
-pages_asked op split = own_needs op split + undo_pages op
+abbrev pub pages_asked : Op → ℕ
+pages_asked op = own_needs op true + undo_pages op
 
 abbrev pub bytes_asked : Op → ℕ
 bytes_asked op = 2 * undo_bytes op
@@ -38,40 +38,39 @@ HasPages g origin k count = claimed k.operations + count ≤ pages_free g origin
 abbrev pub HasBytes : {D : Type 0} → Core D → ℕ → ℕ → Type 0
 HasBytes k kept bytes = kept + bytes < area_size (core_log k)
 
-abbrev pub HasReserves : {D : Type 0} → Ghosts D → Origin → Core D → ℕ → Op → Bool → Type 0
-HasReserves g origin k kept op split = HasPages g origin k (pages_asked op split) × HasBytes k kept (bytes_asked op)
+abbrev pub HasReserves : {D : Type 0} → Ghosts D → Origin → Core D → ℕ → Op → Type 0
+HasReserves g origin k kept op = HasPages g origin k (pages_asked op) × HasBytes k kept (bytes_asked op)
 
 -- too few pages; or else too little of the log
-abbrev pub IsUnreserved : {D : Type 0} → Ghosts D → Origin → Core D → ℕ → Op → Bool → Refusal → Type 0
-IsUnreserved g origin k kept op split refusal.NoRoom =
-    pages_free g origin k < claimed k.operations + pages_asked op split
-IsUnreserved g origin k kept op split refusal.LogFull =
-    HasPages g origin k (pages_asked op split) × (area_size (core_log k) ≤ kept + bytes_asked op)
-IsUnreserved g origin k kept op split refusal.NoMemory = ⊤
-IsUnreserved g origin k kept op split _ = ⊥
+abbrev pub IsUnreserved : {D : Type 0} → Ghosts D → Origin → Core D → ℕ → Op → Refusal → Type 0
+IsUnreserved g origin k kept op refusal.NoRoom = pages_free g origin k < claimed k.operations + pages_asked op
+IsUnreserved g origin k kept op refusal.LogFull =
+    HasPages g origin k (pages_asked op) × (area_size (core_log k) ≤ kept + bytes_asked op)
+IsUnreserved g origin k kept op refusal.NoMemory = ⊤
+IsUnreserved g origin k kept op _ = ⊥
 
 -- escrow admits it, and it has its reserves
-abbrev pub IsAdmittedBy : {D : Type 0} → Ghosts D → Origin → Core D → ℕ → ℕ → Op → Bool → Type 0
-IsAdmittedBy g origin k kept t op split = IsAskedFor k.escrow t op × HasReserves g origin k kept op split
+abbrev pub IsAdmittedBy : {D : Type 0} → Ghosts D → Origin → Core D → ℕ → ℕ → Op → Type 0
+IsAdmittedBy g origin k kept t op = IsAskedFor k.escrow t op × HasReserves g origin k kept op
 
 -- escrow does not admit it; or else it lacks reserves
-abbrev pub IsRefusedBehind : {D : Type 0} → Ghosts D → Origin → Core D → ℕ → ℕ → Op → Bool → Refusal → Type 0
-IsRefusedBehind g origin k kept t op split refusal.Escrow = ¬ IsAskedFor k.escrow t op
-IsRefusedBehind g origin k kept t op split refusal.NoMemory = ⊤
-IsRefusedBehind g origin k kept t op split why = IsAskedFor k.escrow t op × IsUnreserved g origin k kept op split why
+abbrev pub IsRefusedBehind : {D : Type 0} → Ghosts D → Origin → Core D → ℕ → ℕ → Op → Refusal → Type 0
+IsRefusedBehind g origin k kept t op refusal.Escrow = ¬ IsAskedFor k.escrow t op
+IsRefusedBehind g origin k kept t op refusal.NoMemory = ⊤
+IsRefusedBehind g origin k kept t op why = IsAskedFor k.escrow t op × IsUnreserved g origin k kept op why
 
 -- an older transaction is in the way of one of its locks; or else nobody is, and it is refused after them
-abbrev pub IsRefusedCall : {D : Type 0} → Ghosts D → Origin → Core D → ℕ → ℕ → Op → Bool → Refusal → Type 0
-IsRefusedCall g origin k kept t op split (refusal.Die holder) =
+abbrev pub IsRefusedCall : {D : Type 0} → Ghosts D → Origin → Core D → ℕ → ℕ → Op → Refusal → Type 0
+IsRefusedCall g origin k kept t op (refusal.Die holder) =
     IsLeastBarOf (held_of k.locks) t (locks_of op) holder × (holder < t)
-IsRefusedCall g origin k kept t op split refusal.NoMemory = ⊤
-IsRefusedCall g origin k kept t op split why =
-    AreAllFree (held_of k.locks) t (locks_of op) × IsRefusedBehind g origin k kept t op split why
+IsRefusedCall g origin k kept t op refusal.NoMemory = ⊤
+IsRefusedCall g origin k kept t op why =
+    AreAllFree (held_of k.locks) t (locks_of op) × IsRefusedBehind g origin k kept t op why
 
 -- It runs only if nobody is in the way and all that it reserves is there; it waits only for a younger one.
-abbrev pub IsAnswered : {D : Type 0} → Ghosts D → Origin → Core D → ℕ → ℕ → Op → Bool → Result Called Refusal → Type 0
-IsAnswered g origin k kept t op split (Ok answer.Started) =
-    AreAllFree (held_of k.locks) t (locks_of op) × IsAdmittedBy g origin k kept t op split
-IsAnswered g origin k kept t op split (Ok (answer.Wait holder)) =
+abbrev pub IsAnswered : {D : Type 0} → Ghosts D → Origin → Core D → ℕ → ℕ → Op → Result Called Refusal → Type 0
+IsAnswered g origin k kept t op (Ok answer.Started) =
+    AreAllFree (held_of k.locks) t (locks_of op) × IsAdmittedBy g origin k kept t op
+IsAnswered g origin k kept t op (Ok (answer.Wait holder)) =
     IsLeastBarOf (held_of k.locks) t (locks_of op) holder × (t < holder)
-IsAnswered g origin k kept t op split (Err why) = IsRefusedCall g origin k kept t op split why
+IsAnswered g origin k kept t op (Err why) = IsRefusedCall g origin k kept t op why

@@ -73,20 +73,14 @@ impl<D: Device> Core<D> {
     }
 
     /// Calls an operation of a transaction at work that runs nothing, and starts it. It takes the operation's locks,
-    /// the escrow's leave if it is an add, and pages and log bytes for it and for its inverse. `split` says
-    /// whether an insert may split a bucket of the index.
+    /// the escrow's leave if it is an add, and pages and log bytes for it and for its inverse. An insert may split a
+    /// bucket of the index.
     ///
     /// It answers [`Called::Wait`] or is refused with 14 as the lock table does, and with 9 as the escrow does. It is
     /// refused with 10 if fewer pages are free and not claimed. It is refused with 11 if the log has no room
     /// beside what is kept. For want of memory it is refused with 1. In each of these cases nothing of the call is
     /// kept. An operation that starts has the number after the last one, and no other call takes a number.
-    pub fn call(
-        &mut self,
-        alloc: Global,
-        txn: TxnNo,
-        op: &Op,
-        split: bool,
-    ) -> Result<Called, Refusal>
+    pub fn call(&mut self, alloc: Global, txn: TxnNo, op: &Op) -> Result<Called, Refusal>
         requires safe { ∥ ((origin : Origin) × (base : Base) × IsConsistent D.Device origin base self.old
             × MayBeCalled origin self.old txn op.now) ∥₁ }
         requires few { self.old.last < MAX_BEGUN }
@@ -95,7 +89,7 @@ impl<D: Device> Core<D> {
             → IsCalled D.Device origin base (state_of self.old base) self.new txn op.now result }
         ensures answer { (origin : Origin) (base : Base) → IsConsistent D.Device origin base self.old
             → MayBeCalled origin self.old txn op.now
-            → IsAnswered D.Device origin self.old (log_kept self.old) txn op.now split result }
+            → IsAnswered D.Device origin self.old (log_kept self.old) txn op.now result }
         ensures states { SameStates self.old self.new }
         ensures runs { CallRuns txn (2 * pages (core_pool self.old) + 9) self.old.running.items
             self.new.running.items result }
@@ -108,7 +102,7 @@ impl<D: Device> Core<D> {
         let asks = op.asks()?;
         self.live.room(txn)?;
         self.running.reserve(1)?;
-        self.lock(alloc, txn, own, split, asks)
+        self.lock(alloc, txn, own, asks)
     }
 
     // Whether the log has room for so many bytes beside those that are kept.
@@ -124,14 +118,14 @@ impl<D: Device> Core<D> {
 
     // Starts an operation for which all is granted, if there are pages and log bytes for it and for its inverse.
     // If it is refused it is given back.
-    fn start(&mut self, alloc: Global, txn: TxnNo, op: Op, split: bool) -> Result<(), (Refusal, Op)>
+    fn start(&mut self, alloc: Global, txn: TxnNo, op: Op) -> Result<(), (Refusal, Op)>
         requires granted { ∥ ((origin : Origin) × (base : Base) × (locks : List (Object × List Holder))
             × (escrow : Escrowed) × IsGranted D.Device origin base locks escrow self.old txn op) ∥₁ }
         requires room { vec_len self.old.running < vec_capacity self.old.running }
         requires few { self.old.last < MAX_BEGUN }
-        ensures { StartsCall D.Device self.old self.new txn op split result }
+        ensures { StartsCall D.Device self.old self.new txn op result }
     {
-        let pages = pages_for(&op, split) + pages_to_undo(&op);
+        let pages = pages_for(&op, true) + pages_to_undo(&op);
         let bytes = log_bytes_for(&op);
         let takes = self.log_takes(2 * bytes);
         match self.operations.claim(pages) {
@@ -145,7 +139,7 @@ impl<D: Device> Core<D> {
         let number = self.last + 1;
         match self
             .operations
-            .begin_op(alloc, txn, OpNo::new(number), op, 0, split)
+            .begin_op(alloc, txn, OpNo::new(number), op, 0, true)
         {
             Ok(scope) => {
                 self.last = number;
@@ -162,18 +156,18 @@ impl<D: Device> Core<D> {
 
     // Asks leave for an operation that is an add, and starts it. Its locks are had. If it is refused it is given
     // back.
-    fn admit(&mut self, alloc: Global, txn: TxnNo, op: Op, split: bool) -> Result<(), (Refusal, Op)>
+    fn admit(&mut self, alloc: Global, txn: TxnNo, op: Op) -> Result<(), (Refusal, Op)>
         requires locked { ∥ ((origin : Origin) × (base : Base) × (locks : List (Object × List Holder))
             × IsLocked D.Device origin base locks self.old txn op) ∥₁ }
         requires room { vec_len self.old.running < vec_capacity self.old.running }
         requires few { self.old.last < MAX_BEGUN }
-        ensures { AdmitsCall D.Device self.old self.new txn op split result }
+        ensures { AdmitsCall D.Device self.old self.new txn op result }
     {
         match ask(&mut self.escrow, txn, &op) {
             Ok(()) => {}
             Err(why) => return Err((why, op)),
         }
-        match self.start(alloc, txn, op, split) {
+        match self.start(alloc, txn, op) {
             Ok(()) => Ok(()),
             Err((why, op)) => {
                 let_go(&mut self.escrow, txn, &op);
@@ -183,24 +177,17 @@ impl<D: Device> Core<D> {
     }
 
     // Takes the locks that the operation asks for, and starts it.
-    fn lock(
-        &mut self,
-        alloc: Global,
-        txn: TxnNo,
-        op: Op,
-        split: bool,
-        asks: Asks,
-    ) -> Result<Called, Refusal>
+    fn lock(&mut self, alloc: Global, txn: TxnNo, op: Op, asks: Asks) -> Result<Called, Refusal>
         requires safe { ∥ ((origin : Origin) × (base : Base) × IsConsistent D.Device origin base self.old
             × MayRun origin self.old txn op) ∥₁ }
         requires same { asks ≡ asks_of op }
         requires room { vec_len self.old.running < vec_capacity self.old.running }
         requires few { self.old.last < MAX_BEGUN }
-        ensures { LocksCall D.Device self.old self.new txn op split result }
+        ensures { LocksCall D.Device self.old self.new txn op result }
     {
         match self.locks.ask(txn, asks)? {
             Asked::Wait(holder) => Ok(Called::Wait(holder)),
-            Asked::Granted(fresh) => match self.admit(alloc, txn, op, split) {
+            Asked::Granted(fresh) => match self.admit(alloc, txn, op) {
                 Ok(()) => Ok(Called::Started),
                 Err((why, op)) => {
                     self.locks.take_out(txn, &op.into_asks(), fresh);

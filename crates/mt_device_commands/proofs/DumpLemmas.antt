@@ -1,4 +1,4 @@
--- What a dump tells, and what a device stands for behind it.
+-- What a dump reports, and what a device represents after it.
 use Rattle.std.proofs.Common.{◌≡◌, ◌∙◌, ◌<◌, ◌≤◌, ◌≢◌, ◌⊎◌, inl, inr, arith, ℕ, List, [], length, Bool, true, false, Some, None, Result, Ok, Err, IfErr, IfOk, OnOk, refl, sym, ap, subst}
 use mathlib.Core.Logic.{∥∥₁_map}
 use Rattle.mt_base.specs.declared.refusal.Refusal.{Refusal}
@@ -28,19 +28,19 @@ use Rattle.mt_steps.specs.Held.{Holds}
 use Rattle.mt_steps.specs.Listed.{IsSame}
 use Rattle.mt_steps.specs.Plans.{IsGood}
 use Rattle.mt_txn.specs.Causes.{IsFault, survey_cause}
-use Rattle.mt_txn.specs.Surveyed.{TellsBase, TellsPages}
+use Rattle.mt_txn.specs.Surveyed.{SurveysBase, SurveysPages}
 use Rattle.mt_txn.specs.declared.kernel.Kernel.{Kernel}
 use Rattle.mt_device_commands.proofs.CheckLemmas.{cause_by}
 use Rattle.mt_folder.proofs.FolderLemmas.{held_known, lent_and_back}
-use Rattle.mt_device_commands.specs.Dumps.{AreFilesLeft, DumpsOf, Dumps, IsUnsurveyed, IsEarly, IsUndumpable, StandAs, IsRestarted, TellsOfBase}
+use Rattle.mt_device_commands.specs.Dumps.{AreFilesLeft, DumpsOf, Dumps, IsUnsurveyed, IsEarly, IsUndumpable, StandAs, IsRestarted, ReportsBase}
 use Rattle.mt_folder.specs.Folders.{Files, IsHeld, IsLent, IsUnmade, Puts, known_in}
 
 -- ---- a kernel that was opened
 
 module _ {D : Type 0} {g : Ghosts D} where
-  -- the pages of which a survey of it tells hold its base
-  pub tells_of : (relations counters : ℕ) (b : Base) (k : Kernel D g) (survey : Survey) → IsOpened relations counters b k → TellsBase k.relations k.counters b survey → TellsPages k survey → TellsOfBase relations counters b survey
-  tells_of relations counters b k survey opened base outcome = ∥∥₁_map opened.shows (λ (origin, held, is, x).
+  -- the pages of which a survey of it reports hold its base
+  pub reports_of : (relations counters : ℕ) (b : Base) (k : Kernel D g) (survey : Survey) → IsOpened relations counters b k → SurveysBase k.relations k.counters b survey → SurveysPages k survey → ReportsBase relations counters b survey
+  reports_of relations counters b k survey opened base outcome = ∥∥₁_map opened.shows (λ (origin, held, is, x).
       let ops = k.core.operations in
       let safe = x.consistent in
       let total = pages ops.store.pool in
@@ -74,7 +74,7 @@ ok_both (Ok x) f p q = f x p q
 ok_both (Err e) f p q = tt
 
 -- of the base of a kernel that was opened, whichever it may be said to be
-pub dumps_of : (c : List ℕ) (r : Result Survey Refusal) (IsOn : ℕ → ℕ → Base → Type 0) → ((n m : ℕ) (b : Base) → IsOn n m b → IfOk r (TellsOfBase n m b)) → (n m : ℕ) (b : Base) → IsOn n m b
+pub dumps_of : (c : List ℕ) (r : Result Survey Refusal) (IsOn : ℕ → ℕ → Base → Type 0) → ((n m : ℕ) (b : Base) → IsOn n m b → IfOk r (ReportsBase n m b)) → (n m : ℕ) (b : Base) → IsOn n m b
     → ((n m : ℕ) (b : Base) → CanRestart n m c b → IsOn n m b) → IfOk r (Dumps c)
 dumps_of c (Ok survey) IsOn outcome n m b on can = record { some = (n, m, b, outcome n m b on); stood_for = λ n m b stands. outcome n m b (can n m b stands) }
 dumps_of c (Err why) IsOn outcome n m b on can = tt
@@ -110,9 +110,9 @@ pub not_early : (why : Refusal) → IsUnmade why → IsEarly why → ⊥
 not_early why (inl is) early = early.0 is
 not_early why (inr is) early = early.1 is
 
--- ---- what the bytes stand for
+-- ---- what the bytes represent
 
--- Whenever a crash came, what it left stood for the same; so does what is there.
+-- Whenever a crash came, what it left represented the same; so does what is there.
 pub stands_same : {D : Type 0} (g : Ghosts D) (old new : D) → Only (g.seen old) (g.may_leave old)
     → ((relations counters : ℕ) (b : Base) → CanRestart relations counters (g.seen old) b → LeavesOnly g.moment g.left_since old new (StandsStill g relations counters b old))
     → ((t : ℕ) → t ≤ g.moment new → g.left_since new t (g.seen new)) → StandAs (g.seen old) (g.seen new)

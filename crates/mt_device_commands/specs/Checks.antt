@@ -42,7 +42,7 @@ check_text pages r = report_text r ++ pages_text pages
 -- ---- of which bytes
 
 -- the report is that of these bytes, whose pages break no rule if that was asked for
-pub record Tells (pages : Bool) (c : List ℕ) (report : Report) : Type 0 where
+pub record Reports (pages : Bool) (c : List ℕ) (report : Report) : Type 0 where
   pub log : IsReport c report
   pub pages_too : pages ≡ true → IsSound c
 
@@ -58,7 +58,7 @@ abbrev pub IsContentOf : Option (List ℕ) → List ℕ → Type 0
 IsContentOf bytes c = IfSome bytes (λ held. c ≡ held)
 
 abbrev pub ReportsOn : Bool → Option (List ℕ) → Report → Type 0
-ReportsOn pages bytes report = (c : List ℕ) × IsContentOf bytes c × Tells pages c report
+ReportsOn pages bytes report = (c : List ℕ) × IsContentOf bytes c × Reports pages c report
 
 -- why nothing is reported of a file: it is not opened, or its bytes are refused
 abbrev pub IsUnreported : Bool → Option (List ℕ) → Refusal → Type 0

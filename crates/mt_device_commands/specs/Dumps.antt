@@ -33,16 +33,16 @@ dump_text s = (sizes_text s ++ concat (map row_line (rows_of s.base))) ++ counte
 -- ---- of which bytes
 
 -- the survey is of pages that break no rule, and that hold this base of so many relations and counters
-abbrev pub TellsOfBase : ℕ → ℕ → Base → Survey → Type 0
-TellsOfBase relations counters b survey =
+abbrev pub ReportsBase : ℕ → ℕ → Base → Survey → Type 0
+ReportsBase relations counters b survey =
     ∥ ((total : ℕ) × (pages : PageBytes) × IsGood relations counters total pages × Holds pages b
     × IsSurvey relations counters total pages b survey) ∥₁
 
 -- it is of some base, and of the one that the bytes represent, if they represent one
 pub record Dumps (c : List ℕ) (survey : Survey) : Type 0 where
-  pub some : (relations : ℕ) × (counters : ℕ) × (b : Base) × TellsOfBase relations counters b survey
+  pub some : (relations : ℕ) × (counters : ℕ) × (b : Base) × ReportsBase relations counters b survey
   pub stood_for : (relations counters : ℕ) (b : Base) → CanRestart relations counters c b
-      → TellsOfBase relations counters b survey
+      → ReportsBase relations counters b survey
 
 -- what these bytes represent, those do
 abbrev pub StandAs : List ℕ → List ℕ → Type 0

@@ -4,7 +4,7 @@ ghost use Rattle.std.specs.List.{concat};
 ghost use Rattle.std.specs.Io.KnownBytes.{Appends};
 ghost use Rattle.mt_disk.specs.Disk.{LeavesTheSame};
 ghost use Rattle.mt_script.specs.Answers.{AppendsFront};
-ghost use Rattle.mt_device_commands.specs.Checks.{HasChecked, IsRefusedFor, IsUnchecked, IsUnreported, Tells, ReportsOn, check_text, figure_line, pages_text, report_text};
+ghost use Rattle.mt_device_commands.specs.Checks.{HasChecked, IsRefusedFor, IsUnchecked, IsUnreported, Reports, ReportsOn, check_text, figure_line, pages_text, report_text};
 ghost use Rattle.mt_folder.specs.Folders.{AreKept, known_in};
 
 use crate::waits::Patience;
@@ -20,7 +20,7 @@ use std::time::Clock;
 
 /// The report on a device, whose pages break no rule if that is asked for.
 fn reported_of<D: Device>(alloc: Global, device: &mut D, pages: bool) -> Result<Report, Refusal>
-    ensures outcome { IfOk result (Tells pages (D.seen device.old)) }
+    ensures outcome { IfOk result (Reports pages (D.seen device.old)) }
     ensures cause { IfErr result (IsRefusedFor pages (D.seen device.old)) }
     ensures seen { D.seen device.new ≡ D.seen device.old }
     ensures crash { LeavesTheSame (D.may_leave device.old) (D.may_leave device.new) }

@@ -7,9 +7,10 @@ ghost use Rattle.mt_rows.specs.Rows.{IsOrdered};
 ghost use Rattle.mt_model.specs.Views.{rows_of};
 ghost use Rattle.mt_restart.specs.Resumed.{IsOpened};
 ghost use Rattle.mt_script.specs.Answers.{AppendsFront};
-ghost use Rattle.mt_device_commands.specs.Dumps.{AreFilesLeft, AreLeftBy, Dumps, DumpsOf, HasDumped, IsUnsurveyed, IsEarly, IsUndumped, IsUndumpable, StandAs, IsRestarted, TellsOfBase, dump_text, sizes_text};
+ghost use Rattle.mt_device_commands.specs.Dumps.{AreFilesLeft, AreLeftBy, Dumps, DumpsOf, HasDumped, IsUnsurveyed, IsEarly, IsUndumped, IsUndumpable, StandAs, IsRestarted, ReportsBase, dump_text, sizes_text};
 ghost use Rattle.mt_folder.specs.Folders.{IsUnmade, known_in};
 ghost use Rattle.mt_txn.specs.Shown.{kernel_device};
+ghost use Rattle.mt_txn.specs.Words.{kernel_counters, kernel_relations};
 
 use crate::check_command::write_figures;
 use crate::waits::Patience;
@@ -30,9 +31,9 @@ const FRAMES: usize = 32;
 
 /// Surveys a kernel that was just opened, and gives its device back.
 fn survey_opened<D: Device + Drop>(kernel: Kernel<D>) -> (Result<Survey, Refusal>, D)
-    requires opened { (b : Base) × IsOpened kernel.relations kernel.counters b kernel }
+    requires opened { (b : Base) × IsOpened (kernel_relations kernel) (kernel_counters kernel) b kernel }
     ensures outcome { (relations counters : ℕ) (b : Base) → IsOpened relations counters b kernel
-        → IfOk result.0 (TellsOfBase relations counters b) }
+        → IfOk result.0 (ReportsBase relations counters b) }
     ensures why { IfErr result.0 IsUnmade }
     ensures content { D.seen result.1 ≡ D.seen (kernel_device kernel) }
 {

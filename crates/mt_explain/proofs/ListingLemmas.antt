@@ -37,6 +37,6 @@ module _ {X : Type 0} (text : ℕ → X → List ℕ) where
   pub numbered_about : (n : ℕ) (xs : List X) (i k : ℕ) (d : X) → i < length xs → k ≡ n + i → numbered text n xs ≡ (numbered text n (take i xs) ++ text k (get_or xs i d)) ++ numbered text (n + (i + 1)) (drop (suc i) xs)
   numbered_about n xs i k d lt is = about n xs i d lt ∙ ap (λ j. (numbered text n (take i xs) ++ text j (get_or xs i d)) ++ numbered text (n + (i + 1)) (drop (suc i) xs)) (sym is)
 
-  -- one behind those before a place
+  -- one after those before a place
   pub numbered_more : (n : ℕ) (xs : List X) (i k : ℕ) (d : X) → i < length xs → k ≡ n + i → numbered text n (take (suc i) xs) ≡ numbered text n (take i xs) ++ text k (get_or xs i d)
   numbered_more n xs i k d lt is = more n xs i d lt ∙ ap (λ j. numbered text n (take i xs) ++ text j (get_or xs i d)) (sym is)

@@ -69,7 +69,7 @@ opens_follow s seen may may2 ready only follows c left = let from = follows c le
 -- ---- within a run of calls
 
 module _ {D : Type 0} (g : Ghosts D) (only_now : (d : D) (c : List ℕ) → g.left_since d (g.moment d) c → g.may_leave d c) where
-  -- both gates are closed, one call behind the other
+  -- both gates are closed, one call after the other
   pub closes_one : (old new : D) → Elapses (g.moment old) (g.moment new) (g.left_since old) (g.left_since new) (g.may_leave new) → Follows (Torn 0 1) (g.may_leave old) (g.may_leave new) → LeavesOnly g.moment g.left_since old new (ButForGates (g.may_leave old))
   closes_one old new time follows =
       goes_on g.moment g.left_since old old new (ButForGates (g.may_leave old)) (g.may_leave new) (started g.moment g.left_since old (ButForGates (g.may_leave old)) (λ c left. (c, only_now old c left, gates_same c))) time (gates_first (g.may_leave old) (g.may_leave new) follows)

@@ -3,6 +3,7 @@ ghost use Rattle.std.specs.Prelude.{◌≡◌, ◌⊎◌, ◌<◌, length, false
 ghost use Rattle.mt_base.specs.declared.refusal.Refusal.{Refusal};
 ghost use Rattle.mt_live.specs.Machine.{start};
 ghost use Rattle.mt_txn.specs.Shown.{Restarts, Shows, is_failed, kernel_device, kernel_frames};
+ghost use Rattle.mt_txn.specs.Words.{kernel_counters, kernel_relations};
 ghost use Rattle.mt_format.specs.Schemas.{counters_in, device_bytes, relations_in, schema_base};
 
 use crate::Schema;
@@ -27,8 +28,8 @@ pub fn fresh<D: Device + Drop>(
     requires frames { 0 < frames }
     ensures shows { IfOk result (Shows (schema_base schema.now) (start (schema_base schema.now))) }
     ensures restarts { IfOk result (Restarts (schema_base schema.now)) }
-    ensures schema { IfOk result (λ kernel. (kernel.relations ≡ relations_in schema.now)
-        × (kernel.counters ≡ length (counters_in schema.now))) }
+    ensures schema { IfOk result (λ kernel. (kernel_relations kernel ≡ relations_in schema.now)
+        × (kernel_counters kernel ≡ length (counters_in schema.now))) }
     ensures well { IfOk result (λ kernel. is_failed kernel ≡ false) }
     ensures frames { IfOk result (λ kernel. kernel_frames kernel ≡ frames) }
     // A device that is too short is handed back as it was.

@@ -28,7 +28,7 @@ pub dones-length : (list : List Entry) → length (dones list) ≡ length list
 dones-length [] = refl
 dones-length (x ∷ xs) = ap suc (dones-length xs)
 
--- behind the end of a list there is nothing
+-- after the end of a list there is nothing
 pub no_next : {A : Type 0} (ts : List A) (t : A) → slice_get ts (length ts) ≡ Some t → ⊥
 no_next [] t e = absurd cc
 no_next (x ∷ ts) t e = no_next ts t e

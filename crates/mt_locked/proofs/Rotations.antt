@@ -23,7 +23,7 @@ use Rattle.mt_txn.specs.Shown.{Restarts, is_failed}
 use Rattle.mt_txn.specs.Turned.{HasNobody}
 use Rattle.mt_txn.specs.declared.kernel.Kernel.{Kernel}
 use Rattle.mt_locked.specs.Standings.{LeavesBook, kernel_in}
-use Rattle.mt_locked.specs.Turns.{IsLeftAfter, IsOneTurn, IsRotation, IsTooEarly}
+use Rattle.mt_locked.specs.Turns.{IsLeftAfter, IsLostByFault, IsOneTurn, IsRotation, IsTooEarly}
 use Rattle.mt_locked.specs.Seen.{is_failed_in}
 use Rattle.std.proofs.Math.Dec.{eqb-suc-zero}
 use Rattle.mt_locked.proofs.Books.{whole_front}
@@ -44,9 +44,24 @@ not_both o did early = let wrong : ◌≡◌ {A = Result Bool Refusal} (Ok true)
 
 module _ {D : Type 0} (g : Ghosts D) where
   -- what has not been turned over, and is refused or too early
+  same_lost : (s : Standing D g) → IsLostByFault g s s
+  same_lost (Stands k) = tt
+  same_lost (Ended device) = tt
+
   pub not_turned : (commits frames : ℕ) (s : Standing D g) (outcome : Result Bool Refusal) → IfErr outcome IsTurnFault → (outcome ≡ Ok true → ⊥) → (outcome ≡ Ok false → IsTooEarly commits s) → (kernel_in s ≡ None → IsErr outcome)
+      → (is_failed_in (kernel_in s) ≡ false → IsTooEarly commits s → outcome ≡ Ok false)
       → IfErr outcome (λ w. IsLeftAfter g w (kernel_in s) (kernel_in s)) → (is_failed_in (kernel_in s) ≡ true → outcome ≡ Err refusal.DeviceFailed) → IsRotation g commits frames s s outcome
-  not_turned commits frames s outcome why not early gone refused failed = record { keeps = λ base history long keeps. (keeps, refl); why = why; did = λ did. absurd (not did); early = λ is. (refl, early is); gone = gone; refused = refused; failed = λ is. (failed is, refl) }
+  not_turned commits frames s outcome why not early gone waits refused failed = record {
+    keeps = λ base history long keeps. (keeps, refl);
+    why = why;
+    did = λ did. absurd (not did);
+    early = λ is. (refl, early is);
+    waits = λ well soon. (waits well soon, refl);
+    gone = gone;
+    lost = same_lost s;
+    refused = refused;
+    failed = λ is. (failed is, refl);
+  }
 
   -- the device that is left leaves the whole book
   pub left_whole : (k : Kernel D g) (device : D) → ((t : ℕ) (c : List ℕ) → t ≤ g.moment device → g.may_leave device c → g.left_since device t c)
@@ -115,6 +130,47 @@ module _ {D : Type 0} (g : Ghosts D) where
   early_of commits k n (Err why) outcome so fault rotates is =
       left_early commits k n why (λ faulty. not_refused outcome is (fault faulty)) rotates
 
+  -- in a kernel that has not failed, and in which somebody lives, nothing is turned over
+  busy_at : (count : ℕ) → (count ≡ 0 → ⊥) → (if nat_eq count 0 then None else Some refusal.Busy) ≡ Some refusal.Busy
+  busy_at zero some = absurd (some refl)
+  busy_at (suc count) some = ap (λ (b : Bool). if b then None else Some refusal.Busy) (eqb-suc-zero count)
+
+  busy_early : (k : Kernel D g) → is_failed k ≡ false → (HasNobody k → ⊥) → early_cause k ≡ Some refusal.Busy
+  busy_early k well some = ap (λ (b : Bool). survey_cause b k.core) well ∙ busy_at (length k.core.live.members) some
+
+  some_live : (commits : ℕ) (k : Kernel D g) → length k.core.book.items ≡ commits → IsTooEarly commits (Stands k) → HasNobody k → ⊥
+  some_live commits k just soon nobody = ⊎_elim (λ other. other just) (λ some. some nobody) soon
+
+  not_free : {P : Type 0} → (k : Kernel D g) → early_cause k ≡ None → early_cause k ≡ Some refusal.Busy → P
+  not_free k may busy = let wrong : ◌≡◌ {A = Option Refusal} None (Some refusal.Busy) = sym may ∙ busy in absurd cc
+
+  not_made : (r : Result (Unit {0}) Refusal) (why : Refusal) → r ≡ Err why → IsOk r → ⊥
+  not_made (Ok u) why is made = absurd cc
+  not_made (Err w) why is made = absurd (let no = made in cc)
+
+  as_soon : (why : Refusal) (r : Result (Unit {0}) Refusal) (outcome : Result Bool Refusal) → r ≡ Err why → why ≡ refusal.Busy → IfErr outcome IsTurnFault → (outcome ≡ Ok true → IsOk r) → IfErr outcome (λ w. r ≡ Err w) → outcome ≡ Ok false
+  as_soon why r (Ok true) is busy fault did same = absurd (not_made r why is (did refl))
+  as_soon why r (Ok false) is busy fault did same = refl
+  as_soon why r (Err w) is busy fault did same =
+      let both : ◌≡◌ {A = Result (Unit {0}) Refusal} (Err w) (Err why) = sym same ∙ is in
+      let one : w ≡ why = cc in
+      absurd (subst IsTurnFault (one ∙ busy) fault)
+
+  waits_so : (commits : ℕ) (k : Kernel D g) (new : Standing D g) (r : Result (Unit {0}) Refusal) (outcome : Result Bool Refusal) → is_failed k ≡ false → length k.core.book.items ≡ commits
+      → IfErr outcome IsTurnFault → (outcome ≡ Ok true → IsOk r) → IfErr outcome (λ why. r ≡ Err why) → Rotates k new r → IsTooEarly commits (Stands k) → (outcome ≡ Ok false) × (new ≡ Stands k)
+  waits_so commits k (Stands n) (Ok u) outcome well just fault did same rotates soon = not_free k rotates.may (busy_early k well (some_live commits k just soon))
+  waits_so commits k (Stands n) (Err why) outcome well just fault did same rotates soon =
+      let busy = busy_early k well (some_live commits k just soon) in
+      ⊎_elim
+      (λ at_once.
+      let is : Some why ≡ Some refusal.Busy = sym at_once.0 ∙ busy in
+      let one : why ≡ refusal.Busy = cc in
+      (as_soon why (Err why) outcome refl one fault did same, ap (λ (x : Kernel D g). Stands x) at_once.1))
+      (λ kept. not_free k kept.0 busy)
+      rotates.cause
+  waits_so commits k (Ended device) (Ok u) outcome well just fault did same rotates soon = absurd rotates
+  waits_so commits k (Ended device) (Err why) outcome well just fault did same rotates soon = not_free k rotates.1.may (busy_early k well (some_live commits k just soon))
+
   pub turned_so : (commits frames : ℕ) (k : Kernel D g) (new : Standing D g) (r : Result (Unit {0}) Refusal) (outcome : Result Bool Refusal)
       → ((device : D) (t : ℕ) (c : List ℕ) → t ≤ g.moment device → g.may_leave device c → g.left_since device t c)
       → ((first : model.Base) → Restarts first k → FindsMeanwhile g k.relations k.counters first k.core (device_at new))
@@ -142,7 +198,9 @@ module _ {D : Type 0} (g : Ghosts D) where
               quiet = x.quiet;
             } in ∣ (turn, refl, refl) ∣₁;
         early = early_of commits k n r outcome so fault rotates;
+        waits = λ unfailed soon. waits_so commits k (Stands n) r outcome well just why did same rotates soon;
         gone = stands_here (seen_of n);
+        lost = tt;
         refused = left_so k n r outcome well why same rotates;
         failed = not_failed k _ well;
       }
@@ -154,7 +212,9 @@ module _ {D : Type 0} (g : Ghosts D) where
     why = why;
     did = λ is. absurd (let no = did is in cc);
     early = λ is. absurd (not_refused outcome is (fault (subst IsTurnFault (sym rotates.0) tt)));
+    waits = λ unfailed soon. waits_so commits k (Ended device) (Err refusal) outcome well just why did same rotates soon;
     gone = λ left. fault (subst IsTurnFault (sym rotates.0) tt);
+    lost = rotates.1.failed;
     refused = left_alone (Some (seen_of k)) refusal outcome rotates.0 same;
     failed = not_failed k _ well;
   }

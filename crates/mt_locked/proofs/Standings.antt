@@ -1,7 +1,7 @@
 -- What stands under the lock keeps the history, and what a crash leaves of it has the book.
 use Rattle.std.proofs.Common.{◌≡◌, ◌∙◌, ◌+◌, ◌-◌, ◌++◌, ◌∷◌, [], ℕ, List, length, take, slice_get, Option, Some, None, Result, Ok, Err, refl, sym, ap, subst, arith}
 use Rattle.std.proofs.Math.Seq.{take-append-add}
-use Rattle.std.specs.Prelude.{IfOk, OnErr, OnOk}
+use Rattle.std.specs.Prelude.{OnErr, OnOk}
 use mathlib.Core.List.{IsPrefix}
 use mathlib.Core.Logic.{∥∥₁_map}
 use Rattle.mt_base.specs.declared.refusal.Refusal.{Refusal}
@@ -13,7 +13,6 @@ use Rattle.mt_core.specs.declared.calls.Called.{Called}
 use Rattle.mt_core.specs.declared.calls.Called.TheVariants as call
 use Rattle.mt_live.specs.Laws.{in_turn}
 use Rattle.mt_live.specs.Machine.{State}
-use Rattle.mt_live.specs.declared.transactions.TxnState.{TxnState}
 use Rattle.mt_mark.specs.Legal.{IsLegal}
 use Rattle.mt_mark.specs.Rule.{dones}
 use Rattle.mt_mark.specs.declared.view.Entry.{Entry}
@@ -30,22 +29,16 @@ use Rattle.mt_restart.specs.Standings.{IsFoundAfter, device_at}
 use Rattle.mt_restart.specs.declared.standing.Standing.{Standing}
 use Rattle.mt_restart.specs.declared.standing.Standing.TheVariants.{Stands, Ended}
 use Rattle.mt_txn.specs.Causes.{IsRefusedAtOnce}
-use Rattle.mt_txn.specs.Effects.{BeginsUndoing}
 use Rattle.mt_txn.specs.Events.{HasCalled, HasForced}
 use Rattle.mt_txn.specs.Restarted.{all_commits, FindsCommits}
 use Rattle.mt_txn.specs.Seen.{KernelSeen, ShowsSeen, seen_of}
-use Rattle.mt_txn.specs.Shown.{FailsForGood, Shows, StaysRestarting, TellsEachFault, is_failed}
-use Rattle.mt_txn.specs.Words.{FrameIsWanted, kernel_members}
-use Rattle.mt_txn.specs.Work.{IsAbortForOther, IsForOther}
-use Rattle.mt_txn.specs.declared.answers.AbortStepped.{AbortStepped}
-use Rattle.mt_txn.specs.declared.answers.AbortStepped.TheVariants as abort
+use Rattle.mt_txn.specs.Shown.{FailsForGood, Shows, StaysRestarting, HidesNoFault, is_failed}
 use Rattle.mt_txn.specs.declared.answers.KernelForced.{KernelForced}
-use Rattle.mt_txn.specs.declared.answers.Stepped.{Stepped}
-use Rattle.mt_txn.specs.declared.answers.Stepped.TheVariants as step
 use Rattle.mt_txn.specs.declared.kernel.Kernel.{Kernel}
-use Rattle.mt_locked.specs.Asked.{CallsTo, IsAbortHeldUp, IsFaultless, IsHeldUp, KeepsParts, ReportsEachFault}
+use Rattle.mt_locked.specs.Asked.{CallsTo, IsFaultless, ReportsEachFault}
 use Rattle.mt_locked.specs.Began.{BeganOn}
 use Rattle.mt_locked.specs.Seen.{IsAskedOf, LockedSeen}
+use Rattle.mt_locked.specs.declared.locked.Due.{Due}
 use Rattle.mt_locked.specs.Standings.{HasBook, IsDeviceSeen, KeepsHistory, LeavesBook, book_in, kernel_in, seen_in}
 use Rattle.mt_locked.proofs.Books.{dones-length, grown, none_behind}
 use Rattle.mt_locked.proofs.Idle.{not_true}
@@ -112,15 +105,15 @@ module _ {D : Type 0} {g : Ghosts D} where
   -- ---- what a call does
 
   -- what is seen of the kernel that stands, or that none does
-  pub kernel_is : (s : Standing D g) (k : Kernel D g) (v : View) (old : LockedSeen D) → s ≡ Stands k → seen_in s v ≡ old → Some (seen_of k) ≡ old.kernel
+  pub kernel_is : {holding : ℕ} {due : Due} (s : Standing D g) (k : Kernel D g) (v : View) (old : LockedSeen D) → s ≡ Stands k → seen_in s v holding due ≡ old → Some (seen_of k) ≡ old.kernel
   kernel_is s k v old is there = ap (λ (x : Standing D g). kernel_in x) (sym is) ∙ ap (λ (l : LockedSeen D). l.kernel) there
 
-  pub none_is : (s : Standing D g) (device : D) (v : View) (old : LockedSeen D) → s ≡ Ended device → seen_in s v ≡ old → None ≡ old.kernel
+  pub none_is : {holding : ℕ} {due : Due} (s : Standing D g) (device : D) (v : View) (old : LockedSeen D) → s ≡ Ended device → seen_in s v holding due ≡ old → None ≡ old.kernel
   none_is s device v old is there = ap (λ (x : Standing D g). kernel_in x) (sym is) ∙ ap (λ (l : LockedSeen D). l.kernel) there
 
   -- the kernel that stood was asked, and did this
-  pub asked : {T : Type 0} → (s : Standing D g) (k n : Kernel D g) (v : View) (old : LockedSeen D) (r : Result T Refusal) (Did : KernelSeen D → KernelSeen D → Type 0)
-      → s ≡ Stands k → seen_in s v ≡ old → Did (seen_of k) (seen_of n) → IsAskedOf old.kernel r (Some (seen_of n)) Did
+  pub asked : {T : Type 0} {holding : ℕ} {due : Due} → (s : Standing D g) (k n : Kernel D g) (v : View) (old : LockedSeen D) (r : Result T Refusal) (Did : KernelSeen D → KernelSeen D → Type 0)
+      → s ≡ Stands k → seen_in s v holding due ≡ old → Did (seen_of k) (seen_of n) → IsAskedOf old.kernel r (Some (seen_of n)) Did
   asked s k n v old r Did is there did =
       let was : Some (seen_of k) ≡ old.kernel = ap (λ (x : Standing D g). kernel_in x) (sym is) ∙ ap (λ (l : LockedSeen D). l.kernel) there in
       subst (λ (o : Option (KernelSeen D)). IsAskedOf o r (Some (seen_of n)) Did) was (seen_of n, refl, did)
@@ -136,48 +129,29 @@ module _ {D : Type 0} {g : Ghosts D} where
   calls_to first s t op (Ok (call.Wait holder)) n did = did
   calls_to first s t op (Err why) n did = did
 
-  -- that an abort or going back began, or was refused, leaves all parts
-  pub keeps_parts : {T : Type 0} → (k n : Kernel D g) (t : ℕ) (state : TxnState) (r : Result T Refusal) → OnOk r (BeginsUndoing k t state n) → OnErr r (n ≡ k) → KeepsParts g (seen_of k) (seen_of n)
-  keeps_parts k n t state r begins stays = on_either r
-      (λ (b : BeginsUndoing k t state n). record { store = b.store; locks = b.locks; counts = b.counts; numbers = b.numbers })
-      (λ (same : n ≡ k). subst (λ (x : Kernel D g). KeepsParts g (seen_of k) (seen_of x)) (sym same) (record { store = refl; locks = refl; counts = λ u. refl; numbers = refl }))
-      begins stays
-
   -- how it reports the device's faults
-  faultless : {T : Type 0} → (k n : Kernel D g) (r : Result T Refusal) → (r ≡ Err DeviceFailed → ⊥) → FailsForGood k r n → TellsEachFault k r n → IsFaultless g (seen_of k) (seen_of n)
+  faultless : {T : Type 0} → (k n : Kernel D g) (r : Result T Refusal) → (r ≡ Err DeviceFailed → ⊥) → FailsForGood k r n → HidesNoFault k r n → IsFaultless g (seen_of k) (seen_of n)
   faultless k n r other fails quiet = record {
     before = not_true (is_failed k) (λ bad. other (fails.0 bad).0);
     unfailed = not_true n.failed (λ bad. other (fails.2 bad));
     faults = quiet other;
   }
 
-  pub reports : {T : Type 0} → (k n : Kernel D g) (r : Result T Refusal) → FailsForGood k r n → TellsEachFault k r n → ReportsEachFault g (seen_of k) r (seen_of n)
+  pub reports : {T : Type 0} → (k n : Kernel D g) (r : Result T Refusal) → FailsForGood k r n → HidesNoFault k r n → ReportsEachFault g (seen_of k) r (seen_of n)
   reports k n (Err DeviceFailed) fails quiet = (fails.1 refl, λ bad. ap (λ (x : Kernel D g). seen_of x) (fails.0 bad).1)
   reports {T} k n (Err why) fails quiet = faultless k n (Err why) (λ is. absurd (cc)) fails quiet
   reports {T} k n (Ok x) fails quiet = faultless k n (Ok x) (λ is. absurd (cc)) fails quiet
 
-  -- and what holds up an operation of it, and its abort
-  pub held_up : (k n : Kernel D g) (t : ℕ) (r : Result Stepped Refusal) → IfOk r (λ stepped. IsForOther (kernel_members k) t stepped) → (r ≡ Ok step.Flush → FrameIsWanted k n) → IsHeldUp (seen_of k) t r (seen_of n)
-  held_up k n t (Ok step.Flush) other full = full refl
-  held_up k n t (Ok stepped) other full = other
-  held_up k n t (Err why) other full = tt
-
-  pub abort_held_up : (k n : Kernel D g) (t : ℕ) (r : Result AbortStepped Refusal) → IfOk r (λ stepped. IsAbortForOther (kernel_members k) t stepped) → (r ≡ Ok abort.Flush → FrameIsWanted k n)
-      → IsAbortHeldUp (seen_of k) t r (seen_of n)
-  abort_held_up k n t (Ok abort.Flush) other full = full refl
-  abort_held_up k n t (Ok stepped) other full = other
-  abort_held_up k n t (Err why) other full = tt
-
   -- none stood
-  pub unasked : {T : Type 0} → (s : Standing D g) (device : D) (v : View) (old : LockedSeen D) (r : Result T Refusal) (Did : KernelSeen D → KernelSeen D → Type 0)
-      → s ≡ Ended device → seen_in s v ≡ old → r ≡ Err DeviceFailed → IsAskedOf old.kernel r (kernel_in s) Did
+  pub unasked : {T : Type 0} {holding : ℕ} {due : Due} → (s : Standing D g) (device : D) (v : View) (old : LockedSeen D) (r : Result T Refusal) (Did : KernelSeen D → KernelSeen D → Type 0)
+      → s ≡ Ended device → seen_in s v holding due ≡ old → r ≡ Err DeviceFailed → IsAskedOf old.kernel r (kernel_in s) Did
   unasked s device v old r Did is there refused =
       let none : kernel_in s ≡ None = ap (λ (x : Standing D g). kernel_in x) is in
       let was : None ≡ old.kernel = sym none ∙ ap (λ (l : LockedSeen D). l.kernel) there in
       subst (λ (o : Option (KernelSeen D)). IsAskedOf o r (kernel_in s) Did) was (refused, none)
 
   -- the device of what stands
-  pub device_seen : (s : Standing D g) (v : View) (old : LockedSeen D) (device : D) → device ≡ device_at s → seen_in s v ≡ old → IsDeviceSeen old.kernel device
+  pub device_seen : {holding : ℕ} {due : Due} (s : Standing D g) (v : View) (old : LockedSeen D) (device : D) → device ≡ device_at s → seen_in s v holding due ≡ old → IsDeviceSeen old.kernel device
   device_seen (Stands k) v old device is there = subst (λ (o : Option (KernelSeen D)). IsDeviceSeen o device) (ap (λ (l : LockedSeen D). l.kernel) there) is
   device_seen (Ended alone) v old device is there = subst (λ (o : Option (KernelSeen D)). IsDeviceSeen o device) (ap (λ (l : LockedSeen D). l.kernel) there) tt
 

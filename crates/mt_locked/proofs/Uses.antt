@@ -2,7 +2,9 @@
 use Rattle.std.proofs.Common.{◌≡◌, ◌∙◌, ◌<◌, ◌/◌, ℕ, Bool, false, length, Option, None, Some, inl, inr, subst, sym, ⊎_elim}
 use Rattle.std.specs.Prelude.{◌↔◌, IsTrue}
 use Rattle.mt_disk.specs.declared.device.Device.{Ghosts}
-use Rattle.mt_locked.specs.Standings.{seen_in}
+use Rattle.mt_locked.specs.Seen.{is_failed_in}
+use Rattle.mt_locked.specs.Standings.{kernel_in, seen_in}
+use Rattle.mt_locked.specs.declared.locked.Due.{Due}
 use Rattle.mt_locked.specs.Turns.{IsHalfUsed, IsTooEarly, IsTooEarlyIn, IsUseSeen}
 use Rattle.mt_mark.specs.declared.view.View.{View}
 use Rattle.mt_restart.specs.declared.standing.Standing.{Standing}
@@ -20,6 +22,10 @@ module _ {D : Type 0} where
   none_above (Some k) is = absurd is
 
 module _ {D : Type 0} {g : Ghosts D} where
-  pub too_early : (commits : ℕ) (s : Standing D g) (v : View) → commits ≡ length v.list → IsTooEarly commits s → IsTooEarlyIn (seen_in s v)
-  too_early commits (Stands k) v is early = ⊎_elim (λ other. inl (λ same. other (same ∙ sym is))) (λ some. inr some) early
-  too_early commits (Ended device) v is early = absurd early
+  pub too_early : (holding : ℕ) (due : Due) (commits : ℕ) (s : Standing D g) (v : View) → commits ≡ length v.list → IsTooEarly commits s → IsTooEarlyIn (seen_in s v holding due)
+  too_early holding due commits (Stands k) v is early = ⊎_elim (λ other. inl (λ same. other (same ∙ sym is))) (λ some. inr some) early
+  too_early holding due commits (Ended device) v is early = absurd early
+
+  pub too_soon : (holding : ℕ) (due : Due) (commits : ℕ) (s : Standing D g) (v : View) → commits ≡ length v.list → is_failed_in (kernel_in s) ≡ false → IsTooEarlyIn (seen_in s v holding due) → IsTooEarly commits s
+  too_soon holding due commits (Stands k) v is well early = ⊎_elim (λ other. inl (λ same. other (same ∙ is))) (λ some. inr some) early
+  too_soon holding due commits (Ended device) v is well early = absurd cc

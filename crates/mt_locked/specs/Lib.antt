@@ -1,5 +1,6 @@
 pub mod Asked
 pub mod Began
+pub mod Dues
 pub mod Names
 pub mod Refusals
 pub mod Rooms

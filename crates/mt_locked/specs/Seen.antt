@@ -9,6 +9,7 @@ use Rattle.mt_mark.specs.declared.view.Entry.{Entry}
 use Rattle.mt_model.specs.declared.history.Committed.{Committed}
 use Rattle.mt_model.specs.declared.tables.Base.{Base}
 use Rattle.mt_core.specs.declared.parts.Commit.{Commit}
+use Rattle.mt_locked.specs.declared.locked.Due.{Due}
 use Rattle.mt_txn.specs.Seen.{KernelSeen, commits_in, has_failed_in}
 
 -- the pass's number, and its beginning of the history
@@ -16,12 +17,20 @@ pub record PassSeen : Type 0 where
   pub number : ℕ
   pub seen : List Entry
 
--- the kernel, if one stands; the durable book; the history at the mark; and how many passes it has
+-- The kernel, if one stands; the durable book; the history at the mark; and how many passes it has. So many hold new
+-- transactions back, and that is due for who rotates.
 pub record LockedSeen (D : Type 0) : Type 0 where
   pub kernel : Option (KernelSeen D)
   pub book : List Committed
   pub list : List Entry
   pub pass_count : ℕ
+  pub holding : ℕ
+  pub due : Due
+
+-- the history, the passes and who holds new transactions back are as before
+abbrev pub SameBeside : {D : Type 0} → LockedSeen D → LockedSeen D → Type 0
+SameBeside old new =
+    (new.list ≡ old.list) × (new.pass_count ≡ old.pass_count) × (new.holding ≡ old.holding)
 
 -- The kernel was asked, and did this. If none stands, the call is refused with 2.
 abbrev pub IsAskedOf : {D T : Type 0} → Option (KernelSeen D) → Result T Refusal → Option (KernelSeen D)

@@ -16,6 +16,7 @@ use Rattle.mt_locked.specs.Began.{BeganOn}
 use Rattle.mt_txn.specs.Seen.{KernelSeen, seen_of}
 use Rattle.mt_txn.specs.Words.{kernel_book}
 use Rattle.mt_locked.specs.Seen.{LockedSeen}
+use Rattle.mt_locked.specs.declared.locked.Due.{Due}
 
 -- A restart finds in these bytes what this book leads to from this base, or the book and some further commits.
 pub record HasBook (base : Base) (book : List Committed) (c : List ℕ) : Type 0 where
@@ -44,13 +45,15 @@ abbrev pub kernel_in : {D : Type 0} → {g : Ghosts D} → Standing D g → Opti
 kernel_in (Stands k) = Some (seen_of k)
 kernel_in (Ended device) = None
 
--- what contracts see of it, beside what its end of the mark knows
-abbrev pub seen_in : {D : Type 0} → {g : Ghosts D} → Standing D g → View → LockedSeen D
-seen_in standing v = record {
+-- what contracts see of it, beside what its end of the mark knows, with who holds back and what is due
+abbrev pub seen_in : {D : Type 0} → {g : Ghosts D} → Standing D g → View → ℕ → Due → LockedSeen D
+seen_in standing v holding due = record {
   kernel = kernel_in standing;
   book = book_in standing (dones v.list);
   list = v.list;
   pass_count = v.made - 1;
+  holding = holding;
+  due = due;
 }
 
 -- it is the device of the kernel that is seen, if one stands

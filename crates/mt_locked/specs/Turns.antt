@@ -1,5 +1,5 @@
 -- What is reported of a kernel under the lock: of its log, and of a log that was turned over.
-use Rattle.std.specs.Prelude.{◌≡◌, ◌≢◌, ◌⊎◌, ◌<◌, ◌/◌, ℕ, Bool, true, false, List, length, Option, None, Some, Result, Ok, Err, IfErr, IsErr}
+use Rattle.std.specs.Prelude.{◌≡◌, ◌≢◌, ◌⊎◌, ◌<◌, ◌/◌, ℕ, Bool, true, false, List, length, Option, None, Some, Result, Ok, Err, IfErr, IsErr, ⊤}
 use Rattle.mt_base.specs.declared.refusal.Refusal.{Refusal}
 use Rattle.mt_base.specs.declared.refusal.Refusal.TheVariants.{DeviceFailed}
 use Rattle.mt_core.specs.Seen.{core_device, core_log}
@@ -97,6 +97,11 @@ abbrev pub IsLeftAfter : {D : Type 0} → Ghosts D → Refusal → Option (Kerne
 IsLeftAfter g DeviceFailed old left = is_failed_in left ≡ true
 IsLeftAfter g why old left = (is_failed_in left ≡ false) × GoesOnAs g old left
 
+-- A kernel of which no more than the device is left ended as that failed.
+abbrev pub IsLostByFault : {D : Type 0} → (g : Ghosts D) → Standing D g → Standing D g → Type 0
+IsLostByFault g (Stands k) (Ended device) = g.faults (kernel_device k) < g.faults device
+IsLostByFault g old new = ⊤
+
 -- What a rotation to so many frames makes of what stands under a history of so many commits, and what it answers. That
 -- history and the book are kept.
 pub record IsRotation {D : Type 0} (g : Ghosts D) (commits frames : ℕ) (old new : Standing D g)
@@ -109,8 +114,10 @@ pub record IsRotation {D : Type 0} (g : Ghosts D) (commits frames : ℕ) (old ne
       → KeepsHistory base history old → TurnsLogOver g frames base (kernel_in old) (kernel_in new)
   -- if it is too early, nothing is done
   pub early : outcome ≡ Ok false → (new ≡ old) × IsTooEarly commits old
+  pub waits : is_failed_in (kernel_in old) ≡ false → IsTooEarly commits old → (outcome ≡ Ok false) × (new ≡ old)
   -- if no more than the device is left, it is refused
   pub gone : kernel_in new ≡ None → IsErr outcome
+  pub lost : IsLostByFault g old new
   pub refused : IfErr outcome (λ why. IsLeftAfter g why (kernel_in old) (kernel_in new))
   -- if the device has failed before, nothing is done
   pub failed : is_failed_in (kernel_in old) ≡ true → (outcome ≡ Err DeviceFailed) × (new ≡ old)

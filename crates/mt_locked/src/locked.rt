@@ -1,6 +1,6 @@
 // What the lock of a shared kernel guards, and what is done under it. mt_shared calls it with the lock taken;
 // nothing here waits or wakes a thread.
-ghost use Rattle.std.specs.Prelude.{◌≡◌, ◌≢◌, ◌<◌, ◌+◌, ◌-◌, ◌++◌, ◌∷◌, [], ◌≤◌, ◌⊎◌, false, length, OnOk, IfOk, IfErr, IsErr, IfNone, IfSome, IsSome, Ok, Err, IsTrue, ◌↔◌, slice_get, Some, None, All, true};
+ghost use Rattle.std.specs.Prelude.{◌≡◌, ◌≢◌, ◌<◌, ◌+◌, ◌-◌, ◌++◌, ◌∷◌, [], ◌≤◌, ◌⊎◌, false, length, OnOk, IfOk, IfErr, IsErr, IfNone, IfSome, IsSome, Ok, Err, IsTrue, ◌↔◌, slice_get, Some, None, All, true, cond};
 ghost use mathlib.Core.List.{IsPrefix};
 ghost use Rattle.mt_mark.specs.Legal.{IsLegal};
 ghost use Rattle.mt_mark.specs.Rule.{dones, Holds, IsConfirmed};
@@ -10,7 +10,8 @@ ghost use Rattle.mt_locked.specs.Standings.{IsDeviceSeen, LeavesBook};
 ghost use Rattle.mt_locked.specs.Refusals.{IsRoomRefusal};
 ghost use Rattle.mt_restart.specs.TurnFaults.{IsTurnFault};
 ghost use Rattle.mt_locked.specs.Rooms.{GoesOnFrom, MakesRoom};
-ghost use Rattle.mt_locked.specs.Seen.{PassSeen, Entered, CannotEnter, IsAsked, IsToForce, is_failed_in, under_way_in};
+ghost use Rattle.mt_locked.specs.Seen.{PassSeen, Entered, CannotEnter, IsAsked, IsToForce, SameBeside, is_failed_in, under_way_in};
+ghost use Rattle.mt_locked.specs.Dues.{due_with, once_settled, settled, with_one_fewer, with_one_holding};
 ghost use Rattle.mt_locked.specs.Tokens.{entry_of};
 ghost use Rattle.mt_locked.specs.Turns.{IsHalfUsed, IsLeftAfter, IsTooEarlyIn, IsUseOn, IsUseSeen, TurnsLogOver};
 ghost use Rattle.mt_txn.specs.Seen.{seen_of};
@@ -45,8 +46,8 @@ pub enum Due {
 }
 
 /// What lies under the lock: the kernel, or what a rotation left of it, with its end of the mark. Its first commits
-/// are the history, as many as the mark counts. Contracts see the kernel, the book, the history, and how many passes
-/// there are.
+/// are the history, as many as the mark counts. Contracts see the kernel, the book, the history, how many passes there
+/// are, how many hold new transactions back, and what who rotates is to do.
 pub struct Locked<D: Device, J: Naming> {
     pub(crate) standing: Standing<D>,
     pub(crate) end: End,
@@ -72,7 +73,7 @@ impl<D: Device, J: Naming> Model for Locked<D, J> {
 
     ghost Value = { LockedSeen D };
 
-    ghost view = { λ l. seen_in l.standing l.end.view };
+    ghost view = { λ l. seen_in l.standing l.end.view l.holding l.due };
 
     ghost invariant = { λ l. (l.end.mark ≡ J.mark) × (l.end.view.base ≡ J.base) × (l.end.view.book ≡ J.book)
         × IsConfirmed l.end.view
@@ -90,6 +91,7 @@ impl<D: Device, J: Naming> Locked<D, J> {
         ensures list { result.list ≡ end.view.list }
         ensures passes { result.pass_count ≡ end.view.made - 1 }
         ensures kernel { result.kernel ≡ Some (seen_of kernel) }
+        ensures none { (result.holding ≡ 0) × (result.due ≡ Due.Nothing) }
     {
         Locked {
             standing: Standing::Stands(kernel),
@@ -114,6 +116,7 @@ impl<D: Device, J: Naming> Locked<D, J> {
         ensures book { self.new.book ≡ self.old.book }
         ensures list { IfErr result (λ _. self.new.list ≡ self.old.list) }
         ensures passes { self.new.pass_count ≡ self.old.pass_count }
+        ensures dues { (self.new.holding ≡ self.old.holding) × (self.new.due ≡ self.old.due) }
     {
         let at = self.end.check();
         if place == 0 || at != place - 1 {
@@ -200,8 +203,8 @@ impl<D: Device, J: Naming> Locked<D, J> {
     pub fn begin(&mut self, session: u32) -> Result<TxnNo, Refusal>
         ensures kernel { IsAsked self.old result self.new (λ k n. DidBegin D.Device k session result n) }
         ensures book { self.new.book ≡ self.old.book }
-        ensures list { self.new.list ≡ self.old.list }
-        ensures passes { self.new.pass_count ≡ self.old.pass_count }
+        ensures beside { SameBeside self.old self.new }
+        ensures due { self.new.due ≡ self.old.due }
     {
         let Standing::Stands(kernel) = &mut self.standing else {
             return Err(Refusal::DeviceFailed);
@@ -214,8 +217,8 @@ impl<D: Device, J: Naming> Locked<D, J> {
         ensures kernel { IsAsked self.old result self.new
             (λ k n. DidCall D.Device k txn op.now result n) }
         ensures book { self.new.book ≡ self.old.book }
-        ensures list { self.new.list ≡ self.old.list }
-        ensures passes { self.new.pass_count ≡ self.old.pass_count }
+        ensures beside { SameBeside self.old self.new }
+        ensures due { self.new.due ≡ self.old.due }
     {
         let Standing::Stands(kernel) = &mut self.standing else {
             return Err(Refusal::DeviceFailed);
@@ -228,8 +231,8 @@ impl<D: Device, J: Naming> Locked<D, J> {
         ensures kernel { IsAsked self.old result self.new
             (λ k n. DidStep D.Device k txn result n) }
         ensures book { self.new.book ≡ self.old.book }
-        ensures list { self.new.list ≡ self.old.list }
-        ensures passes { self.new.pass_count ≡ self.old.pass_count }
+        ensures beside { SameBeside self.old self.new }
+        ensures due { self.new.due ≡ self.old.due }
     {
         let Standing::Stands(kernel) = &mut self.standing else {
             return Err(Refusal::DeviceFailed);
@@ -241,8 +244,8 @@ impl<D: Device, J: Naming> Locked<D, J> {
     pub fn commit_begin(&mut self, txn: TxnNo) -> Result<u64, Refusal>
         ensures kernel { IsAsked self.old result self.new (λ k n. DidCommit D.Device k txn result n) }
         ensures book { self.new.book ≡ self.old.book }
-        ensures list { self.new.list ≡ self.old.list }
-        ensures passes { self.new.pass_count ≡ self.old.pass_count }
+        ensures beside { SameBeside self.old self.new }
+        ensures due { self.new.due ≡ self.old.due }
     {
         let Standing::Stands(kernel) = &mut self.standing else {
             return Err(Refusal::DeviceFailed);
@@ -254,8 +257,8 @@ impl<D: Device, J: Naming> Locked<D, J> {
     pub fn abort_begin(&mut self, txn: TxnNo) -> Result<(), Refusal>
         ensures kernel { IsAsked self.old result self.new (λ k n. DidAbort D.Device k txn result n) }
         ensures book { self.new.book ≡ self.old.book }
-        ensures list { self.new.list ≡ self.old.list }
-        ensures passes { self.new.pass_count ≡ self.old.pass_count }
+        ensures beside { SameBeside self.old self.new }
+        ensures due { self.new.due ≡ self.old.due }
     {
         let Standing::Stands(kernel) = &mut self.standing else {
             return Err(Refusal::DeviceFailed);
@@ -268,8 +271,8 @@ impl<D: Device, J: Naming> Locked<D, J> {
         ensures kernel { IsAsked self.old result self.new
             (λ k n. DidAbortStep D.Device k txn result n) }
         ensures book { self.new.book ≡ self.old.book }
-        ensures list { self.new.list ≡ self.old.list }
-        ensures passes { self.new.pass_count ≡ self.old.pass_count }
+        ensures beside { SameBeside self.old self.new }
+        ensures due { self.new.due ≡ self.old.due }
     {
         let Standing::Stands(kernel) = &mut self.standing else {
             return Err(Refusal::DeviceFailed);
@@ -292,8 +295,8 @@ impl<D: Device, J: Naming> Locked<D, J> {
     pub fn back_begin(&mut self, txn: TxnNo, first: u16) -> Result<(), Refusal>
         ensures kernel { IsAsked self.old result self.new (λ k n. DidBack D.Device k txn first result n) }
         ensures book { self.new.book ≡ self.old.book }
-        ensures list { self.new.list ≡ self.old.list }
-        ensures passes { self.new.pass_count ≡ self.old.pass_count }
+        ensures beside { SameBeside self.old self.new }
+        ensures due { self.new.due ≡ self.old.due }
     {
         let Standing::Stands(kernel) = &mut self.standing else {
             return Err(Refusal::DeviceFailed);
@@ -306,8 +309,8 @@ impl<D: Device, J: Naming> Locked<D, J> {
         ensures kernel { IsAsked self.old result self.new
             (λ k n. DidBackStep D.Device k txn result n) }
         ensures book { self.new.book ≡ self.old.book }
-        ensures list { self.new.list ≡ self.old.list }
-        ensures passes { self.new.pass_count ≡ self.old.pass_count }
+        ensures beside { SameBeside self.old self.new }
+        ensures due { self.new.due ≡ self.old.due }
     {
         let Standing::Stands(kernel) = &mut self.standing else {
             return Err(Refusal::DeviceFailed);
@@ -319,8 +322,8 @@ impl<D: Device, J: Naming> Locked<D, J> {
     pub fn flush_step(&mut self) -> Result<Flushed, Refusal>
         ensures kernel { IsAsked self.old result self.new (λ k n. DidFlush D.Device k result n) }
         ensures book { self.new.book ≡ self.old.book }
-        ensures list { self.new.list ≡ self.old.list }
-        ensures passes { self.new.pass_count ≡ self.old.pass_count }
+        ensures beside { SameBeside self.old self.new }
+        ensures due { self.new.due ≡ self.old.due }
     {
         let Standing::Stands(kernel) = &mut self.standing else {
             return Err(Refusal::DeviceFailed);
@@ -332,8 +335,8 @@ impl<D: Device, J: Naming> Locked<D, J> {
     pub fn force_step(&mut self) -> Result<KernelForced, Refusal>
         ensures kernel { IsAsked self.old result self.new (λ k n. DidForce D.Device k result n) }
         ensures book { IsPrefix self.old.book self.new.book }
-        ensures list { self.new.list ≡ self.old.list }
-        ensures passes { self.new.pass_count ≡ self.old.pass_count }
+        ensures beside { SameBeside self.old self.new }
+        ensures due { self.new.due ≡ self.old.due }
     {
         let Standing::Stands(kernel) = &mut self.standing else {
             return Err(Refusal::DeviceFailed);
@@ -346,8 +349,8 @@ impl<D: Device, J: Naming> Locked<D, J> {
         ensures why { IfErr result IsRoomRefusal }
         ensures kernel { MakesRoom D.Device self.old.kernel result self.new.kernel }
         ensures book { IsPrefix self.old.book self.new.book }
-        ensures list { self.new.list ≡ self.old.list }
-        ensures passes { self.new.pass_count ≡ self.old.pass_count }
+        ensures beside { SameBeside self.old self.new }
+        ensures due { self.new.due ≡ self.old.due }
     {
         let flushed = self.flush_step()?;
         self.go_on(flushed)
@@ -358,8 +361,8 @@ impl<D: Device, J: Naming> Locked<D, J> {
         ensures why { IfErr result IsRoomRefusal }
         ensures kernel { GoesOnFrom D.Device (Ok flushed) self.old.kernel result self.new.kernel }
         ensures book { IsPrefix self.old.book self.new.book }
-        ensures list { self.new.list ≡ self.old.list }
-        ensures passes { self.new.pass_count ≡ self.old.pass_count }
+        ensures beside { SameBeside self.old self.new }
+        ensures due { self.new.due ≡ self.old.due }
     {
         match flushed {
             Flushed::Page(_) | Flushed::Clean => Ok(()),
@@ -382,6 +385,7 @@ impl<D: Device, J: Naming> Locked<D, J> {
         ensures same { self.new ≡ self.old }
         ensures whole { IfNone result (IsWhole self.old) }
         ensures all { IfNone result (IsOfAll J.book passes.now self.old.list) }
+        ensures met { IfNone result (AreAll self.old.pass_count passes.now) }
         ensures cause { IfSome result (IsCloseCause self.old passes.now) }
     {
         let entered = self.end.check();
@@ -442,6 +446,7 @@ impl<D: Device, J: Naming> Locked<D, J> {
     /// Refused, in this order, with all as it was. It is 15 if a pass is missing, 2 if a rotation left no kernel. Then
     /// 16 if a durable transaction is not in the history, or one is active in a kernel that has not failed.
     pub fn close(self, passes: Vec<Pass<J>>) -> Result<Kernel<D>, Unclosed<D, J>>
+        ensures met { IfOk result (λ _. AreAll self.pass_count passes.items) }
         ensures own { IfOk result (λ k. HasAllOf (kernel_book k) passes.items) }
         ensures count { IfOk result (λ k. length (kernel_book k) ≡ length J.book + all_own passes.items) }
         ensures began { IfOk result (BeganOn J.base) }
@@ -486,26 +491,30 @@ impl<D: Device, J: Naming> Locked<D, J> {
     }
 
     /// Whether new transactions are held back.
-    pub fn holds_back(&self) -> bool {
+    pub fn holds_back(&self) -> bool
+        ensures { IsTrue result ↔ (0 < self.now.holding) }
+    {
         self.holding != 0
     }
 
     /// New transactions are held back, until as many calls of [`Locked::let_on`] have come.
     pub fn hold_back(&mut self)
-        ensures { self.new ≡ self.old }
+        ensures { self.new ≡ with_one_holding self.old }
     {
         self.holding = self.holding.saturating_add(1);
     }
 
     /// Takes one [`Locked::hold_back`] back.
     pub fn let_on(&mut self)
-        ensures { self.new ≡ self.old }
+        ensures { self.new ≡ with_one_fewer self.old }
     {
         self.holding = self.holding.saturating_sub(1);
     }
 
     /// What who rotates is to do. If the device has failed, that is to ask for a turn of the log, and to be refused.
-    pub fn due(&self) -> Due {
+    pub fn due(&self) -> Due
+        ensures { result ≡ due_with (is_failed_in self.now.kernel) self.now.due }
+    {
         match self.due {
             Due::Nothing if self.has_failed() => Due::Turn,
             due => due,
@@ -515,7 +524,8 @@ impl<D: Device, J: Naming> Locked<D, J> {
     /// A transaction has ended: the log is to be turned over if more than half of its area is in use. Whether that is
     /// so now, and was not due before.
     pub fn stir(&mut self) -> bool
-        ensures { self.new ≡ self.old }
+        ensures is { IsTrue result ↔ (self.old.due ≡ Due.Nothing) × IsHalfUsed self.old.kernel }
+        ensures due { self.new ≡ record self.old { due = cond result Due.Turn self.old.due } }
     {
         let is_first = self.due == Due::Nothing && self.is_half_used();
         if is_first {
@@ -526,7 +536,7 @@ impl<D: Device, J: Naming> Locked<D, J> {
 
     // The log was turned over, or could not be: that is not due again before a further transaction has ended.
     fn settle(&mut self)
-        ensures { self.new ≡ self.old }
+        ensures { self.new ≡ once_settled self.old }
     {
         if self.due == Due::Turn {
             self.due = Due::Nothing;
@@ -535,7 +545,7 @@ impl<D: Device, J: Naming> Locked<D, J> {
 
     /// Who rotates is to come to an end, from now on.
     pub fn end_rotating(&mut self)
-        ensures { self.new ≡ self.old }
+        ensures { self.new ≡ record self.old { due = Due.End } }
     {
         self.due = Due::End;
     }
@@ -549,14 +559,15 @@ impl<D: Device + Drop, J: Naming> Locked<D, J> {
         ensures why { IfErr result IsTurnFault }
         ensures did { result ≡ Ok true → TurnsLogOver ⟦<D as Device>⟧ frames J.base self.old.kernel self.new.kernel }
         ensures early { result ≡ Ok false → (self.new ≡ self.old) × IsTooEarlyIn self.old }
+        ensures waits { is_failed_in self.old.kernel ≡ false → IsTooEarlyIn self.old → result ≡ Ok false }
         ensures gone { self.new.kernel ≡ None → IsErr result }
         // After 1 and 11 the kernel goes on as it was. After 2 none does.
         ensures refused { IfErr result (λ why. IsLeftAfter ⟦<D as Device>⟧ why self.old.kernel self.new.kernel) }
         ensures failed { is_failed_in self.old.kernel ≡ true
-            → (result ≡ Err Refusal.DeviceFailed) × (self.new ≡ self.old) }
+            → (result ≡ Err Refusal.DeviceFailed) × (self.new.kernel ≡ self.old.kernel) }
         ensures book { self.new.book ≡ self.old.book }
-        ensures list { self.new.list ≡ self.old.list }
-        ensures passes { self.new.pass_count ≡ self.old.pass_count }
+        ensures beside { SameBeside self.old self.new }
+        ensures due { result ≢ Ok false → self.new.due ≡ settled self.old.due }
     {
         let entered = self.end.check();
         let outcome = replace_with(&mut self.standing, (entered, alloc, frames), turned);

@@ -12,6 +12,7 @@ ghost use Rattle.mt_log.specs.Found.{records_of};
 ghost use Rattle.mt_replay.specs.Recorded.{losers};
 ghost use Rattle.mt_replay.specs.Losers.{all_finished, AreOfGrammar, HasEnded, HasRecorded, Tells};
 
+use mt_area_rules::note_operation;
 use mt_base::{OpNo, Refusal, TxnNo};
 use mt_frame::{LoggedOp, Record};
 use mt_log::Batch;
@@ -47,17 +48,6 @@ fn note_end(set: &mut BTreeSet<u64>, txn: TxnNo) -> Result<(), AllocError>
     ensures { OnOk result ((t : ℕ) → contains nat_cmp set.new t ≡ (contains nat_cmp set.old t || (txn == t))) }
 {
     match set.insert(txn.get()) {
-        Ok(_) => Ok(()),
-        Err(_) => Err(AllocError),
-    }
-}
-
-// Takes an operation to those that an inverse names.
-fn note_undone(set: &mut BTreeSet<(u64, u64)>, txn: TxnNo, op: u64) -> Result<(), AllocError>
-    ensures { OnOk result ((t o : ℕ) → contains pair_cmp set.new (t, o)
-        ≡ (contains pair_cmp set.old (t, o) || ((txn == t) && (op == o)))) }
-{
-    match set.insert((txn.get(), op)) {
         Ok(_) => Ok(()),
         Err(_) => Err(AllocError),
     }
@@ -125,7 +115,7 @@ impl Telling {
                 if *undoes == 0 {
                     return self.tell_end(batch, *txn, *op, done);
                 }
-                note_undone(&mut self.undone, *txn, *undoes)?;
+                note_operation(&mut self.undone, txn.get(), *undoes)?;
                 Ok(())
             }
             Record::Commit { txn } => {

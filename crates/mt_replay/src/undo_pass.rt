@@ -147,7 +147,7 @@ impl Restored {
     /// schema's, the pages of the index, and pages of records by their bytes. Then come bucket pages by an entry that
     /// names no such record, and pages of records by one that the index does not name. The only other refusal is
     /// [`Refusal::NoMemory`].
-    pub fn checked(
+    pub(crate) fn checked(
         alloc: Global,
         format: Format,
         pages: Vec<[u8; 4096]>,
@@ -219,14 +219,14 @@ impl Restored {
         }
     }
 
-    /// Undoes a finished operation by its inverse, which splits no bucket of the index. Its record goes into a page
-    /// of records with room, and into a new page only if no page has room. It gives back each page that it leaves
-    /// without a record, and changes eight pages at most.
-    ///
-    /// `false` means that the inverse does not find what the record says, or too few free pages. It means too that
-    /// the relation or counter is not there. The pages, or the record, are none that a kernel left. The only refusal
-    /// is [`Refusal::NoMemory`]. The pages are as before in both cases.
-    pub fn undo(&mut self, alloc: Global, done: &LoggedOp) -> Result<bool, Refusal>
+    // Undoes a finished operation by its inverse, which splits no bucket of the index. Its record goes into a page
+    // of records with room, and into a new page only if no page has room. It gives back each page that it leaves
+    // without a record, and changes eight pages at most.
+    //
+    // `false` means that the inverse does not find what the record says, or too few free pages. It means too that
+    // the relation or counter is not there. The pages, or the record, are none that a kernel left. The only refusal
+    // is [`Refusal::NoMemory`]. The pages are as before in both cases.
+    fn undo(&mut self, alloc: Global, done: &LoggedOp) -> Result<bool, Refusal>
         requires { IsOperation done.now }
         ensures undone { result ≡ Ok true → Undoes self.old.pages.items done.now self.new.pages.items }
         ensures missed { result ≡ Ok false → Misses self.old.pages.items done.now }

@@ -10,7 +10,7 @@ use Rattle.mt_world.specs.declared.events.Event.{Event}
 use Rattle.mt_world.specs.declared.events.Event.TheVariants.{Begin, Call, Step, Commit, AbortBegin, AbortStep, Back, BackStep, Force, Flush, Rotate}
 use Rattle.mt_report.specs.Events.{SpellsEvent, event_text}
 
--- the first word of an event, and those behind it
+-- the first word of an event, and those after it
 abbrev pub word_of : Event → List ℕ
 word_of (Begin session) = codes "begin"
 word_of (Call t op) = codes "call"
@@ -55,7 +55,7 @@ event_cut word words Force h e = absurd (no_space (codes "force") word words ref
 event_cut word words Flush h e = absurd (no_space (codes "flush") word words refl e)
 event_cut word words Rotate h e = absurd (no_space (codes "rotate") word words refl e)
 
--- no event but a call and a beginning of going back has anything but a number behind its word
+-- no event but a call and a beginning of going back has anything but a number after its word
 pub no_number : (word words : List ℕ) → IsUnspaced word → word ≢ codes "call" → word ≢ codes "back" → ((n : ℕ) → n < 2 ^ 64 → words ≢ decimal n) → (event : Event) → SpellsEvent (word ++ 32 ∷ words) event → ⊥
 no_number word words h other back none (Begin session) s = none session (omega (arith, s.1)) (event_cut word words (Begin session) h s.0).1
 no_number word words h other back none (Call t op) s = other (event_cut word words (Call t op) h s.0).0

@@ -3,5 +3,5 @@ pub mod EventWords
 pub mod Events
 pub mod Excess
 pub mod ReadFaults
-pub mod Tellings
+pub mod AnswerLines
 pub mod WholeEvents

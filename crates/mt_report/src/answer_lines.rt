@@ -3,7 +3,7 @@ ghost use Rattle.std.specs.Prelude.{◌≡◌, ◌∷◌, ◌++◌, [], OnOk, On
 ghost use Rattle.std.specs.Fmt.{decimal};
 ghost use Rattle.std.specs.Io.KnownBytes.{Appends};
 ghost use Rattle.std.specs.List.{concat};
-ghost use Rattle.mt_report.specs.Tellings.{name_text, reported_line, reported_lines, undo_text};
+ghost use Rattle.mt_report.specs.AnswerLines.{name_text, reported_line, reported_lines, undo_text};
 ghost use Rattle.mt_script.specs.Answers.{AppendsFront};
 ghost use Rattle.mt_world.specs.declared.events.Answer.TheVariants as answer;
 

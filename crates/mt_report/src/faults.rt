@@ -394,7 +394,7 @@ fn write_unread<W: Write>(writer: &mut W) -> Result<(), Unheard>
 
 /// Reports on the error output that there is no memory for what the words of a command line name. If it cannot be
 /// written, it has a beginning of these two lines.
-pub fn tell_unread<E: Write>(err: &mut E)
+pub fn report_unread<E: Write>(err: &mut E)
     ensures { AppendsFront (E.contents err.old) (E.contents err.new) unread_text }
 {
     let _ = write_unread(err);
@@ -402,7 +402,12 @@ pub fn tell_unread<E: Write>(err: &mut E)
 
 /// Reports on the error output a fault of a command, the file that it is about, and what to do. The reason is why the
 /// folder's call failed. If the error output cannot be written, it has a beginning of these two lines.
-pub fn tell<E: Write>(err: &mut E, command: &Command, reason: &Option<Reason>, fault: &Fault)
+pub fn report_fault<E: Write>(
+    err: &mut E,
+    command: &Command,
+    reason: &Option<Reason>,
+    fault: &Fault,
+)
     ensures { IsReportedOf command.now reason.now fault.now (E.contents err.old) (E.contents err.new) }
 {
     let _ = write_reported(err, command, reason, fault);

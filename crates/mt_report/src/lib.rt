@@ -2,7 +2,7 @@
 //! their own, and what a kernel answers to each is a line. A command that did not end well leaves a [`Fault`]. Two
 //! lines report it: what was refused, and after it the file that it is about and what to do.
 //!
-//! Begin at [`tell`]. Writers are passed in, and their bytes are what contracts speak of.
+//! Begin at [`report_fault`]. Writers are passed in, and their bytes are what contracts speak of.
 #![tactic(auto)]
 
 mod answer_lines;
@@ -14,6 +14,6 @@ mod schedules;
 
 pub use answer_lines::{write_all_reported, write_number};
 pub use event_words::EventWord;
-pub use faults::{Fault, tell, tell_unread};
+pub use faults::{Fault, report_fault, report_unread};
 pub use read_faults::{ReadFault, TextFault};
 pub use schedules::ScheduleGrammar;

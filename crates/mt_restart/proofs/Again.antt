@@ -1,4 +1,4 @@
--- What a crash leaves while a device is recovered stands for the base that its bytes stood for.
+-- What a crash leaves while a device is recovered represents the base that its bytes represented.
 use Rattle.std.proofs.Common.{◌≡◌, ◌∙◌, ◌⊎◌, inl, inr, ⊎_elim, ◌≤◌, ◌<◌, ℕ, List, Result, Ok, ap, sym, subst}
 use Rattle.std.proofs.lemmas.Result.{IfErr-weaker, IfOk-weaker}
 use Rattle.mt_base.specs.declared.refusal.Refusal.{Refusal}

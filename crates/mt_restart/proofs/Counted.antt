@@ -1,4 +1,4 @@
--- What lies behind the last counter of a base is open: pages that hold one hold each other that has the same rows and counters.
+-- What lies after the last counter of a base is open: pages that hold one hold each other that has the same rows and counters.
 use Rattle.std.proofs.Common.{◌≡◌, ◌∙◌, ℕ, List, get_or, length, refl, sym, subst}
 use Rattle.mt_disk.specs.declared.device.Device.{Ghosts}
 use Rattle.mt_space.specs.PageLists.{bytes_of}

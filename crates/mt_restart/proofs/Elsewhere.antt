@@ -11,7 +11,7 @@ use Rattle.mt_pool.proofs.Safe.{cut_torn, slot_apart}
 
 -- ---- the batches of an area
 
--- where the torn bytes lie before or behind it
+-- where the torn bytes lie before or after it
 pub held_elsewhere : (at n start end pages : ℕ) (batches : List (List Record)) (d c : List ℕ) → HoldsBatches d start end pages batches → Torn at n d c → (at + n ≤ start) ⊎ (end ≤ at) → start ≤ end → HoldsBatches c start end pages batches
 held_elsewhere at n start end pages batches d c h t beside order =
     let q = h.row.0 in

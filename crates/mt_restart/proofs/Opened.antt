@@ -38,7 +38,7 @@ use Rattle.mt_restart.specs.Recovered.{IsRecovered}
 use Rattle.mt_restart.specs.declared.recovery.Recovered.{Recovered}
 use Rattle.mt_restart.proofs.Restarting.{are_images}
 
--- a log has room behind its records
+-- a log has room after its records
 some_room : (log : Log) → used log < area_size log
 unfolding seen_of
 some_room log = let is = used-fields log in let fits = log.fits in let order = log.in_order in let head = log.head in omega (arith, is, fits, order, head)
@@ -47,7 +47,7 @@ appended_of : (log : Log) (images : List Record) → durable log ≡ images → 
 appended_of log images d f w =
     ap (λ (l : List Record). l ++ (in_flight log ++ waiting log)) d ∙ ap (λ (l : List Record). images ++ (l ++ waiting log)) f ∙ ap (λ (l : List Record). images ++ l) w ∙ append-nil images
 
--- a log's area ends behind its bytes
+-- a log's area ends after its bytes
 end_of_log : (log : Log) (s n : ℕ) → log_start log ≡ s → area_size log ≡ n → log_end log ≡ s + n
 unfolding seen_of
 end_of_log log s n start size = let some = log.place.some_bytes in omega (arith, start, size, some)
@@ -139,7 +139,7 @@ module _ {D : Type 0} (g : Ghosts D) (frames : ℕ) (device : D) (r : Recovered)
           },
         ) ∣₁
 
--- the counters page tells how many relations and counters the pages that show the base are good for
+-- the counters page says how many relations and counters the pages that show the base are good for
 pub opened_as : {D : Type 0} {g : Ghosts D} → OnlyOwnPagesMatter → (relations counters frames : ℕ) (b : Base) (items : List (List ℕ)) (x : Beside) (k : Kernel D g) → IsBeside items frames x
     → ShowsBase relations counters items b → (Holds (bytes_of items) b → IsOpened x.relations x.counters b k) → IsOpened relations counters b k
 opened_as own relations counters frames b items x k beside shows opened =
@@ -152,6 +152,6 @@ opened_as own relations counters frames b items x k beside shows opened =
       restarts = o.restarts;
     }
 
--- the base that bytes stand for has its counters in bounds
+-- the base that bytes represent has its counters in bounds
 pub base_in_bounds : (relations counters : ℕ) (c : List ℕ) (b : Base) → CanRestart relations counters c b → IsBase b
 base_in_bounds relations counters c b can = subst IsBase (sym can.stands.is) can.recoverable.serial.bounds

@@ -47,7 +47,7 @@ read_slots marked d c slot opening batches count imaged only read = record {
 pub one_area : (c : List ℕ) (slot : MasterSlot) → IsRuling c slot → slot.area ≤ 1
 one_area c slot r = ⊎_elim (λ (first : Rules c 0 4096 slot). first.own.fits.area) (λ (second : Rules c 4096 0 slot). second.own.fits.area) r
 
--- the areas of a slot and of the next one lie behind the page slots, one beside the other
+-- the areas of a slot and of the next one lie after the page slots, one beside the other
 pub areas_apart : (slot : MasterSlot) → slot.area ≤ 1 → (area_end (next_slot slot) ≤ area_start slot) ⊎ (area_end slot ≤ area_start (next_slot slot))
 areas_apart slot one =
     let size = area_size slot in

@@ -11,6 +11,7 @@ use Rattle.mt_base.specs.declared.refusal.Refusal.TheVariants as refusal
 use Rattle.mt_disk.specs.Disk.{LeavesOnly}
 use Rattle.mt_disk.specs.declared.device.Device.{Ghosts}
 use Rattle.mt_frame.specs.declared.records.Record.{Record}
+use Rattle.mt_core.specs.Turned as parts
 use Rattle.mt_core.proofs.First.{none_of_none}
 use Rattle.mt_core.specs.Booked.{booked_each, durable_txns}
 use Rattle.mt_core.specs.declared.parts.Commit.{Commit}
@@ -40,7 +41,7 @@ use Rattle.mt_txn.specs.Causes.{IsFailure}
 use Rattle.mt_txn.specs.Effects.{KeepsAtForce}
 use Rattle.mt_txn.specs.Seen.{KernelSeen, seen_of}
 use Rattle.mt_txn.specs.Shown.{LeavesFound, Restarts, SameSchema, Shows, StaysRestarting, is_failed}
-use Rattle.mt_txn.specs.Turned.{GoesOn, HasNobody, IsForced, IsRestOf, Resumes}
+use Rattle.mt_txn.specs.Turned.{GoesOn, HasNobody, IsForced, Resumes}
 use Rattle.mt_txn.specs.Well.{IsWell, Opens, RestartsFrom, ShowsIn}
 use Rattle.mt_txn.specs.declared.detached_kernel.DetachedKernel.{DetachedKernel}
 use Rattle.mt_txn.specs.declared.kernel_rest.KernelRest.{KernelRest}
@@ -122,7 +123,7 @@ parts_both k m n one two = record { pool = two.pool ∙ one.pool; ruling = two.r
 
 module _ {D : Type 0} {g : Ghosts D} where
   -- a step of a force keeps the parts
-  parts_forced : (m n : Kernel D g) (r : Result KernelForced Refusal) → KeepsAtForce m r n → SameParts (seen_of m) (seen_of n)
+  parts_forced : (m n : Kernel D g) (r : Result KernelForced Refusal) → KeepsAtForce (seen_of m) r (seen_of n) → SameParts (seen_of m) (seen_of n)
   parts_forced m n r keeps = record { pool = keeps.pool; ruling = keeps.ruling; appended = keeps.appended; numbers = keeps.numbers }
 
   -- a step of a force names nobody where nobody commits
@@ -161,7 +162,7 @@ module _ {D : Type 0} {g : Ghosts D} where
 
     pub keeps_forced : (k m n : Kernel D g) (r : Result KernelForced Refusal) → HasNobody k → HasNobody m → IsWell g m.relations m.counters m.core → Keeps k m → Grows k m
         → ((first : Base) (s : State) → Shows first s m → HasForced first s r n) → IfOk r (λ f. IsForcedBy m.core.operations.store.log m.core.commits.items f n.core.operations.store.log n.core.commits.items)
-        → StaysRestarting m n → SameSchema m n → LeavesFound m n → KeepsAtForce m r n → Keeps k n
+        → StaysRestarting m n → SameSchema m n → LeavesFound m n → KeepsAtForce (seen_of m) r (seen_of n) → Keeps k n
     keeps_forced k m n r nobody still well keeps (more, grown) forced by restarts schema found at_force = record {
       parts = parts_both (seen_of k) (seen_of m) (seen_of n) keeps.parts (parts_forced m n r at_force);
       state = λ first s shows. ∥∥₁_elim (nobody_commits m still well) ∥∥₁_prop (λ none. shows_forced m n r first s none (forced first s (keeps.state first s shows)) by);
@@ -212,6 +213,12 @@ module _ {D : Type 0} {g : Ghosts D} where
     }
 
 -- ---- the kernel that goes on
+
+-- all of a kernel but its operations and its escrow
+pub record IsRestOf {D : Type 0} {g : Ghosts D} (k : Kernel D g) (r : KernelRest) : Type 0 where
+  pub parts : parts.IsRestOf k.core r.rest
+  pub relations : r.relations ≡ k.relations
+  pub counters : r.counters ≡ k.counters
 
 module _ {D : Type 0} {g : Ghosts D} (own : OnlyOwnPagesMatter) where
   -- the recovered pages hold what the book leads to

@@ -33,7 +33,7 @@ slots_one marked n size d c inside is whole part =
 pub slots_stay : (marked : List Bool) (may : List ℕ → Type 0) → Follows (OnlySlots marked) may may
 slots_stay marked may c left = (c, left, slots_refl marked c)
 
--- the slot of a marked page is written behind others
+-- the slot of a marked page is written after others
 pub slots_follow : (marked : List Bool) (n size : ℕ) (may may2 may3 : List ℕ → Type 0) → n < length marked → get_or marked n false ≡ true → size ≡ 4096
     → Follows (OnlySlots marked) may may2 → Follows (Torn (8192 + 4096 * n) size) may2 may3 → Follows (OnlySlots marked) may may3
 slots_follow marked n size may may2 may3 inside is whole before call c left =

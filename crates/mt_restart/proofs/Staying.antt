@@ -39,7 +39,7 @@ module _ (ruling : MasterSlot) (items : List (List ℕ)) (m : Marks) (c0 : List 
       let from : (d : List ℕ) × may d × OnlySlots m.imaged.items d c = left in
       read_slots m.imaged.items c0 c ruling opening bs k.imaged.size imaged (subst (λ (d : List ℕ). OnlySlots m.imaged.items d c) (only from.0 from.1) from.2) read
 
-  -- what is left while the next area begins behind them
+  -- what is left while the next area begins after them
   pub read_begun : (may may2 : List ℕ → Type 0) → Only c0 may → Follows (OnlySlots m.imaged.items) may may2 → (c : List ℕ) → TornFrom may2 (area_start (next_slot ruling)) (area_size ruling) c → IsReadAs c ruling opening bs
   read_begun may may2 only follows c left =
       let from : (d : List ℕ) × may2 d × Torn (area_start (next_slot ruling)) (area_size ruling) d c = left in

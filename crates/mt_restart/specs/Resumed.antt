@@ -21,25 +21,27 @@ use Rattle.mt_restart.specs.Recovered.{AreRestored, IsCauseToStop}
 use Rattle.mt_steps.specs.Held.{Holds}
 use Rattle.mt_steps.specs.Listed.{IsSame}
 use Rattle.mt_txn.specs.Shown.{Restarts, Shows, kernel_device}
+use Rattle.mt_txn.specs.Words.{kernel_counters, kernel_relations}
 use Rattle.mt_txn.specs.declared.kernel.Kernel.{Kernel}
 
 -- It has so many relations and counters, and begins on this base: nothing has happened yet, and it can be restarted.
 pub record IsOpened {D : Type 0} {g : Ghosts D} (relations counters : ℕ) (b : Base) (k : Kernel D g) : Type 0 where
-  pub relations_are : k.relations ≡ relations
-  pub counters_are : k.counters ≡ counters
+  pub relations_are : kernel_relations k ≡ relations
+  pub counters_are : kernel_counters k ≡ counters
   pub shows : Shows b (start b) k
   pub restarts : Restarts b k
 
 -- It begins on this base, and on each that has the same rows and the same counters, as many as it has.
 pub record BeginsOn {D : Type 0} {g : Ghosts D} (b : Base) (k : Kernel D g) : Type 0 where
-  pub opened : IsOpened k.relations k.counters b k
-  pub same : (m : Base) → IsSame k.counters m b → IsBase m → IsOpened k.relations k.counters m k
+  pub opened : IsOpened (kernel_relations k) (kernel_counters k) b k
+  pub same : (m : Base) → IsSame (kernel_counters k) m b → IsBase m
+      → IsOpened (kernel_relations k) (kernel_counters k) m k
 
 -- It begins on these pages: on each base that they hold, with as many relations and counters as page 2 names.
 pub record BeginsOnPages {D : Type 0} {g : Ghosts D} (items : List (List ℕ)) (k : Kernel D g) : Type 0 where
-  pub relations : k.relations ≡ get_or (bytes_of items 2) 0 0
-  pub counters : k.counters ≡ get_or (bytes_of items 2) 1 0
-  pub opened : (b : Base) → Holds (bytes_of items) b → IsBase b → IsOpened k.relations k.counters b k
+  pub relations : kernel_relations k ≡ get_or (bytes_of items 2) 0 0
+  pub counters : kernel_counters k ≡ get_or (bytes_of items 2) 1 0
+  pub opened : (b : Base) → Holds (bytes_of items) b → IsBase b → IsOpened (kernel_relations k) (kernel_counters k) b k
 
 -- and a restart in memory makes them of these bytes
 abbrev pub BeginsOnRestored : {D : Type 0} {g : Ghosts D} → List ℕ → Kernel D g → Type 0

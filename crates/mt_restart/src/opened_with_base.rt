@@ -1,13 +1,14 @@
 // A kernel over a device that was used before, as `open` gives it, with the base on which it begins. mt_shared calls
 // it: a mark is made about a base.
-ghost use Rattle.std.specs.Prelude.{◌≡◌, ℕ, List, false, IfOk, IfErr, MatchResult};
+ghost use Rattle.std.specs.Prelude.{◌≡◌, ℕ, List, false, length, IfOk, IfErr, MatchResult};
 ghost use Rattle.mt_base.specs.declared.refusal.Refusal.{Refusal};
 ghost use Rattle.mt_disk.specs.Disk.{LeavesOnly};
 ghost use Rattle.mt_model.specs.Model.{Base as ModelBase};
-ghost use Rattle.mt_model.specs.Views.{base_of};
+ghost use Rattle.mt_model.specs.Views.{base_of, counters_of, relations_of};
 ghost use Rattle.mt_replay.specs.Stands.{CanRestart};
 ghost use Rattle.mt_steps.specs.Listed.{IsSame};
 ghost use Rattle.mt_txn.specs.Shown.{is_failed, kernel_device, kernel_frames};
+ghost use Rattle.mt_txn.specs.Words.{kernel_counters, kernel_relations};
 ghost use Rattle.mt_restart.specs.Frames.{IsFrameCount};
 ghost use Rattle.mt_restart.specs.Recovered.{StandsStill};
 ghost use Rattle.mt_restart.specs.Resumed.{BeginsOnRestored, HasTurnedOver, IsNotOpened, IsOpened, IsRestoredBase};
@@ -36,8 +37,8 @@ pub fn open_with_base<D: Device + Drop>(
     frames: usize,
 ) -> Result<(Kernel<D>, Base), (Refusal, D)>
     requires frames { IsFrameCount frames }
-    ensures opened { IfOk result (λ opened. IsOpened opened.0.relations opened.0.counters (base_of opened.1)
-        opened.0) }
+    ensures opened { IfOk result (λ opened. IsOpened (kernel_relations opened.0) (kernel_counters opened.0)
+        (base_of opened.1) opened.0) }
     // On any bytes it begins on the base that the passes of a restart leave in memory.
     ensures restored { IfOk result (λ opened. BeginsOnRestored (D.seen device) opened.0) }
     ensures listed { IfOk result (λ opened. IsRestoredBase (D.seen device) (base_of opened.1)) }
@@ -45,6 +46,9 @@ pub fn open_with_base<D: Device + Drop>(
     // It is the base that the bytes represented.
     ensures base { (relations counters : ℕ) (b : ModelBase) → CanRestart relations counters (D.seen device) b
         → IfOk result (λ opened. IsSame counters (base_of opened.1) b) }
+    // It has as many relations and counters as the kernel.
+    ensures sized { IfOk result (λ opened. (relations_of opened.1 ≡ kernel_relations opened.0)
+        × (length (counters_of opened.1) ≡ kernel_counters opened.0)) }
     ensures frames { IfOk result (λ opened. kernel_frames opened.0 ≡ frames) }
     // The log turns over once.
     ensures once { IfOk result (λ opened. HasTurnedOver (D.seen device) opened.0.core) }

@@ -2,7 +2,7 @@
 // with the same book goes on over the other area. mt_locked, mt_alone and mt_world call it.
 ghost use Rattle.std.specs.Prelude.{◌≡◌, false, IfErr, IsOk, OnOk};
 ghost use Rattle.mt_model.specs.Model.{Base};
-ghost use Rattle.mt_txn.specs.Shown.{Restarts, TellsEachFault, is_failed};
+ghost use Rattle.mt_txn.specs.Shown.{Restarts, HidesNoFault, is_failed};
 ghost use Rattle.mt_txn.specs.Turned.{HasNobody, IsForced};
 ghost use Rattle.mt_txn.specs.Words.{FindsUntil};
 ghost use Rattle.mt_restart.specs.Rotated.{IsForcedOut, IsKeptCause, Keeps, Rotates};
@@ -24,7 +24,7 @@ fn force_out<D: Device>(kernel: &mut Kernel<D>) -> Result<(), Refusal>
     ensures keeps { Keeps kernel.old kernel.new }
     ensures forced { OnOk result (IsForcedOut kernel.old kernel.new) }
     ensures cause { IfErr result (IsKeptCause kernel.new) }
-    ensures quiet { TellsEachFault kernel.old result kernel.new }
+    ensures quiet { HidesNoFault kernel.old result kernel.new }
 {
     for _step in 0..FORCE_STEPS {
         if let KernelForced::Idle = kernel.force_step()? {

@@ -17,7 +17,7 @@ use Rattle.mt_script.specs.declared.lines.Line.{Line}
 use Rattle.mt_script.specs.declared.lines.Line.TheVariants.{Begin, Call, Save, Back, Commit, Abort}
 use Rattle.mt_script.specs.Lines.{IsUnspaced, IsWord, IsPlace, IsWide, SpellsStep, SpellsKey, SpellsRow, SpellsOp, Spells, op_text}
 
--- what stands before the first c, and what behind it
+-- what stands before the first c, and what after it
 pub same_cut : (c : ℕ) (xs ys tail rear : List ℕ) → All (λ b. b ≢ c) xs → All (λ b. b ≢ c) ys → xs ++ c ∷ tail ≡ ys ++ c ∷ rear → (xs ≡ ys) × (tail ≡ rear)
 same_cut c [] [] tail rear h k e = (refl, cc)
 same_cut c [] (y ∷ ys) tail rear h k e =
@@ -62,7 +62,7 @@ negative_size bs (negsuc n) s = let e = s.0 in (n, refl, cc, omega (arith, ints,
 apart : (x y : ℕ) (xs ys : List ℕ) → x ≢ y → x ∷ xs ≡ y ∷ ys → ⊥
 apart x y xs ys n e = n cc
 
--- the words of an operation: the first, and those behind it
+-- the words of an operation: the first, and those after it
 abbrev pub word_of : Op → List ℕ
 word_of (Get r k) = codes "get"
 word_of (Insert r k v) = codes "insert"
@@ -185,7 +185,7 @@ tail_of c xs ys e = cc
 first_of : (xs ys : List ℕ) → xs ≡ ys → get_or xs 0 0 ≡ get_or ys 0 0
 first_of xs ys e = ap (λ l. get_or l 0 0) e
 
--- what stands behind the first word is that of the operation
+-- what stands after the first word is that of the operation
 pub same_words : (word words : List ℕ) (op : Op) → IsUnspaced word → SpellsOp (word ++ 32 ∷ words) op → (word ≡ word_of op) × (words ≡ rest_of op)
 same_words word words op h s = same_cut 32 word (word_of op) words (rest_of op) h (word_unspaced_of op) (s.0 ∙ op_words op)
 

@@ -1,4 +1,4 @@
--- A line put behind others, and a byte behind the line under way.
+-- A line put after others, and a byte after the line under way.
 use Rattle.std.proofs.Common.{rules, arith, ◌≡◌, ◌≢◌, ◌<◌, ◌≤◌, ◌+◌, ◌⊎◌, inl, inr, ℕ, List, Option, Some, None, [], ◌∷◌, ◌++◌, length, take, refl, ap, sym, subst, IfSome, ◌∙◌, length-append}
 use Rattle.std.specs.List.{All}
 use Rattle.std.specs.Io.KnownBytes.{Consumes, IsAtEnd}
@@ -65,7 +65,7 @@ module _ {L : Type 0} (text : L → List ℕ) (IsIn : L → Type 0) where
       let cut = same_cut 10 line (text l) more begins.1 g.unbroken (whole l begins.3) begins.2 in
       bad l (cut.0, begins.3)))
 
-  -- a byte behind 100,000 lines
+  -- a byte after 100,000 lines
   pub too_many : (front more : List ℕ) (lines : List L) (line : List ℕ) (b : ℕ) → length lines ≡ 100000 → Gathered text IsIn front lines line → IsFirstBad text IsIn (front ++ b ∷ more) (length lines + 1)
   too_many front more lines line b full g = bad_after front more lines line b g (omega arith) (inr full)
 

@@ -28,7 +28,7 @@ left_over bytes i n within h =
     let same : length (take (length bytes - i) (drop i bytes)) ≡ length (drop i bytes) = ap length (rest_from bytes i) in
     omega (arith, length-drop i bytes)
 
--- the next bytes, behind those up to a place
+-- the next bytes, after those up to a place
 pub appends_more : (a b c : Option (List ℕ)) (bytes : List ℕ) (i n : ℕ) → Appends a b (take i bytes) → Appends b c (take n (take (length bytes - i) (drop i bytes))) → Appends a c (take (i + n) bytes)
 appends_more a b c bytes i n p q =
     let next : Appends b c (take n (drop i bytes)) = subst (λ t. Appends b c (take n t)) (rest_from bytes i) q in
@@ -45,7 +45,7 @@ front_then a b c xs ys zs p q =
 pub front_whole : (a b : Option (List ℕ)) (xs ys : List ℕ) → AppendsFront a b xs → AppendsFront a b (xs ++ ys)
 front_whole a b xs ys q = (q.0, q.1 ++ ys, ap (λ t. t ++ ys) q.2 ∙ append_assoc q.0 q.1 ys, q.3)
 
--- the bytes of several, one behind the other
+-- the bytes of several, one after the other
 module _ {X : Type 0} (bytes_of : X → List ℕ) where
   abbrev pub all_bytes : List X → List ℕ
   all_bytes xs = concat (map bytes_of xs)
@@ -54,7 +54,7 @@ module _ {X : Type 0} (bytes_of : X → List ℕ) where
   all-append [] ys = refl
   all-append (x ∷ xs) ys = ap (λ t. bytes_of x ++ t) (all-append xs ys) ∙ sym (append_assoc (bytes_of x) (all_bytes xs) (all_bytes ys))
 
-  -- one behind those before a place
+  -- one after those before a place
   pub all_more : (xs : List X) (i : ℕ) (d : X) → i < length xs → all_bytes (take (suc i) xs) ≡ all_bytes (take i xs) ++ bytes_of (get_or xs i d)
   all_more xs i d h =
       ap all_bytes (take-suc xs i d h) ∙ all-append (take i xs) (get_or xs i d ∷ []) ∙ ap (λ t. all_bytes (take i xs) ++ t) (append-nil (bytes_of (get_or xs i d)))

@@ -94,7 +94,7 @@ pass_placed scripts old mid new book passes now p outcome count pushed seen befo
 
 -- ---- places
 
--- a place that was empty tells of so many commits
+-- a place that was empty reports of so many commits
 all_booked_set : (bs : List (List (ℕ × List Call))) (at : ℕ) (b : List (ℕ × List Call)) → at < length bs → get_or bs at [] ≡ [] → all_booked (set bs at b) ≡ all_booked bs + length b
 all_booked_set [] at b lt empty = absurd (omega arith)
 all_booked_set (x ∷ xs) zero b lt empty = let none = ap length empty in omega arith

@@ -203,7 +203,7 @@ session_reported failed b session lines text old new book s front =
       rises = stood.rises;
     }
 
--- it tells of each commit that its pass has more of its own
+-- it reports of each commit that its pass has more of its own
 pub session_counts : (failed : Bool) (b : Base) (session : ℕ) (lines : List Line) (text : List ℕ) (old new : PassSeen) → (s : IsSession failed b session lines text old new) → own new.number new.seen ≡ own old.number old.seen + length s.end.heard.booked
 session_counts failed b session lines text old new s =
     let stood = stood_on b session old (record { heard = silence; pass = old }) s.end s.before s.answers (nothing_yet session old) s.served in

@@ -13,7 +13,7 @@ use Rattle.mt_script.specs.declared.answers.Answer.TheVariants.{Replied, Saved, 
 use Rattle.mt_script.specs.declared.lines.Line.{Line}
 use Rattle.mt_script.specs.declared.lines.Line.TheVariants as line
 use Rattle.mt_server.specs.Heard.{Hears, replies, saves, goes_back, commits, aborts, dies, refuses, IsRefusable, LetsGoOn, LetsLive}
-use Rattle.mt_server.specs.Hearing.{Place, Ending, Grows, entry_of, IsAt, IsStopped, Telling, Turning, Waits, between, token_of, within}
+use Rattle.mt_server.specs.Hearing.{Place, Ending, Grows, entry_of, IsAt, IsStopped, Reporting, Turning, Waits, between, token_of, within}
 use Rattle.mt_server.specs.declared.line_answers.Halt.{Halt}
 use Rattle.mt_server.specs.declared.line_answers.Halt.TheVariants as halt
 use Rattle.mt_locked.specs.Seen.{PassSeen, Extends}
@@ -45,7 +45,7 @@ module _ (b : Base) (txn : TxnSeen) (pass : PassSeen) (own : txn.pass ≡ pass.n
   goes_on : (l : Line) (answer : Answer) (t : TxnSeen) (was now : List ℕ) (new : PassSeen) (r : Result (Option TxnSeen) Halt) → t.pass ≡ txn.pass → t.done.session ≡ txn.done.session
       → ((booked : List (ℕ × List Call)) → Hears (within booked (open_calls txn) pass).heard l answer (within booked (open_calls t) pass).heard)
       → ((booked : List (ℕ × List Call)) → new ≡ pass → Grows b txn.done.session (within booked (open_calls txn) pass) answer new)
-      → Telling t pass was now new answer r → Turning b txn pass l was now new r
+      → Reporting t pass was now new answer r → Turning b txn pass l was now new r
   goes_on l answer t was now new (Ok token) mine same_session hears grows (same, stays, text) = λ booked.
       let end : Place = within booked (open_calls t) new in
       let is : t ≡ token_of new.number txn.done.session (open_calls t) =
@@ -61,21 +61,21 @@ module _ (b : Base) (txn : TxnSeen) (pass : PassSeen) (own : txn.pass ≡ pass.n
       }
   goes_on l answer t was now new (Err s) mine same_session hears grows stopped = inl stopped
 
-  pub reported_refused : (l : Line) (why : Refusal) (was now : List ℕ) (new : PassSeen) (r : Result (Option TxnSeen) Halt) → IsRefusable (Some (open_calls txn)) l why → Telling txn pass was now new (Refused why) r → Turning b txn pass l was now new r
-  reported_refused l why was now new r may tells =
-      goes_on l (Refused why) txn was now new r refl refl (λ booked. refuses l why may) (λ booked same. same) tells
+  pub reported_refused : (l : Line) (why : Refusal) (was now : List ℕ) (new : PassSeen) (r : Result (Option TxnSeen) Halt) → IsRefusable (Some (open_calls txn)) l why → Reporting txn pass was now new (Refused why) r → Turning b txn pass l was now new r
+  reported_refused l why was now new r may reports =
+      goes_on l (Refused why) txn was now new r refl refl (λ booked. refuses l why may) (λ booked same. same) reports
 
-  pub reported_reply : (op : Op) (reply : Reply) (was now : List ℕ) (new : PassSeen) (r : Result (Option TxnSeen) Halt) → size_cause op ≡ None → Telling (with_call txn op reply) pass was now new (Replied reply) r → Turning b txn pass (line.Call op) was now new r
-  reported_reply op reply was now new r sized tells =
-      goes_on (line.Call op) (Replied reply) (with_call txn op reply) was now new r refl refl (λ booked. replies (open_calls txn) op reply refl sized) (λ booked same. same) tells
+  pub reported_reply : (op : Op) (reply : Reply) (was now : List ℕ) (new : PassSeen) (r : Result (Option TxnSeen) Halt) → size_cause op ≡ None → Reporting (with_call txn op reply) pass was now new (Replied reply) r → Turning b txn pass (line.Call op) was now new r
+  reported_reply op reply was now new r sized reports =
+      goes_on (line.Call op) (Replied reply) (with_call txn op reply) was now new r refl refl (λ booked. replies (open_calls txn) op reply refl sized) (λ booked same. same) reports
 
-  pub reported_saved : (was now : List ℕ) (new : PassSeen) (r : Result (Option TxnSeen) Halt) → Telling txn pass was now new (Saved (length txn.standing)) r → Turning b txn pass line.Save was now new r
-  reported_saved was now new r tells =
-      goes_on line.Save (Saved (length txn.standing)) txn was now new r refl refl (λ booked. saves (open_calls txn) refl) (λ booked same. same) tells
+  pub reported_saved : (was now : List ℕ) (new : PassSeen) (r : Result (Option TxnSeen) Halt) → Reporting txn pass was now new (Saved (length txn.standing)) r → Turning b txn pass line.Save was now new r
+  reported_saved was now new r reports =
+      goes_on line.Save (Saved (length txn.standing)) txn was now new r refl refl (λ booked. saves (open_calls txn) refl) (λ booked same. same) reports
 
-  pub reported_back : (first : ℕ) (was now : List ℕ) (new : PassSeen) (r : Result (Option TxnSeen) Halt) → first ≤ length txn.standing → Telling (went_back txn first) pass was now new (Back first) r → Turning b txn pass (line.Back first) was now new r
-  reported_back first was now new r within_it tells =
-      goes_on (line.Back first) (Back first) (went_back txn first) was now new r refl refl (λ booked. goes_back (open_calls txn) first refl within_it) (λ booked same. same) tells
+  pub reported_back : (first : ℕ) (was now : List ℕ) (new : PassSeen) (r : Result (Option TxnSeen) Halt) → first ≤ length txn.standing → Reporting (went_back txn first) pass was now new (Back first) r → Turning b txn pass (line.Back first) was now new r
+  reported_back first was now new r within_it reports =
+      goes_on (line.Back first) (Back first) (went_back txn first) was now new r refl refl (λ booked. goes_back (open_calls txn) first refl within_it) (λ booked same. same) reports
 
   pub reported_aborted : (was now : List ℕ) (new : PassSeen) → new ≡ pass → now ≡ was ++ transcript_text (Aborted ∷ []) → Turning b txn pass line.Abort was now new (Ok None)
   reported_aborted was now new same text = λ booked. record {
@@ -131,5 +131,5 @@ fails_at_end pass new was now halt.Unheard same lives stops = same
 pub same_turning : (b : Base) (pass : PassSeen) (l : Line) (was now : List ℕ) (new : PassSeen) (r : Result (Option TxnSeen) Halt) (t txn : TxnSeen) → t ≡ txn → Turning b t pass l was now new r → Turning b txn pass l was now new r
 same_turning b pass l was now new r t txn same turns = subst (λ (e : TxnSeen). Turning b e pass l was now new r) same turns
 
-pub same_telling : (p pass : PassSeen) (was now : List ℕ) (new : PassSeen) (a : Answer) (r : Result (Option TxnSeen) Halt) (t txn : TxnSeen) → p ≡ pass → t ≡ txn → Telling t p was now new a r → Telling txn pass was now new a r
-same_telling p pass was now new a r t txn same_pass same tells = subst (λ (x : TxnSeen × PassSeen). Telling x.0 x.1 was now new a r) (λ i. (same i, same_pass i)) tells
+pub same_reporting : (p pass : PassSeen) (was now : List ℕ) (new : PassSeen) (a : Answer) (r : Result (Option TxnSeen) Halt) (t txn : TxnSeen) → p ≡ pass → t ≡ txn → Reporting t p was now new a r → Reporting txn pass was now new a r
+same_reporting p pass was now new a r t txn same_pass same reports = subst (λ (x : TxnSeen × PassSeen). Reporting x.0 x.1 was now new a r) (λ i. (same i, same_pass i)) reports

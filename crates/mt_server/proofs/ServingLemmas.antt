@@ -1,4 +1,4 @@
--- A kernel that is opened for sessions, and the transcripts behind them.
+-- A kernel that is opened for sessions, and the transcripts after them.
 use Rattle.std.proofs.Common.{◌≡◌, ◌≢◌, ◌⊎◌, inl, inr, ◌<◌, ◌∙◌, ℕ, zero, suc, ◌+◌, Bool, List, [], Option, Some, None, nat_eq, if◌then◌else◌, true, false, true≢false, length, get_or, replicate, refl, sym, ap, subst, arith}
 use Rattle.std.proofs.lemmas.List.{length-replicate}
 use Rattle.mt_base.specs.declared.refusal.Refusal.{Refusal}

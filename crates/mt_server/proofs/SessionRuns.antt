@@ -1,4 +1,4 @@
--- A session over a shared kernel: its transactions, one behind the other, and its end.
+-- A session over a shared kernel: its transactions, one after the other, and its end.
 use Rattle.std.proofs.Common.{◌≡◌, ◌≤◌, ◌+◌, ℕ, List, [], ◌∷◌, ◌++◌, Option, Some, None, IsSome, true, false, arith, length, take, drop, refl, ap, sym, subst, ◌∙◌, append_assoc, append-nil, length-drop, take-append-drop}
 use Rattle.std.proofs.Math.Seq.{take-add, take-length}
 use Rattle.mt_model.specs.History.{Call}

@@ -19,14 +19,14 @@ pub record IsReportedOf (scripts : List (List Line)) (book : List Committed) (t 
   pub lines_are : lines ≡ get_or scripts t.at lines
   pub outcome : IsReported t.has_failed (t.at + 1) lines t.text booked book
 
--- each of these is one, and so many commits they tell together
+-- each of these is one, and so many commits they report together
 pub data AreReportedOf (scripts : List (List Line)) (book : List Committed) : List Reported → ℕ → Type 0 where
   nothing_reported : AreReportedOf scripts book [] 0
   one_more : (outcome : List Reported) (count : ℕ) (t : Reported) (booked : List (ℕ × List Call))
       → AreReportedOf scripts book outcome count → IsReportedOf scripts book t booked
       → AreReportedOf scripts book (outcome ++ t ∷ []) (count + length booked)
 
--- as far as the pass has seen, and they tell of each commit of its own
+-- as far as the pass has seen, and they report of each commit of its own
 abbrev pub AreHeard : List (List Line) → PassSeen → List Reported → Type 0
 AreHeard scripts pass outcome = AreReportedOf scripts (dones pass.seen) outcome (own pass.number pass.seen)
 
@@ -34,7 +34,7 @@ AreHeard scripts pass outcome = AreReportedOf scripts (dones pass.seen) outcome 
 abbrev pub HasDone : List (List Line) → PassSeen → Result (Vec Reported Global) AllocError → Type 0
 HasDone scripts pass done = IfOk done (λ outcome. AreHeard scripts pass outcome.items)
 
--- What is at its index is the transcript of that script, and so many commits they tell together.
+-- What is at its index is the transcript of that script, and so many commits they report together.
 pub record IsBoard (scripts : List (List Line)) (board : Board) (book : List Committed) (count : ℕ) : Type 0 where
   pub texts : length board.texts.items ≡ length scripts
   pub filled : length board.filled.items ≡ length scripts

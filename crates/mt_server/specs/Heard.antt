@@ -113,13 +113,13 @@ pub record IsReported (failed : Bool) (session : ℕ) (lines : List Line) (text 
   pub highest : ℕ
   pub rises : Rise booked highest
 
--- how many commits these tell together
+-- how many commits these report together
 abbrev pub all_booked : List (List (ℕ × List Call)) → ℕ
 all_booked [] = 0
 all_booked (booked ∷ more) = length booked + all_booked more
 
 -- There is one for each script, in their order, of which the first is session 1. The book has no commit but those
--- that they tell.
+-- that they report.
 pub record AreAllReported (failed : Bool) (scripts : List (List Line)) (texts : List (List ℕ))
     (book : List Committed) : Type 0 where
   pub count : length texts ≡ length scripts

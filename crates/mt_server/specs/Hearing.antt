@@ -113,10 +113,10 @@ Turning b txn pass line was now new (Err stop) =
     IsStopped pass was now new stop ⊎ IsUnheardCommit b txn pass line new stop
 
 -- what a line may come to if it only has an answer, and the transaction goes on
-abbrev pub Telling : TxnSeen → PassSeen → List ℕ → List ℕ → PassSeen → Answer → Result (Option TxnSeen) Halt → Type 0
-Telling txn pass was now new answer (Ok token) =
+abbrev pub Reporting : TxnSeen → PassSeen → List ℕ → List ℕ → PassSeen → Answer → Result (Option TxnSeen) Halt → Type 0
+Reporting txn pass was now new answer (Ok token) =
     (token ≡ Some txn) × (new ≡ pass) × (now ≡ was ++ transcript_text (answer ∷ []))
-Telling txn pass was now new answer (Err stop) = IsStopped pass was now new stop
+Reporting txn pass was now new answer (Err stop) = IsStopped pass was now new stop
 
 -- ---- a transaction
 

@@ -10,7 +10,9 @@ ghost use Rattle.mt_server.specs.declared.line_answers.Halt.TheVariants as halt;
 ghost use Rattle.mt_locked.specs.Refusals.{IsBeginRefusal};
 ghost use Rattle.mt_locked.specs.Seen.{PassSeen};
 
-use crate::line_answers::{Halt, answer_line, fail, refuse, take_back, tell_aborted, tell_begun};
+use crate::line_answers::{
+    Halt, answer_line, fail, refuse, report_aborted, report_begun, take_back,
+};
 use mt_base::Refusal;
 use mt_disk::Device;
 use mt_script::Line;
@@ -44,7 +46,7 @@ fn end<D: Device, G: Gate + Drop, J: Naming, R: Wait>(
     if !take_back(rt, hold, pass, txn) {
         return Err(fail(out));
     }
-    tell_aborted(out)?;
+    report_aborted(out)?;
     Ok(Progress::AtEnd)
 }
 
@@ -93,6 +95,7 @@ fn unbegun(out: &mut Vec<u8>, why: Refusal) -> Result<Progress, Halt>
     ensures runs { (b : Base) (session : ℕ) (booked : List (ℕ × List Call)) (pass : PassSeen) (lines : List Line)
         → Running b session (between booked pass) (line.Begin ∷ lines) out.old.items out.new.items pass result }
     ensures lives { IfErr result (λ outcome. outcome ≢ halt.Died) }
+    ensures fails { IfErr result (λ outcome. outcome ≡ halt.Failed → why ≡ Refusal.DeviceFailed) }
 {
     match why {
         Refusal::DeviceFailed => Err(fail(out)),
@@ -120,7 +123,7 @@ fn run_once<D: Device, G: Gate + Drop, J: Naming, R: Wait>(
     ensures lives { may_die ≡ false → IfErr result (λ outcome. outcome ≢ halt.Died) }
 {
     match hold.begin(rt, alloc, pass, session) {
-        Ok(txn) => match tell_begun(out) {
+        Ok(txn) => match report_begun(out) {
             Ok(()) => and_begin(go_on(rt, hold, pass, txn, lines, may_die, out)),
             Err(why) => {
                 take_back(rt, hold, pass, txn);

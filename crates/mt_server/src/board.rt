@@ -89,7 +89,8 @@ impl Board {
 
     /// Whether the refusal 2 that a transcript ends with, if one does, has its cause: that the device has failed.
     pub(crate) fn has_cause(&self, has_failed: bool) -> bool
-        ensures { IsTrue result → self.now.has_failed ≡ true → has_failed ≡ true }
+        ensures cause { IsTrue result → self.now.has_failed ≡ true → has_failed ≡ true }
+        ensures only { (self.now.has_failed ≡ true → has_failed ≡ true) → IsTrue result }
     {
         has_failed || !self.has_failed
     }

@@ -1,5 +1,5 @@
 // What a shared kernel answers to the lines of a transaction.
-ghost use Rattle.std.specs.Prelude.{◌≡◌, ◌≢◌, ◌++◌, ◌∷◌, [], false, ℕ, List, IfErr, OnOk};
+ghost use Rattle.std.specs.Prelude.{◌≡◌, ◌≢◌, ◌++◌, ◌∷◌, [], false, ℕ, List, IfErr, IfOk, None, OnOk};
 ghost use Rattle.mt_base.specs.declared.refusal.Refusal.{Refusal};
 ghost use Rattle.mt_model.specs.History.{Call};
 ghost use Rattle.mt_model.specs.declared.operations.Op.{Op};
@@ -7,7 +7,7 @@ ghost use Rattle.mt_model.specs.declared.operations.Reply.{Reply};
 ghost use Rattle.mt_script.specs.Answers.{transcript_text};
 ghost use Rattle.mt_script.specs.declared.answers.Answer.TheVariants as answer;
 ghost use Rattle.mt_script.specs.declared.lines.Line.TheVariants as line;
-ghost use Rattle.mt_server.specs.Hearing.{IsStopped, Telling, Turning};
+ghost use Rattle.mt_server.specs.Hearing.{IsStopped, Reporting, Turning};
 ghost use Rattle.mt_txn.specs.Causes.{IsCallRefusal};
 ghost use Rattle.mt_server.specs.declared.line_answers.Halt.TheVariants as halt;
 
@@ -30,7 +30,7 @@ pub enum Halt {
 }
 
 /// Writes an answer. There may be no memory for it.
-fn tell(out: &mut Vec<u8>, answer: &Answer) -> Result<(), Halt>
+fn report(out: &mut Vec<u8>, answer: &Answer) -> Result<(), Halt>
     ensures ok { OnOk result (out.new.items ≡ out.old.items ++ transcript_text (answer.now ∷ [])) }
     ensures err { IfErr result (λ outcome. outcome ≡ halt.Unheard) }
 {
@@ -40,36 +40,36 @@ fn tell(out: &mut Vec<u8>, answer: &Answer) -> Result<(), Halt>
     }
 }
 
-/// Writes that a transaction has begun, as [`tell`].
-pub(crate) fn tell_begun(out: &mut Vec<u8>) -> Result<(), Halt>
+/// Writes that a transaction has begun, as [`report`].
+pub(crate) fn report_begun(out: &mut Vec<u8>) -> Result<(), Halt>
     ensures ok { OnOk result (out.new.items ≡ out.old.items ++ transcript_text (answer.Begun ∷ [])) }
     ensures err { IfErr result (λ outcome. outcome ≡ halt.Unheard) }
 {
-    tell(out, &Answer::Begun)
+    report(out, &Answer::Begun)
 }
 
-/// Writes a refusal, as [`tell`].
+/// Writes a refusal, as [`report`].
 pub(crate) fn refuse(out: &mut Vec<u8>, why: Refusal) -> Result<(), Halt>
     ensures ok { OnOk result (out.new.items ≡ out.old.items ++ transcript_text (answer.Refused why ∷ [])) }
     ensures err { IfErr result (λ outcome. outcome ≡ halt.Unheard) }
 {
-    tell(out, &Answer::Refused(why))
+    report(out, &Answer::Refused(why))
 }
 
-/// Writes that a transaction was taken back, as [`tell`].
-pub(crate) fn tell_aborted(out: &mut Vec<u8>) -> Result<(), Halt>
+/// Writes that a transaction was taken back, as [`report`].
+pub(crate) fn report_aborted(out: &mut Vec<u8>) -> Result<(), Halt>
     ensures ok { OnOk result (out.new.items ≡ out.old.items ++ transcript_text (answer.Aborted ∷ [])) }
     ensures err { IfErr result (λ outcome. outcome ≡ halt.Unheard) }
 {
-    tell(out, &Answer::Aborted)
+    report(out, &Answer::Aborted)
 }
 
-/// Writes the position of a commit, as [`tell`].
-fn tell_committed(out: &mut Vec<u8>, place: u64) -> Result<(), Halt>
+/// Writes the position of a commit, as [`report`].
+fn report_committed(out: &mut Vec<u8>, place: u64) -> Result<(), Halt>
     ensures ok { OnOk result (out.new.items ≡ out.old.items ++ transcript_text (answer.Committed place ∷ [])) }
     ensures err { IfErr result (λ outcome. outcome ≡ halt.Unheard) }
 {
-    tell(out, &Answer::Committed(place))
+    report(out, &Answer::Committed(place))
 }
 
 /// Writes that the device failed, as the last answer.
@@ -132,12 +132,12 @@ fn answered<D: Device, G: Gate + Drop, J: Naming, R: Wait>(
     answer: &Answer,
     out: &mut Vec<u8>,
 ) -> Result<Option<Txn<J>>, Halt>
-    ensures tells { Telling txn pass.old out.old.items out.new.items pass.new answer.now result }
+    ensures reports { Reporting txn pass.old out.old.items out.new.items pass.new answer.now result }
     ensures lives { IfErr result (λ outcome. outcome ≢ halt.Died) }
 {
     // a line that is no operation is not counted in the hold
     hold.give_back();
-    match tell(out, answer) {
+    match report(out, answer) {
         Ok(()) => Ok(Some(txn)),
         Err(stop) => {
             take_back(rt, hold, pass, txn);
@@ -155,7 +155,7 @@ fn refused<D: Device, G: Gate + Drop, J: Naming, R: Wait>(
     why: Refusal,
     out: &mut Vec<u8>,
 ) -> Result<Option<Txn<J>>, Halt>
-    ensures tells { Telling txn pass.old out.old.items out.new.items pass.new (answer.Refused why) result }
+    ensures reports { Reporting txn pass.old out.old.items out.new.items pass.new (answer.Refused why) result }
     ensures lives { IfErr result (λ outcome. outcome ≢ halt.Died) }
 {
     answered(rt, hold, pass, txn, &Answer::Refused(why), out)
@@ -171,8 +171,8 @@ fn replied<D: Device, G: Gate + Drop, J: Naming, R: Wait>(
 ) -> Result<Option<Txn<J>>, Halt>
     requires one { (calls : List Call) × (op : Op) × (reply : Reply)
         × (txn.done.calls ≡ calls ++ (op, reply) ∷ []) }
-    ensures tells { (calls : List Call) (op : Op) (reply : Reply) → txn.done.calls ≡ calls ++ (op, reply) ∷ []
-        → Telling txn pass.old out.old.items out.new.items pass.new (answer.Replied reply) result }
+    ensures reports { (calls : List Call) (op : Op) (reply : Reply) → txn.done.calls ≡ calls ++ (op, reply) ∷ []
+        → Reporting txn pass.old out.old.items out.new.items pass.new (answer.Replied reply) result }
     ensures lives { IfErr result (λ outcome. outcome ≢ halt.Died) }
 {
     let calls = txn.calls();
@@ -226,6 +226,7 @@ fn stopped<D: Device, G: Gate + Drop, J: Naming, R: Wait>(
     ensures lives { may_die ≡ false → IfErr result (λ outcome. outcome ≢ halt.Died) }
     // Only an older holder in its way makes it die.
     ensures dies { IfErr result (λ outcome. outcome ≡ halt.Died → (holder : ℕ) × (why ≡ Refusal.Die holder)) }
+    ensures ends { IfOk result (λ token. token ≡ None → (holder : ℕ) × (why ≡ Refusal.Die holder)) }
 {
     match why {
         Refusal::Die(_) => died(rt, hold, pass, txn, why, may_die, out),
@@ -311,7 +312,7 @@ fn commit<D: Device, G: Gate + Drop, J: Naming, R: Wait>(
 {
     match hold.commit(rt, pass, txn) {
         Ok(place) => {
-            tell_committed(out, place)?;
+            report_committed(out, place)?;
             Ok(None)
         }
         Err(Refused { why, txn: back }) => match back {
@@ -336,7 +337,7 @@ fn abort<D: Device, G: Gate + Drop, J: Naming, R: Wait>(
     if !take_back(rt, hold, pass, txn) {
         return Err(fail(out));
     }
-    tell_aborted(out)?;
+    report_aborted(out)?;
     Ok(None)
 }
 

@@ -1,6 +1,6 @@
 // The lock of what is shared, kept from one call of a thread to its next. So it is taken once for a few calls.
 // All others wait meanwhile: a hold ends after 18 calls, and before a thread sleeps.
-ghost use Rattle.std.specs.Prelude.{◌≡◌, ◌≢◌, ◌↔◌, ◌⊎◌, ◌≤◌, ℕ, Err, None, IfOk, IfErr, OnOk, OnErr, IfSome, length};
+ghost use Rattle.std.specs.Prelude.{◌≡◌, ◌≢◌, ◌↔◌, ◌⊎◌, ◌≤◌, ℕ, Ok, Err, None, IfOk, IfErr, OnOk, OnErr, IfSome, length};
 ghost use Rattle.mt_base.specs.declared.refusal.Refusal.TheVariants.{DeviceFailed, NoMemory, Stranger};
 ghost use Rattle.mt_model.specs.declared.operations.Reply.{Reply};
 ghost use Rattle.mt_locked.specs.Refusals.{IsAbortRefusal, IsBackRefusal, IsBeginRefusal, IsCommitRefusal, IsRoomRefusal};
@@ -143,7 +143,7 @@ impl<'a, D: Device, G: Gate + Drop, J: Naming> Hold<'a, D, G, J> {
             }
         };
         let txn = give_token(alloc, pass, number, session);
-        self.shared.tell(session, Point::Began);
+        self.shared.reach(session, Point::Began);
         Ok(txn)
     }
 
@@ -239,7 +239,7 @@ impl<'a, D: Device, G: Gate + Drop, J: Naming> Hold<'a, D, G, J> {
                 Ok(Stepped::Replied(reply)) => {
                     self.has_moved = true;
                     self.keep(locked);
-                    self.shared.tell(session, Point::Replied);
+                    self.shared.reach(session, Point::Replied);
                     return Ok(reply);
                 }
                 Ok(Stepped::Went) => {
@@ -301,6 +301,7 @@ impl<'a, D: Device, G: Gate + Drop, J: Naming> Hold<'a, D, G, J> {
     ) -> Result<MutexGuard<'a, Locked<D, J>>, Refusal>
         ensures is { IfErr result (λ answer. answer ≡ why) }
         ensures other { IfErr result (λ answer. answer ≢ NoMemory) }
+        ensures goes_on { OnOk result (why ≡ NoMemory) }
     {
         match why {
             Refusal::NoMemory => Ok(self.let_others(rt, locked)),
@@ -335,7 +336,7 @@ impl<'a, D: Device, G: Gate + Drop, J: Naming> Hold<'a, D, G, J> {
             Ok(()) => {
                 let session = txn.session();
                 spend_token(pass, txn);
-                self.shared.tell(session, Point::Aborted);
+                self.shared.reach(session, Point::Aborted);
                 Ok(())
             }
             Err(Refusal::DeviceFailed) => Err(lost(pass, txn)),
@@ -384,7 +385,8 @@ impl<'a, D: Device, G: Gate + Drop, J: Naming> Hold<'a, D, G, J> {
         stepped: Result<AbortStepped, Refusal>,
         steps: u64,
     ) -> Result<MutexGuard<'a, Locked<D, J>>, Refusal>
-        ensures is { IfErr result (λ why. (stepped ≡ Err why) ⊎ IsRoomRefusal why) }
+        ensures is { IfErr result (λ why. (stepped ≡ Err why)
+            ⊎ ((stepped ≡ Ok AbortStepped.Flush) × IsRoomRefusal why)) }
         ensures other { IfErr result (λ why. why ≢ NoMemory) }
     {
         match stepped {
@@ -514,7 +516,7 @@ impl<'a, D: Device, G: Gate + Drop, J: Naming> Hold<'a, D, G, J> {
         match begun {
             Ok(place) => {
                 let place = self.shared.entered(rt, locked, pass, txn, place)?;
-                self.shared.tell(session, Point::Committed);
+                self.shared.reach(session, Point::Committed);
                 Ok(place)
             }
             Err(Refusal::DeviceFailed) => {
@@ -536,6 +538,7 @@ impl<'a, D: Device, G: Gate + Drop, J: Naming> Hold<'a, D, G, J> {
 fn refused_to_one_that_counts(why: Refusal) -> Refusal
     ensures savepoint { (count first : ℕ) → first ≤ count → IsSavepointCause count first result }
     ensures why { IsBackRefusal result }
+    ensures same { IsBackRefusal why → why ≢ Refusal.BadSavepoint → result ≡ why }
 {
     match why {
         Refusal::NoMemory => Refusal::NoMemory,

@@ -64,7 +64,10 @@ pub enum Tended {
 }
 
 impl<D: Device, G: Gate + Drop, J: Naming> Shared<D, G, J> {
-    pub(crate) fn over(locked: Locked<D, J>, gate: G) -> Shared<D, G, J> {
+    // Nothing is held back at first, and nothing is due.
+    pub(crate) fn over(locked: Locked<D, J>, gate: G) -> Shared<D, G, J>
+        requires none { (locked.holding ≡ 0) × (locked.due ≡ Due.Nothing) }
+    {
         let wanted = Wanted::of(&gate);
         Shared {
             locked: Mutex::new(locked),
@@ -82,7 +85,7 @@ impl<D: Device, G: Gate + Drop, J: Naming> Shared<D, G, J> {
     }
 
     // Calls the observer, if it wants this point.
-    pub(crate) fn tell(&self, session: u32, point: Point) {
+    pub(crate) fn reach(&self, session: u32, point: Point) {
         if self.wanted.has(point) {
             self.gate.at(session, point);
         }

@@ -25,7 +25,7 @@ const VALUE: [u8; 1000] = [b'x'; 1000];
 /// The most scans until another had the lock in the midst of one: far more than it takes on a busy machine.
 const SCANS: u64 = 20_000;
 
-/// What two threads tell one another: the number of the scan under way, that of the last one in whose midst the lock
+/// What two threads say to one another: the number of the scan under way, that of the last one in whose midst the lock
 /// was had, and whether there are no more.
 #[derive(Drop)]
 struct Turns {
@@ -102,7 +102,7 @@ fn scan_on<J: Naming, R: Wait>(
     Ok(false)
 }
 
-// Takes the lock in each scan, and tells in which it was had.
+// Takes the lock in each scan, and says in which it was had.
 fn takes<J: Naming, R: Wait>(rt: &R, shared: &Memory<J>, turns: &Turns) {
     for _ in rt.forever() {
         if turns.is_over.load(Ordering::SeqCst) {

@@ -99,8 +99,8 @@ pub fn stepped<D: Device>(kernel: &mut Kernel<D>, txn: TxnNo) -> Outcome {
     }
 }
 
-/// Writes a page into its slot, after the log's force if it waits for one. Answers `Went` if one was written.
-pub fn flushed<D: Device>(kernel: &mut Kernel<D>) -> Outcome {
+// Writes a page into its slot, after the log's force if it waits for one. Answers `Went` if one was written.
+fn flushed<D: Device>(kernel: &mut Kernel<D>) -> Outcome {
     for _step in 0..16u8 {
         match kernel.flush_step() {
             Ok(Flushed::Page(_)) => return Outcome::Went,
@@ -123,8 +123,8 @@ fn stepped_or_flushed<D: Device>(kernel: &mut Kernel<D>, txn: TxnNo) -> Outcome 
     }
 }
 
-/// Makes an operation on from its call, which was answered so, to its reply or to what is in its way.
-pub fn finished<D: Device>(kernel: &mut Kernel<D>, txn: TxnNo, called: Outcome) -> Outcome {
+// Makes an operation on from its call, which was answered so, to its reply or to what is in its way.
+fn finished<D: Device>(kernel: &mut Kernel<D>, txn: TxnNo, called: Outcome) -> Outcome {
     let mut outcome = called;
     for _step in 0..1000u16 {
         match outcome {

@@ -59,5 +59,5 @@ call_fails relations counters failed k t op =
     (first_fine (count_cause k t) _ (one_fine _ refusal.TooManyOperations (λ e. cc)) (first_fine (name_cause relations counters op) (size_cause op) (name_fine relations counters op) (size_fine op))))
 
 -- locks, escrow, pages and log refuse none with 2
-pub answered_fine : {D : Type 0} → (g : Ghosts D) (origin : Origin) (k : Core D) (kept t : ℕ) (op : Op) → IsAnswered g origin k kept t op true (Err refusal.DeviceFailed) → ⊥
+pub answered_fine : {D : Type 0} → (g : Ghosts D) (origin : Origin) (k : Core D) (kept t : ℕ) (op : Op) → IsAnswered g origin k kept t op (Err refusal.DeviceFailed) → ⊥
 answered_fine g origin k kept t op answered = answered.1.1

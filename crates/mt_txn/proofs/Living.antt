@@ -1,4 +1,4 @@
--- Who lives, who runs an operation, and which commits are under way, as a state tells it.
+-- Who lives, who runs an operation, and which commits are under way, as a state says it.
 use Rattle.std.proofs.Common.{◌≡◌, ◌≢◌, ◌==◌, ◌&&◌, ◌||◌, ◌∷◌, [], ℕ, suc, ◌≤◌, Bool, true, false, cond, List, get_or, Option, Some, None, is_some, ⊎_elim, refl, sym, ap, ◌∙◌, subst, arith}
 use Rattle.std.proofs.Props.{props}
 use Rattle.std.specs.Prelude.{All}

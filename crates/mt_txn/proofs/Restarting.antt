@@ -53,7 +53,7 @@ use Rattle.mt_txn.proofs.GoingOn.{stands_whole}
 use Rattle.mt_txn.specs.Restarted.{all_commits, FindsCommits, FindsMeanwhile}
 use Rattle.mt_txn.specs.Well.{IsOrigin, IsRestartableOn, RestartsFrom}
 
--- an area's bytes, as its slot tells them
+-- an area's bytes, as its slot says them
 slot_mib : (c : List ℕ) (slot : MasterSlot) → IsRuling c slot → 4194304 ≤ size_of slot
 slot_mib c slot rules = ⊎_elim
     (λ (r : Rules c 0 4096 slot). let mib = r.own.fits.mib.0 in omega (arith, mib))
@@ -131,7 +131,7 @@ module _ {D : Type 0} (g : Ghosts D) where
 
     -- ---- what a restart finds
 
-    -- a restart finds the base that the records stand for
+    -- a restart finds the base that the records represent
     restarted : (k : Core D) (origin : Origin) (base : Base) (c : List ℕ) → IsRestartableOn g relations counters first origin base k → (e : Explains origin.pages k.operations.store c) → IsRelationCount relations → CanRestart relations counters c (stands_for origin.begun (joined e.batches))
     restarted k origin base c x e schema =
         let slot = e.ruling in
@@ -213,7 +213,7 @@ module _ {D : Type 0} (g : Ghosts D) where
         before = λ t c le left. ∣ inl (subst (λ (e : D). g.left_since e t c) same left) ∣₁;
       }
 
-      -- and behind a run of calls that leaves parts whose commits are those of k
+      -- and after a run of calls that leaves parts whose commits are those of k
       pub then_finds : (k m : Core D) (d : D) → ((c : List ℕ) → FindsCommits relations counters first m c → ∥ FindsCommits relations counters first k c ∥₁) → FindsMeanwhile g relations counters first k m.operations.store.device → FindsMeanwhile g relations counters first m d
           → FindsMeanwhile g relations counters first k d
       then_finds k m d back one two = record {

@@ -1,4 +1,4 @@
--- What a survey tells, whatever the base that the pages hold.
+-- What a survey says, whatever the base that the pages hold.
 use Rattle.std.proofs.Common.{◌≡◌, ◌<◌, ℕ, List, [], Result, Ok, Err, IfOk, sym, ap, subst, ◌∙◌, arith}
 use Rattle.std.proofs.Props.{props}
 use mathlib.Core.Logic.{∥∥₁_elim}
@@ -19,7 +19,7 @@ use Rattle.mt_op.specs.declared.survey.Survey.{Survey}
 use Rattle.mt_pool.specs.Views.{pages, view}
 use Rattle.mt_space.specs.Rooms.{free_in, mapped}
 use Rattle.mt_steps.specs.Listed.{IsSame}
-use Rattle.mt_txn.specs.Surveyed.{TellsBase, TellsPages}
+use Rattle.mt_txn.specs.Surveyed.{SurveysBase, SurveysPages}
 use Rattle.mt_txn.specs.Well.{IsWell, ShowsIn}
 use Rattle.mt_txn.specs.declared.kernel.Kernel.{Kernel}
 
@@ -27,7 +27,7 @@ module _ {D : Type 0} (g : Ghosts D) (k : Core D) where
   abbrev pub Finds : Result Survey Refusal → Type 0
   Finds r = (origin : Origin) (base : Base) → IsConsistent g origin base k → IfOk r (IsSurvey origin.relations origin.counters (pages k.operations.store.pool) (held_in (world g origin.pages k.operations)) base)
 
-  pub base_reported : (relations counters : ℕ) (first : Base) (s : State) (r : Result Survey Refusal) → Finds r → ShowsIn g relations counters first s k → IfOk r (TellsBase relations counters s.base)
+  pub base_reported : (relations counters : ℕ) (first : Base) (s : State) (r : Result Survey Refusal) → Finds r → ShowsIn g relations counters first s k → IfOk r (SurveysBase relations counters s.base)
   base_reported relations counters first s (Err why) finds shows = tt
   base_reported relations counters first s (Ok survey) finds shows = ∥∥₁_elim shows (hlevel props) (λ (origin, base, is, x).
       let outcome = finds origin base x.consistent in record {
@@ -49,6 +49,6 @@ module _ {D : Type 0} (g : Ghosts D) (k : Core D) where
       ))
 
 pub pages_reported : {D : Type 0} {g : Ghosts D} (k : Kernel D g) (r : Result Survey Refusal) → k.core.live.members ≡ [] → Finds g k.core r → IsWell g k.relations k.counters k.core
-    → IfOk r (TellsPages k)
+    → IfOk r (SurveysPages k)
 pages_reported k (Err why) nobody finds well = tt
 pages_reported {g = g} k (Ok survey) nobody finds well = let outcome = shown_held g k.core k.relations k.counters survey nobody finds well in record { depth = outcome.0; free = outcome.1 }

@@ -14,7 +14,7 @@ use Rattle.mt_model.specs.Model.{Base}
 use Rattle.mt_pool.specs.Views.{pages}
 use Rattle.mt_txn.specs.Causes.{IsFault}
 use Rattle.mt_txn.specs.Events.{HasAborted, HasReturned, InvertsTo}
-use Rattle.mt_txn.specs.Shown.{LeavesFound, ReadsDevice, SameSchema, Shows, StaysRestarting, TellsEachFault, is_failed, kernel_log, kernel_pool}
+use Rattle.mt_txn.specs.Shown.{LeavesFound, ReadsDevice, SameSchema, Shows, StaysRestarting, HidesNoFault, is_failed, kernel_log, kernel_pool}
 use Rattle.mt_txn.specs.Work.{IsAbortForOther, LowersUndoing, NoMoreAreLeft, NoneAreLeft}
 use Rattle.mt_txn.specs.declared.answers.AbortStepped.{AbortStepped}
 use Rattle.mt_txn.specs.declared.answers.AbortStepped.TheVariants.{Ended, Flush}
@@ -27,7 +27,7 @@ module _ {D : Type 0} {g : Ghosts D} where
       (result : Result AbortStepped Refusal) (n : Kernel D g) : Type 0 where
     pub why : IfErr result (λ why. why ≢ NoMemory → IsFault g k.core n.core why)
     pub fails : result ≡ Err DeviceFailed → is_failed n ≡ true
-    pub quiet : TellsEachFault k result n
+    pub quiet : HidesNoFault k result n
     pub states : IfOk result (λ stepped. stepped ≢ Ended → SameStates k.core n.core)
     pub work : LowersUndoing AtEnd (pages (kernel_pool k)) result (undo_steps k.core t) (undo_steps n.core t)
     pub other : IfOk result (λ stepped. IsAbortForOther k.core.live.members t stepped)

@@ -1,17 +1,14 @@
 -- What each call answers of a kernel that is lent, and what it leaves of it: k before, and n after the call.
-use Rattle.std.specs.Prelude.{ℕ, ◌≡◌, ◌≢◌, ◌⊎◌, Err, IfErr, IfOk, List, None, OnErr, OnOk, Option, Result, Ok, Some, ◌+◌, ◌++◌, ◌∷◌, [], filter, length}
+use Rattle.std.specs.Prelude.{ℕ, ◌≡◌, ◌≢◌, ◌⊎◌, IfErr, IfOk, None, OnErr, OnOk, Option, Result, Some, ◌+◌, filter, length}
 use Rattle.mt_disk.specs.declared.device.Device.{Ghosts}
 use Rattle.mt_base.specs.declared.refusal.Refusal.{Refusal}
 use Rattle.mt_base.specs.declared.refusal.Refusal.TheVariants.{NoMemory}
-use Rattle.mt_core.specs.Consistent.{SameCommits, SameStates, SameStatesBut, SetsState}
+use Rattle.mt_core.specs.Consistent.{SameCommits, SameStates, SetsState}
 use Rattle.mt_core.specs.Runs.{count_in, state_in}
 use Rattle.mt_core.specs.declared.calls.Called.{Called}
-use Rattle.mt_core.specs.declared.parts.Commit.{Commit}
-use Rattle.mt_frame.specs.declared.records.Record.TheVariants as record_of
 use Rattle.mt_live.specs.Machine.{State}
 use Rattle.mt_live.specs.Undoing.{is_counted}
-use Rattle.mt_live.specs.declared.transactions.TxnState.TheVariants.{Aborting, Committing, Open, Returning}
-use Rattle.mt_log.specs.Words.{appended, waiting}
+use Rattle.mt_live.specs.declared.transactions.TxnState.TheVariants.{Open, Returning}
 use Rattle.mt_model.specs.Model.{Base}
 use Rattle.mt_model.specs.declared.operations.Op.{Op}
 use Rattle.mt_pool.specs.declared.flushes.Flushed.{Flushed}
@@ -19,7 +16,6 @@ use Rattle.mt_txn.specs.Causes.{IsFailure, IsFault, IsRefusedAtOnce, abort_begin
 use Rattle.mt_txn.specs.Events.{AbortsTo, AnswersIn, IsForcedBy, ReturnsTo, StepsTo}
 use Rattle.mt_txn.specs.Seen.{KernelSeen, ShowsSeen, has_failed_in}
 use Rattle.mt_txn.specs.declared.answers.AbortStepped.{AbortStepped}
-use Rattle.mt_txn.specs.declared.answers.AbortStepped.TheVariants.{Ended}
 use Rattle.mt_txn.specs.declared.answers.KernelForced.{KernelForced}
 use Rattle.mt_txn.specs.declared.answers.Stepped.{Stepped}
 use Rattle.mt_core.specs.Seen.{core_log}
@@ -37,32 +33,24 @@ module _ {D : Type 0} where
     pub opened : IfOk result (λ txn. SetsState k.core n.core txn (Some Open))
     pub err : OnErr result (n.core ≡ k.core)
 
-  -- the commit is appended then, as the last of those under way, whose place in the book is answered; or no record is
+  -- the commit's place in the book is answered
   pub record AnswersCommit (k : KernelSeen D) (t : ℕ) (result : Result ℕ Refusal) (n : KernelSeen D) : Type 0 where
     pub refused : IsRefusedFor (commit_cause (has_failed_in k) k.core t) result
     pub early : IsRefusedAtOnce (commit_cause (has_failed_in k) k.core t) k result n
     pub place : IfOk result (λ place. place ≡ length k.core.book.items + length k.core.commits.items + 1)
-    pub queue : OnOk result ((c : Commit) × (c.txn ≡ t) × (c.place ≡ length (appended (core_log n.core)))
-        × (n.core.commits.items ≡ k.core.commits.items ++ c ∷ []))
-    pub waits : OnOk result (waiting (core_log n.core) ≡ waiting (core_log k.core) ++ record_of.Commit t ∷ [])
-    pub commits : OnOk result (SetsState k.core n.core t (Some Committing))
-    pub unappended : OnErr result (appended (core_log n.core) ≡ appended (core_log k.core))
-    pub states : OnErr result (SameStates k.core n.core × SameCommits k.core n.core)
 
-  -- the transaction is to be undone then, or nothing has changed
+  -- if it is refused, nothing has changed
   pub record AnswersAbort (k : KernelSeen D) (t : ℕ) (result : Result (Unit {0}) Refusal)
       (n : KernelSeen D) : Type 0 where
     pub may : OnOk result (abort_begin_cause (has_failed_in k) k.core t ≡ None)
     pub why : IfErr result (λ why. abort_begin_cause (has_failed_in k) k.core t ≡ Some why)
-    pub aborts : OnOk result (SetsState k.core n.core t (Some Aborting))
     pub err : OnErr result (n ≡ k)
 
-  -- the transaction goes back to its first so many operations then, or nothing has changed
+  -- if it is refused, nothing has changed
   pub record AnswersBack (k : KernelSeen D) (t first : ℕ) (result : Result (Unit {0}) Refusal)
       (n : KernelSeen D) : Type 0 where
     pub may : OnOk result (back_cause (has_failed_in k) k.core t first ≡ None)
     pub why : IfErr result (λ why. back_cause (has_failed_in k) k.core t first ≡ Some why)
-    pub returns : OnOk result (SetsState k.core n.core t (Some (Returning first)))
     pub err : OnErr result (n ≡ k)
 
 module _ {D : Type 0} (g : Ghosts D) where
@@ -91,36 +79,32 @@ module _ {D : Type 0} (g : Ghosts D) where
         → (step_cause (has_failed_in k) k.core t ≡ Some why) ⊎ IsFault g k.core n.core why)
     pub stepped : (first : Base) (s : State) → ShowsSeen g first s k → StepsTo (λ z. ShowsSeen g first z n) s t result
 
-  -- the transaction lives no more once this answers its end
+  -- the effects that it undid stand no more
   pub record AnswersAbortStep (k : KernelSeen D) (t : ℕ) (result : Result AbortStepped Refusal)
       (n : KernelSeen D) : Type 0 where
     pub may : OnOk result (abort_cause (has_failed_in k) k.core t ≡ None)
     pub early : IsRefusedAtOnce (abort_cause (has_failed_in k) k.core t) k result n
     pub why : IfErr result (λ why. why ≢ NoMemory
         → (abort_cause (has_failed_in k) k.core t ≡ Some why) ⊎ IsFault g k.core n.core why)
-    pub out : result ≡ Ok Ended → (state_in n.core.live.members t ≡ None) × SameStatesBut k.core n.core t
     pub aborted : (first : Base) (s : State) → ShowsSeen g first s k → AbortsTo (λ z. ShowsSeen g first z n) s t result
 
-  -- the transaction is open once this answers its end, and its first so many operations count
+  -- what it took back counts no more
   pub record AnswersBackStep (k : KernelSeen D) (t : ℕ) (result : Result AbortStepped Refusal)
       (n : KernelSeen D) : Type 0 where
     pub may : OnOk result (return_cause (has_failed_in k) k.core t ≡ None)
     pub early : IsRefusedAtOnce (return_cause (has_failed_in k) k.core t) k result n
     pub why : IfErr result (λ why. why ≢ NoMemory
         → (return_cause (has_failed_in k) k.core t ≡ Some why) ⊎ IsFault g k.core n.core why)
-    pub opened : (first : ℕ) → state_in k.core.live.members t ≡ Some (Returning first) → result ≡ Ok Ended
-        → SetsState k.core n.core t (Some Open) × (count_in n.core.live.members t ≡ Some first)
     pub returned : (base : Base) (s : State) (first : ℕ) → ShowsSeen g base s k
         → state_in k.core.live.members t ≡ Some (Returning first)
         → ReturnsTo (λ z. ShowsSeen g base z n) s t first result
 
 module _ {D : Type 0} (g : Ghosts D) where
-  -- the commits that are named are durable, and no record is appended
+  -- the commits that are named are durable
   pub record AnswersForce (k : KernelSeen D) (result : Result KernelForced Refusal) (n : KernelSeen D) : Type 0 where
     pub why : IfErr result (λ why. why ≢ NoMemory → IsFailure g (has_failed_in k) k.core n.core why)
     pub forced : IfOk result (λ forced. IsForcedBy (core_log k.core) k.core.commits.items forced (core_log n.core)
         n.core.commits.items)
-    pub unappended : appended (core_log n.core) ≡ appended (core_log k.core)
 
   -- the log stays as it is
   pub record AnswersFlush (k : KernelSeen D) (result : Result Flushed Refusal) (n : KernelSeen D) : Type 0 where

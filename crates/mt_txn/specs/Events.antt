@@ -35,7 +35,7 @@ use Rattle.mt_txn.specs.declared.kernel.Kernel.{Kernel}
 abbrev pub AnswersIn : {D : Type 0} → Ghosts D → ℕ → ℕ → Core D → ℕ → Op → Result Called Refusal → Type 0
 AnswersIn g relations counters k t op result =
     ∥ ((origin : Origin) × (base : Base) × IsOrigin relations counters origin.first origin
-    × IsConsistent g origin base k × IsAnswered g origin k (log_kept k) t op true result) ∥₁
+    × IsConsistent g origin base k × IsAnswered g origin k (log_kept k) t op result) ∥₁
 
 -- the same of a kernel, with the relations and counters that it has
 abbrev pub IsAnsweredBy : {D : Type 0} → {g : Ghosts D} → Kernel D g → ℕ → Op → Result Called Refusal → Type 0

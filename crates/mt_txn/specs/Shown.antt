@@ -59,8 +59,8 @@ FailsForGood k result n = (is_failed k ≡ true → (result ≡ Err DeviceFailed
     × (result ≡ Err DeviceFailed → is_failed n ≡ true) × (n.failed ≡ true → result ≡ Err DeviceFailed)
 
 -- The device failed in a call of kernel k only if the call is refused with 2.
-abbrev pub TellsEachFault : {D T : Type 0} → {g : Ghosts D} → Kernel D g → Result T Refusal → Kernel D g → Type 0
-TellsEachFault {g = g} k result n =
+abbrev pub HidesNoFault : {D T : Type 0} → {g : Ghosts D} → Kernel D g → Result T Refusal → Kernel D g → Type 0
+HidesNoFault {g = g} k result n =
     (result ≡ Err DeviceFailed → ⊥) → g.faults (kernel_device n) ≡ g.faults (kernel_device k)
 
 -- The device was called once at most.

@@ -14,14 +14,14 @@ use Rattle.mt_txn.specs.declared.kernel.Kernel.{Kernel}
 use Rattle.mt_txn.specs.Shown.{kernel_device, kernel_log, kernel_pool}
 
 -- It has the rows and the counters of this base, of so many relations and counters.
-pub record TellsBase (relations counters : ℕ) (base : Base) (survey : Survey) : Type 0 where
+pub record SurveysBase (relations counters : ℕ) (base : Base) (survey : Survey) : Type 0 where
   pub relations_reported : relations_of survey.base ≡ relations
   pub counters_reported : length (counters_of survey.base) ≡ counters
   pub same : IsSame counters (base_of survey.base) base
 
 -- It has the depth of the directory on page 1, and counts the free pages by the map on page 0, as pages and frames
 -- have them.
-pub record TellsPages {D : Type 0} {g : Ghosts D} (k : Kernel D g) (survey : Survey) : Type 0 where
+pub record SurveysPages {D : Type 0} {g : Ghosts D} (k : Kernel D g) (survey : Survey) : Type 0 where
   pub depth : survey.depth ≡ depth_in (view (kernel_pool k) (g.seen (kernel_device k)) 1)
   pub free : survey.free ≡ free_pages (pages (kernel_pool k)) (λ p. view (kernel_pool k) (g.seen (kernel_device k)) p)
 

@@ -22,12 +22,6 @@ HasNobody k = length k.core.live.members ≡ 0
 abbrev pub IsForced : {D : Type 0} {g : Ghosts D} → Kernel D g → Type 0
 IsForced k = durable (kernel_log k) ≡ appended (kernel_log k)
 
--- all of it but its operations and its escrow
-pub record IsRestOf {D : Type 0} {g : Ghosts D} (k : Kernel D g) (r : KernelRest) : Type 0 where
-  pub parts : parts.IsRestOf k.core r.rest
-  pub relations : r.relations ≡ k.relations
-  pub counters : r.counters ≡ k.counters
-
 -- No transaction is active in parts that can be restarted. This is their rest, and operations and an escrow are
 -- opened on what their book leads to.
 pub record GoesOn {D : Type 0} (g : Ghosts D) (first : Base) (k : Core D)

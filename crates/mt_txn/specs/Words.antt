@@ -4,7 +4,6 @@ use Rattle.mt_base.specs.declared.refusal.Refusal.{Refusal}
 use Rattle.mt_core.specs.Consistent.{SameCommits, SameRunning, SameStates, SameStatesBut, SameUncommitted, SetsState}
 use Rattle.mt_core.specs.Runs.{count_in, state_in}
 use Rattle.mt_core.specs.Seen.{core_commits, core_holds, core_last, core_store}
-use Rattle.mt_core.specs.Steps.{WantsFrame}
 use Rattle.mt_core.specs.Work.{LeavesUndo, steps_in, undo_steps}
 use Rattle.mt_core.specs.declared.parts.Commit.{Commit}
 use Rattle.mt_disk.specs.declared.device.Device.{Ghosts}
@@ -146,10 +145,6 @@ UndoStays k n = LeavesUndo k.core n.core
 -- no operation has begun, so none has taken a number
 abbrev pub NumbersStay : {D : Type 0} → {g : Ghosts D} → Kernel D g → Kernel D g → Type 0
 NumbersStay k n = kernel_last n ≡ kernel_last k
-
--- a page is to be flushed before a frame is free
-abbrev pub FrameIsWanted : {D : Type 0} → {g : Ghosts D} → Kernel D g → Kernel D g → Type 0
-FrameIsWanted k n = WantsFrame k.core n.core
 
 -- ---- what a restart finds
 

@@ -11,7 +11,8 @@ ghost use Rattle.mt_txn.specs.Causes.{IsRefusedAtOnce};
 ghost use Rattle.mt_txn.specs.Effects.{BeginsUndoing, LeavesAbort, MovesAbort};
 ghost use Rattle.mt_txn.specs.Aborted.{StepsAbort, StepsInverse};
 ghost use Rattle.mt_txn.specs.Events.{HasAborted};
-ghost use Rattle.mt_txn.specs.Shown.{FailsForGood, SameSchema, Shows, Stays, StaysRestarting, TellsEachFault, kernel_device, kernel_log, kernel_page_locks};
+ghost use Rattle.mt_txn.specs.Seen.{seen_of};
+ghost use Rattle.mt_txn.specs.Shown.{FailsForGood, SameSchema, Shows, Stays, StaysRestarting, HidesNoFault, kernel_device, kernel_log, kernel_page_locks};
 ghost use Rattle.mt_txn.specs.Work.{IsAbortReportedAs};
 ghost use Rattle.mt_txn.specs.Shown.{LeavesFound, ReadsDevice};
 ghost use Rattle.mt_txn.specs.PageLocks.{AbortsLocks};
@@ -39,7 +40,7 @@ impl<D: Device> Kernel<D> {
         ensures may { OnOk result (kernel_abort_begin_cause self.old txn ≡ None) }
         ensures cause { IfErr result (λ why. kernel_abort_begin_cause self.old txn ≡ Some why) }
         ensures state { Stays self.old self.new }
-        ensures begins { OnOk result (BeginsUndoing self.old txn Aborting self.new) }
+        ensures begins { OnOk result (BeginsUndoing (seen_of self.old) txn Aborting (seen_of self.new)) }
         ensures fails { FailsForGood self.old result self.new }
         ensures err { OnErr result (self.new ≡ self.old) }
         ensures schema { SameSchema self.old self.new }
@@ -155,10 +156,10 @@ impl<D: Device> Kernel<D> {
         ensures cause { IfErr result (λ why. why ≢ Refusal.NoMemory
             → (kernel_abort_cause self.old txn ≡ Some why)
             ⊎ IsKernelFault self.old self.new why) }
-        ensures moves { MovesAbort self.old txn result self.new }
-        ensures leaves { LeavesAbort self.old txn result self.new }
+        ensures moves { MovesAbort (seen_of self.old) txn result (seen_of self.new) }
+        ensures leaves { LeavesAbort (seen_of self.old) txn result (seen_of self.new) }
         ensures fails { FailsForGood self.old result self.new }
-        ensures quiet { TellsEachFault self.old result self.new }
+        ensures quiet { HidesNoFault self.old result self.new }
         ensures schema { SameSchema self.old self.new }
         ensures restarts { StaysRestarting self.old self.new }
         ensures moments { LeavesFound self.old self.new }

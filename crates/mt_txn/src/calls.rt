@@ -49,6 +49,6 @@ impl<D: Device> Kernel<D> {
         if let Some(why) = self.call_cause(txn, op) {
             return Err(why);
         }
-        self.core.call(self.alloc, txn, op, true)
+        self.core.call(self.alloc, txn, op)
     }
 }

@@ -8,7 +8,8 @@ ghost use Rattle.mt_core.specs.Answered.{KeepsAtCommit};
 ghost use Rattle.mt_txn.specs.Causes.{IsRefusedAtOnce};
 ghost use Rattle.mt_txn.specs.Effects.{FlushesPage, KeepsAtForce, LogsCommit};
 ghost use Rattle.mt_txn.specs.Events.{HasForced, IsForcedBy};
-ghost use Rattle.mt_txn.specs.Shown.{FailsForGood, SameSchema, Shows, Stays, StaysRestarting, TellsEachFault, is_failed, kernel_log};
+ghost use Rattle.mt_txn.specs.Seen.{seen_of};
+ghost use Rattle.mt_txn.specs.Shown.{FailsForGood, SameSchema, Shows, Stays, StaysRestarting, HidesNoFault, is_failed, kernel_log};
 ghost use Rattle.mt_txn.specs.Shown.{CallsOnce, LeavesFound};
 ghost use Rattle.mt_txn.specs.Words.{kernel_book, kernel_commits, kernel_commit_cause, IsKernelFailure, UndoStays};
 
@@ -34,7 +35,7 @@ impl<D: Device> Kernel<D> {
         ensures state { Stays self.old self.new }
         ensures place { IfOk result (λ place.
             place ≡ length (kernel_book self.old) + length (kernel_commits self.old) + 1) }
-        ensures logs { LogsCommit self.old txn result self.new }
+        ensures logs { LogsCommit (seen_of self.old) txn result (seen_of self.new) }
         ensures keeps { KeepsAtCommit self.old.core self.new.core }
         ensures fails { FailsForGood self.old result self.new }
         ensures schema { SameSchema self.old self.new }
@@ -61,9 +62,9 @@ impl<D: Device> Kernel<D> {
             (kernel_commits self.old) forced (kernel_log self.new) (kernel_commits self.new)) }
         ensures fails { FailsForGood self.old result self.new }
         ensures well { IsOk result → is_failed self.new ≡ false }
-        ensures keeps { KeepsAtForce self.old result self.new }
+        ensures keeps { KeepsAtForce (seen_of self.old) result (seen_of self.new) }
         ensures memory { result ≡ Err Refusal.NoMemory → self.new ≡ self.old }
-        ensures quiet { TellsEachFault self.old result self.new }
+        ensures quiet { HidesNoFault self.old result self.new }
         ensures forced { (first : Base) (s : State) → Shows first s self.old
             → HasForced first s result self.new }
         ensures schema { SameSchema self.old self.new }
@@ -95,12 +96,12 @@ impl<D: Device> Kernel<D> {
     /// before.
     pub fn flush_step(&mut self) -> Result<Flushed, Refusal>
         ensures cause { IfErr result (IsKernelFailure self.old self.new) }
-        ensures flushes { FlushesPage self.old result self.new }
+        ensures flushes { FlushesPage (seen_of self.old) result (seen_of self.new) }
         ensures rest { OnlyOperations self.old.core self.new.core }
         ensures log { kernel_log self.new ≡ kernel_log self.old }
         ensures undo { UndoStays self.old self.new }
         ensures fails { FailsForGood self.old result self.new }
-        ensures quiet { TellsEachFault self.old result self.new }
+        ensures quiet { HidesNoFault self.old result self.new }
         ensures state { Stays self.old self.new }
         ensures schema { SameSchema self.old self.new }
         ensures restarts { StaysRestarting self.old self.new }

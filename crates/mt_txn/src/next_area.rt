@@ -8,7 +8,7 @@ ghost use Rattle.mt_model.specs.History.{after};
 ghost use Rattle.mt_model.specs.Model.{Base};
 ghost use Rattle.mt_replay.specs.Stands.{CanRestart};
 ghost use Rattle.mt_txn.specs.Shown.{IsFoundIn, Restarts, is_failed, kernel_device, kernel_log};
-ghost use Rattle.mt_txn.specs.Turned.{CanGoOn, HasNobody, IsForced, IsRestOf, Resumes};
+ghost use Rattle.mt_txn.specs.Turned.{CanGoOn, HasNobody, IsForced, Resumes};
 ghost use Rattle.mt_txn.specs.Words.{kernel_book, kernel_commits};
 ghost use Rattle.mt_op.specs.Operations.{operation_log};
 
@@ -72,29 +72,6 @@ impl<D: Device> Kernel<D> {
 }
 
 impl<D: Device + Drop> Kernel<D> {
-    /// The device, and what outlasts the log's area. What lived is gone, and nothing of it is taken back. It takes no
-    /// memory.
-    pub fn part(self) -> (D, KernelRest)
-        ensures device { result.0 ≡ kernel_device self }
-        ensures rest { IsRestOf self result.1 }
-    {
-        let Kernel {
-            core,
-            alloc,
-            relations,
-            counters,
-            failed: _,
-        } = self;
-        let (device, rest) = core.part();
-        let rest = KernelRest {
-            rest,
-            alloc,
-            relations,
-            counters,
-        };
-        (device, rest)
-    }
-
     /// The device, for another opening. What lived is gone, and nothing of it is taken back. It takes no memory.
     ///
     /// Whatever a crash leaves of it, a restart finds what some of the first commits lead to, each alone, in their
@@ -104,7 +81,14 @@ impl<D: Device + Drop> Kernel<D> {
         ensures device { result ≡ kernel_device self }
         ensures found { IsFoundIn self result }
     {
-        let (device, _rest) = self.part();
+        let Kernel {
+            core,
+            alloc: _,
+            relations: _,
+            counters: _,
+            failed: _,
+        } = self;
+        let (device, _rest) = core.part();
         device
     }
 }

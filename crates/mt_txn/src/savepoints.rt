@@ -11,7 +11,8 @@ ghost use Rattle.mt_txn.specs.Aborted.{StepsReturn};
 ghost use Rattle.mt_txn.specs.Causes.{IsRefusedAtOnce, IsSavepoint};
 ghost use Rattle.mt_txn.specs.Effects.{BeginsUndoing, LeavesReturn, MovesReturn};
 ghost use Rattle.mt_txn.specs.Events.{HasReturned};
-ghost use Rattle.mt_txn.specs.Shown.{FailsForGood, LeavesFound, ReadsDevice, SameSchema, Shows, Stays, StaysRestarting, TellsEachFault, kernel_page_locks};
+ghost use Rattle.mt_txn.specs.Seen.{seen_of};
+ghost use Rattle.mt_txn.specs.Shown.{FailsForGood, LeavesFound, ReadsDevice, SameSchema, Shows, Stays, StaysRestarting, HidesNoFault, kernel_page_locks};
 ghost use Rattle.mt_txn.specs.Words.{kernel_back_cause, kernel_commit_cause, kernel_count, kernel_is_busy, kernel_last, kernel_return_cause, kernel_running, kernel_state, kernel_store, IsKernelFault, NumbersStay};
 
 use crate::answers::AbortStepped;
@@ -52,7 +53,7 @@ impl<D: Device> Kernel<D> {
         ensures standing { (base : Base) (s : State) → Shows base s self.old
             → IsSavepoint (length (filter (is_counted txn) s.standing)) first result }
         ensures state { Stays self.old self.new }
-        ensures begins { OnOk result (BeginsUndoing self.old txn (Returning first) self.new) }
+        ensures begins { OnOk result (BeginsUndoing (seen_of self.old) txn (Returning first) (seen_of self.new)) }
         ensures fails { FailsForGood self.old result self.new }
         ensures err { OnErr result (self.new ≡ self.old) }
         ensures schema { SameSchema self.old self.new }
@@ -105,14 +106,14 @@ impl<D: Device> Kernel<D> {
         ensures cause { IfErr result (λ why. why ≢ Refusal.NoMemory
             → (kernel_return_cause self.old txn ≡ Some why)
             ⊎ IsKernelFault self.old self.new why) }
-        ensures moves { MovesReturn self.old txn result self.new }
-        ensures leaves { LeavesReturn self.old txn result self.new }
+        ensures moves { MovesReturn (seen_of self.old) txn result (seen_of self.new) }
+        ensures leaves { LeavesReturn (seen_of self.old) txn result (seen_of self.new) }
         // If no operation is under way, it is refused memory only if an operation is left to undo.
         ensures needed { (base : Base) (s : State) (first : ℕ) → Shows base s self.old
             → kernel_state self.old txn ≡ Some (Returning first) → kernel_is_busy self.old txn ≡ false
             → result ≡ Err Refusal.NoMemory → is_some (last_effect txn (after_first txn first s.standing)) ≡ true }
         ensures fails { FailsForGood self.old result self.new }
-        ensures quiet { TellsEachFault self.old result self.new }
+        ensures quiet { HidesNoFault self.old result self.new }
         ensures schema { SameSchema self.old self.new }
         ensures restarts { StaysRestarting self.old self.new }
         ensures moments { LeavesFound self.old self.new }

@@ -8,7 +8,8 @@ ghost use Rattle.mt_txn.specs.Causes.{IsRefusedAtOnce};
 ghost use Rattle.mt_txn.specs.Effects.{LeavesStep, MovesStep};
 ghost use Rattle.mt_txn.specs.Work.{IsReportedAs};
 ghost use Rattle.mt_txn.specs.Events.{HasStepped};
-ghost use Rattle.mt_txn.specs.Shown.{FailsForGood, SameSchema, Shows, StaysRestarting, TellsEachFault};
+ghost use Rattle.mt_txn.specs.Seen.{seen_of};
+ghost use Rattle.mt_txn.specs.Shown.{FailsForGood, SameSchema, Shows, StaysRestarting, HidesNoFault};
 ghost use Rattle.mt_txn.specs.Shown.{LeavesFound, ReadsDevice};
 ghost use Rattle.mt_txn.specs.Words.{kernel_running, kernel_step_cause, IsKernelFault};
 
@@ -39,10 +40,10 @@ impl<D: Device> Kernel<D> {
         ensures cause { IfErr result (λ why. why ≢ Refusal.NoMemory
             → (kernel_step_cause self.old txn ≡ Some why)
             ⊎ IsKernelFault self.old self.new why) }
-        ensures moves { MovesStep self.old txn result self.new }
-        ensures leaves { LeavesStep self.old result self.new }
+        ensures moves { MovesStep (seen_of self.old) txn result (seen_of self.new) }
+        ensures leaves { LeavesStep (seen_of self.old) result (seen_of self.new) }
         ensures fails { FailsForGood self.old result self.new }
-        ensures quiet { TellsEachFault self.old result self.new }
+        ensures quiet { HidesNoFault self.old result self.new }
         ensures schema { SameSchema self.old self.new }
         ensures restarts { StaysRestarting self.old self.new }
         ensures moments { LeavesFound self.old self.new }

@@ -4,8 +4,8 @@ ghost use Rattle.mt_base.specs.declared.refusal.Refusal.{Refusal};
 ghost use Rattle.mt_live.specs.Machine.{State};
 ghost use Rattle.mt_model.specs.Model.{Base};
 ghost use Rattle.mt_txn.specs.Causes.{IsRefusedAtOnce};
-ghost use Rattle.mt_txn.specs.Shown.{FailsForGood, SameSchema, Shows, Stays, StaysRestarting, TellsEachFault};
-ghost use Rattle.mt_txn.specs.Surveyed.{ReadsPages, TellsBase, TellsPages};
+ghost use Rattle.mt_txn.specs.Shown.{FailsForGood, SameSchema, Shows, Stays, StaysRestarting, HidesNoFault};
+ghost use Rattle.mt_txn.specs.Surveyed.{ReadsPages, SurveysBase, SurveysPages};
 ghost use Rattle.mt_txn.specs.Shown.{LeavesFound};
 ghost use Rattle.mt_txn.specs.Words.{kernel_survey_cause, IsKernelFault};
 
@@ -28,15 +28,15 @@ impl<D: Device> Kernel<D> {
             → (kernel_survey_cause self.old ≡ Some why)
             ⊎ IsKernelFault self.old self.new why) }
         ensures base { (first : Base) (s : State) → Shows first s self.old
-            → IfOk result (TellsBase self.old.relations self.old.counters s.base) }
-        ensures pages { IfOk result (TellsPages self.old) }
+            → IfOk result (SurveysBase self.old.relations self.old.counters s.base) }
+        ensures pages { IfOk result (SurveysPages self.old) }
         ensures state { Stays self.old self.new }
         ensures reads { ReadsPages self.old self.new }
         ensures schema { SameSchema self.old self.new }
         ensures restarts { StaysRestarting self.old self.new }
         ensures moments { LeavesFound self.old self.new }
         ensures fails { FailsForGood self.old result self.new }
-        ensures quiet { TellsEachFault self.old result self.new }
+        ensures quiet { HidesNoFault self.old result self.new }
     {
         if self.has_failed() {
             return Err(Refusal::DeviceFailed);

@@ -35,7 +35,7 @@ use Rattle.mt_world.specs.declared.events.Answer.{Answer}
 use Rattle.mt_world.specs.declared.events.Event.{Event}
 use Rattle.mt_restart.specs.declared.standing.Standing.{Standing}
 
--- a refusal with 2 tells that the device failed
+-- a refusal with 2 says that the device failed
 failed_of : (c : List ℕ) (failed : Type 0) (why : Refusal) → IsCauseToStop c failed why → why ≡ refusal.DeviceFailed → failed
 failed_of c failed why (inl cause) is = subst (λ (w : Refusal). IsCause BreaksFormat c failed w) is cause
 failed_of c failed why (inr (inl full)) is = let wrong : refusal.LogFull ≡ refusal.DeviceFailed = sym full.0 ∙ is in absurd cc
@@ -67,7 +67,7 @@ module _ {D : Type 0} {g : Ghosts D} where
       ap (λ (cs : List Committed). cs ++ in_turn (session_in ms) (txns_of k.core.commits.items) k.core.live.standing) book
       ∙ ap (λ (cs : List CommitUnderWay). in_turn (session_in ms) (txns_of cs) k.core.live.standing) none)
 
-  -- what stands for the base that it began on is found with none of its commits
+  -- what represents the base that it began on is found with none of its commits
   finds_first : (k : Kernel D g) (relations counters : ℕ) (first : Base) (c : List ℕ) → IsOpened relations counters first k → CanRestart relations counters c first → ∥ FindsCommits k.relations k.counters first k.core c ∥₁
   finds_first k relations counters first c opened can = ∥∥₁_map (no_commit_yet k first opened.shows) (λ none. record {
     base = first;

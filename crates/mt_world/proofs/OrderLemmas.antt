@@ -1,17 +1,17 @@
--- What one more event with its answer tells, and the commits that begin with it.
+-- What one more event with its answer says, and the commits that begin with it.
 use Rattle.std.proofs.Common.{◌≡◌, ◌<◌, ℕ, suc, List, [], ◌∷◌, ◌++◌, length, take, get_or, refl, ap, ap₂, sym, ◌∙◌, append_assoc, append-nil, arith}
 use Rattle.std.proofs.lemmas.List.{length-take-le}
 use Rattle.std.proofs.Math.Seq.{take-suc}
-use Rattle.mt_world.specs.Reported.{Reported, acknowledged, committing, named, nothing_reported, started_by, tells, reported_from, reported_of}
+use Rattle.mt_world.specs.Reported.{Reported, acknowledged, committing, named, nothing_reported, started_by, with_answer, reported_from, reported_of}
 use Rattle.mt_world.specs.declared.events.Answer.{Answer}
 use Rattle.mt_world.specs.declared.events.Event.{Event}
 
 pub reported_more : (t : ℕ) (outcome : Reported) (events : List Event) (answers : List Answer) (event : Event) (answer : Answer) → length events ≡ length answers
-    → reported_from t outcome (events ++ event ∷ []) (answers ++ answer ∷ []) ≡ tells t (reported_from t outcome events answers) event answer
+    → reported_from t outcome (events ++ event ∷ []) (answers ++ answer ∷ []) ≡ with_answer t (reported_from t outcome events answers) event answer
 reported_more t outcome [] [] event answer same = refl
 reported_more t outcome [] (a ∷ answers) event answer same = absurd (omega arith)
 reported_more t outcome (e ∷ events) [] event answer same = absurd (omega arith)
-reported_more t outcome (e ∷ events) (a ∷ answers) event answer same = reported_more t (tells t outcome e a) events answers event answer (omega arith)
+reported_more t outcome (e ∷ events) (a ∷ answers) event answer same = reported_more t (with_answer t outcome e a) events answers event answer (omega arith)
 
 pub acknowledged_more : (answers : List Answer) (answer : Answer) → acknowledged (answers ++ answer ∷ []) ≡ acknowledged answers ++ named answer
 acknowledged_more [] answer = append-nil (named answer)
@@ -37,7 +37,7 @@ module _ (events : List Event) (answers : List Answer) (same : length answers �
   short : length (take i events) ≡ length (take i answers)
   short = let one = length-take-le i events (omega (arith, inside)) in let two = length-take-le i answers (omega (arith, inside, same)) in omega (arith, one, two)
 
-  pub reported_next : (t : ℕ) → reported_of (take (suc i) events) (take (suc i) answers) t ≡ tells t (reported_of (take i events) (take i answers) t) event answer
+  pub reported_next : (t : ℕ) → reported_of (take (suc i) events) (take (suc i) answers) t ≡ with_answer t (reported_of (take i events) (take i answers) t) event answer
   reported_next t = ap₂ (λ (es : List Event) (as' : List Answer). reported_of es as' t) events_on answers_on ∙ reported_more t nothing_reported (take i events) (take i answers) event answer short
 
   pub committing_next : committing (take (suc i) events) (take (suc i) answers) ≡ committing (take i events) (take i answers) ++ started_by event answer

@@ -1,4 +1,4 @@
--- What the answers tell of a transaction that is open or commits is what the state has of it.
+-- What the answers say of a transaction that is open or commits is what the state has of it.
 use Rattle.std.proofs.Common.{◌≡◌, ◌≢◌, ◌<◌, ◌≤◌, ◌==◌, ℕ, Bool, true, false, not, cond, zero, suc, List, [], ◌∷◌, ◌++◌, drop, map, take, Option, Some, None, is_some, ⊎_elim, refl, ap, ap₂, sym, subst, ◌∙◌, append_assoc, append-nil, arith}
 use Rattle.std.specs.Prelude.{All, AllPairs, ◌||◌, ◌&&◌, filter, ⊤}
 use Rattle.std.specs.List.{list_any}
@@ -120,7 +120,7 @@ runs_nothing b s t k dead = go (s.running t) refl
 
 -- ---- of all of them
 
--- what the answers tell of those that are open, commit or go back is so, and of the others those that were acknowledged are in the book
+-- what the answers say of those that are open, commit or go back is so, and of the others those that were acknowledged are in the book
 pub record AreReported (s : State) (phase : ℕ → Option TxnState) (outcome : ℕ → Reported) (names : List ℕ) : Type 0 where
   pub each : (t : ℕ) (x : Option ℕ) → known_as (phase t) ≡ Some x → IsKnown s t x (outcome t)
   pub book : s.book ≡ map (λ t. commit_of (outcome t)) names

@@ -49,7 +49,7 @@ use Rattle.mt_world.specs.Moves.IsStill.{is_refused, call_waits, step_went, step
 use Rattle.mt_world.specs.Moves.Moves.{stays, begins, calls, ends, drops, undoes, aborts, returns, settles, books}
 use Rattle.mt_world.specs.Schedules.{HasMade, HasRun, Makes}
 use Rattle.mt_world.specs.Schedules.Makes.{starts, goes_on}
-use Rattle.mt_world.specs.Reported.{Reported, acknowledged, commit_of, commit_order, committing, named, nothing_reported, started_by, tells, reported_of}
+use Rattle.mt_world.specs.Reported.{Reported, acknowledged, commit_of, commit_order, committing, named, nothing_reported, started_by, with_answer, reported_of}
 use Rattle.mt_world.specs.declared.events.Answer.{Answer}
 use Rattle.mt_world.specs.declared.events.Answer.TheVariants.{Refused}
 use Rattle.mt_world.specs.declared.events.Event.{Event}
@@ -111,7 +111,7 @@ none_under_way ms (c ∷ cs) each dead =
     let commits : is_some (state_in ms c.txn) ≡ true = ap (λ (o : Option TxnState). is_some o) (All-head (λ (d : CommitUnderWay). state_in ms d.txn ≡ Some IsCommitting) c cs each) in
     let wrong : true ≡ false = sym commits ∙ dead c.txn in absurd cc
 
--- one more is under way behind the others
+-- one more is under way after the others
 one_more : (cs ds : List CommitUnderWay) (t : ℕ) → (c : CommitUnderWay) × (c.txn ≡ t) × (ds ≡ cs ++ c ∷ []) → txns_of ds ≡ txns_of cs ++ t ∷ []
 one_more cs ds t (c, own, is) =
     ap (λ (l : List CommitUnderWay). txns_of l) is ∙ map-append (λ (d : CommitUnderWay). d.txn) cs (c ∷ []) ∙ ap (λ (u : ℕ). txns_of cs ++ u ∷ []) own
@@ -147,8 +147,8 @@ module _ {D : Type 0} {g : Ghosts D} (first : Base) where
   Phase k t = state_in k.core.live.members t
 
   module _ (s : State) (k n : Kernel D g) (outcome : ℕ → Reported) (names : List ℕ) where
-    abbrev TellsOn : State → Event → Answer → Type 0
-    TellsOn z event answer = AreReported z (Phase n) (λ t. tells t (outcome t) event answer) (names ++ named answer)
+    abbrev ReportsOn : State → Event → Answer → Type 0
+    ReportsOn z event answer = AreReported z (Phase n) (λ t. with_answer t (outcome t) event answer) (names ++ named answer)
 
     no_names : (z : State) (phase : ℕ → Option TxnState) (x : ℕ → Reported) → AreReported z phase x names → AreReported z phase x (names ++ [])
     no_names z phase x are = subst (AreReported z phase x) (sym (append-nil names)) are
@@ -169,7 +169,7 @@ module _ {D : Type 0} {g : Ghosts D} (first : Base) where
             (λ (own : u ≡ t). ap (λ (v : ℕ). known_as (Phase k v)) own ∙ was x (ap known_as (sym (sets u ∙ ap (put (Phase k) t (Some state)) own ∙ put_own (Phase k) t (Some state))) ∙ known))
             (λ (other : u ≢ t). ap known_as (sym (sets u ∙ put_other (Phase k) t (Some state) u other)) ∙ known) (cases_eq u t)
 
-    refused_reported : (event : Event) (why : Refusal) → SetsPhases k event (Refused why) n → AreReported s (Phase k) outcome names → TellsOn s event (Refused why)
+    refused_reported : (event : Event) (why : Refusal) → SetsPhases k event (Refused why) n → AreReported s (Phase k) outcome names → ReportsOn s event (Refused why)
     refused_reported (Begin session) why same are = same_reported same are
     refused_reported (CallOf t op) why same are = same_reported same are
     refused_reported (Step t) why same are = same_reported same are
@@ -189,37 +189,37 @@ module _ {D : Type 0} {g : Ghosts D} (first : Base) where
       opened : (t : ℕ) → kernel_commit_cause k t ≡ None → Phase k t ≡ Some Open
       opened t may = open_state (Phase k t) (not_refused (is_failed k) (is_open (Phase k t)) (busy_cause k.core t) may)
 
-      still_tells : (event : Event) (answer : Answer) → IsStill event answer → IsDue k event answer n → SetsPhases k event answer n → AreReported s (Phase k) outcome names → TellsOn s event answer
-      still_tells _ _ (is_refused event why) due same are = refused_reported event why same are
-      still_tells _ _ (call_waits t op holder) due same are = same_reported same are
-      still_tells _ _ (step_went t) due same are = same_reported same are
-      still_tells _ _ (step_waits t other) due same are = same_reported same are
-      still_tells _ _ (step_again t) due same are = same_reported same are
-      still_tells _ _ (step_full t) due same are = same_reported same are
-      still_tells _ _ (commit_begun t place) due sets are = set_reported t IsCommitting (λ x known. ap known_as (opened t due.0) ∙ known) sets.0 are
-      still_tells _ _ (abort_begun t) due sets are = set_reported t IsAborting (λ x known. absurd cc) sets.0 are
-      still_tells _ _ (abort_went t) due same are = same_reported same are
-      still_tells _ _ (abort_waits t other) due same are = same_reported same are
-      still_tells _ _ (abort_again t) due same are = same_reported same are
-      still_tells _ _ (abort_full t) due same are = same_reported same are
-      still_tells _ _ (back_begun t m) due sets are =
+      still_reports : (event : Event) (answer : Answer) → IsStill event answer → IsDue k event answer n → SetsPhases k event answer n → AreReported s (Phase k) outcome names → ReportsOn s event answer
+      still_reports _ _ (is_refused event why) due same are = refused_reported event why same are
+      still_reports _ _ (call_waits t op holder) due same are = same_reported same are
+      still_reports _ _ (step_went t) due same are = same_reported same are
+      still_reports _ _ (step_waits t other) due same are = same_reported same are
+      still_reports _ _ (step_again t) due same are = same_reported same are
+      still_reports _ _ (step_full t) due same are = same_reported same are
+      still_reports _ _ (commit_begun t place) due sets are = set_reported t IsCommitting (λ x known. ap known_as (opened t due.0) ∙ known) sets.0 are
+      still_reports _ _ (abort_begun t) due sets are = set_reported t IsAborting (λ x known. absurd cc) sets.0 are
+      still_reports _ _ (abort_went t) due same are = same_reported same are
+      still_reports _ _ (abort_waits t other) due same are = same_reported same are
+      still_reports _ _ (abort_again t) due same are = same_reported same are
+      still_reports _ _ (abort_full t) due same are = same_reported same are
+      still_reports _ _ (back_begun t m) due sets are =
           no_names s (Phase n) _ (reported_back s t m (Phase k) (Phase n) outcome names (opened t (first_none (kernel_commit_cause k t) (savepoint_cause k.core t m) due)) sets.0 are)
-      still_tells _ _ (return_went t) due same are = same_reported same are
-      still_tells _ _ (return_waits t other) due same are = same_reported same are
-      still_tells _ _ (return_again t) due same are = same_reported same are
-      still_tells _ _ (return_full t) due same are = same_reported same are
-      still_tells _ _ force_went due same are = forced_reported (commits_on due.1) same are
-      still_tells _ _ force_idle due same are = forced_reported (commits_on due.1) same are
-      still_tells _ _ (flushed reported_so) due same are = same_reported same are
-      still_tells _ _ rotated due same are = same_reported same are
+      still_reports _ _ (return_went t) due same are = same_reported same are
+      still_reports _ _ (return_waits t other) due same are = same_reported same are
+      still_reports _ _ (return_again t) due same are = same_reported same are
+      still_reports _ _ (return_full t) due same are = same_reported same are
+      still_reports _ _ force_went due same are = forced_reported (commits_on due.1) same are
+      still_reports _ _ force_idle due same are = forced_reported (commits_on due.1) same are
+      still_reports _ _ (flushed reported_so) due same are = same_reported same are
+      still_reports _ _ rotated due same are = same_reported same are
 
       undone_back : (t : ℕ) → abort_cause (is_failed k) k.core t ≡ None → SamePhases k n → known_as (Phase n t) ≡ None
       undone_back t may same = ap known_as (same.0 t) ∙ aborting_back (is_failed k) (Phase k t) may
 
       moves_reported : (z : State) (event : Event) (answer : Answer) (more : List Act) → Moves (Phase k) s event answer more z → IsDue k event answer n → SetsPhases k event answer n
           → Shows first z n → IsKept first s → All (λ (c : CommitUnderWay). Phase k c.txn ≡ Some IsCommitting) k.core.commits.items → AllPairs (λ (a b : CommitUnderWay). a.txn ≢ b.txn) k.core.commits.items
-          → AreReported s (Phase k) outcome names → TellsOn z event answer
-      moves_reported _ _ _ _ (stays event answer is) due phases shows kept each apart are = still_tells event answer is due phases are
+          → AreReported s (Phase k) outcome names → ReportsOn z event answer
+      moves_reported _ _ _ _ (stays event answer is) due phases shows kept each apart are = still_reports event answer is due phases are
       moves_reported z _ _ _ (begins session) due phases shows kept each apart are = no_names (begun s session) (Phase n) _ (reported_begun first s session (Phase k) (Phase n) outcome names kept phases.0 are)
       moves_reported z _ _ _ (calls t op) due phases shows kept each apart are = no_names (called s t op) (Phase n) _ (reported_called s t op (Phase k) (Phase n) outcome names phases.0 are)
       moves_reported z _ _ _ (ends t op runs) due phases shows kept each apart are =
@@ -329,7 +329,7 @@ module _ {D : Type 0} {g : Ghosts D} (first : Base) where
       (subst (λ (outcome : ℕ → Reported). AreReported z (Phase n) outcome (acknowledged answers ++ named answer)) (λ i t. sym (reported_more t nothing_reported events answers event answer (makes_same events answers acts s k before)) i)
       (moves_reported s k n (λ t. reported_of events answers t) (acknowledged answers) queued.all y.consistent.fit.queued.each z event answer more made.moves made.due made.phases made.shows kept queued.each queued.apart are))))))
 
-  -- the acknowledged ones, and those under way behind them, are all that have begun
+  -- the acknowledged ones, and those under way after them, are all that have begun
   makes_queue : (events : List Event) (answers : List Answer) (acts : List Act) (s : State) (n : Kernel D g) → Makes first events answers acts s n
       → ∥ acknowledged answers ++ txns_of n.core.commits.items ≡ committing events answers ∥₁
   makes_queue _ _ _ _ n (starts k shows) = ∥∥₁_map shows (λ (origin, base, is, x).

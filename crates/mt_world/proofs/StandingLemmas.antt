@@ -60,7 +60,7 @@ module _ {D : Type 0} (g : Ghosts D) (only_now : (d : D) (c : List ℕ) → g.le
       schema = schema;
     }
 
-    -- behind answers of a kernel that has not failed, any other comes
+    -- after answers of a kernel that has not failed, any other comes
     unbroken : (events : List Event) (answers : List Answer) (answer : Answer) (k : Kernel D g) → early_cause k ≡ None → HasRun first events answers k → StayBroken (answers ++ answer ∷ [])
     unbroken events answers answer k may run =
         stay_more answers answer run.broken

@@ -28,7 +28,7 @@ use Rattle.mt_world.specs.Schedules.{HasEnded, HasRun, HasRunTo, IsOfSchema}
 use Rattle.mt_restart.specs.Standings.{device_at}
 use Rattle.mt_world.specs.Stopped.{BeginsWithin, FindsFirst, IsCrashRun, IsStoppedRun}
 use Rattle.mt_world.specs.Stopping.{StopsAt, below}
-use Rattle.mt_world.specs.Reported.{Reported, acknowledged, commit_of, commit_order, committing, named, nothing_reported, started_by, tells, reported_from, reported_of}
+use Rattle.mt_world.specs.Reported.{Reported, acknowledged, commit_of, commit_order, committing, named, nothing_reported, started_by, with_answer, reported_from, reported_of}
 use Rattle.mt_world.specs.declared.crash.CrashRun.{CrashRun}
 use Rattle.mt_world.specs.declared.events.Answer.{Answer}
 use Rattle.mt_world.specs.declared.events.Answer.TheVariants.{Refused}
@@ -39,20 +39,20 @@ use Rattle.mt_restart.specs.declared.standing.Standing.TheVariants.{Stands, Ende
 use Rattle.mt_world.specs.declared.stopping_device.StoppingDevice.{StoppingDevice}
 use Rattle.mt_txn.specs.Shown.{kernel_device}
 
--- ---- what a refused event tells
+-- ---- what a refused event says
 
-refused_tells : (t : ℕ) (x : Reported) (event : Event) (why : Refusal) → tells t x event (Refused why) ≡ x
-refused_tells t x (Begin session) why = refl
-refused_tells t x (Call u op) why = refl
-refused_tells t x (Step u) why = refl
-refused_tells t x (Commit u) why = refl
-refused_tells t x (AbortBegin u) why = refl
-refused_tells t x (AbortStep u) why = refl
-refused_tells t x (Back u first) why = refl
-refused_tells t x (BackStep u) why = refl
-refused_tells t x Force why = refl
-refused_tells t x Flush why = refl
-refused_tells t x Rotate why = refl
+refused_same : (t : ℕ) (x : Reported) (event : Event) (why : Refusal) → with_answer t x event (Refused why) ≡ x
+refused_same t x (Begin session) why = refl
+refused_same t x (Call u op) why = refl
+refused_same t x (Step u) why = refl
+refused_same t x (Commit u) why = refl
+refused_same t x (AbortBegin u) why = refl
+refused_same t x (AbortStep u) why = refl
+refused_same t x (Back u first) why = refl
+refused_same t x (BackStep u) why = refl
+refused_same t x Force why = refl
+refused_same t x Flush why = refl
+refused_same t x Rotate why = refl
 
 refused_starts : (event : Event) (why : Refusal) → started_by event (Refused why) ≡ []
 refused_starts (Begin session) why = refl
@@ -72,7 +72,7 @@ all_refused events = map (λ (event : Event). Refused refusal.DeviceFailed) even
 
 reported_behind : (t : ℕ) (x : Reported) (later : List Event) → reported_from t x later (all_refused later) ≡ x
 reported_behind t x [] = refl
-reported_behind t x (event ∷ later) = ap (λ (y : Reported). reported_from t y later (all_refused later)) (refused_tells t x event refusal.DeviceFailed) ∙ reported_behind t x later
+reported_behind t x (event ∷ later) = ap (λ (y : Reported). reported_from t y later (all_refused later)) (refused_same t x event refusal.DeviceFailed) ∙ reported_behind t x later
 
 committing_behind : (later : List Event) → committing later (all_refused later) ≡ []
 committing_behind [] = refl
@@ -82,13 +82,13 @@ acknowledged_behind : (later : List Event) → acknowledged (all_refused later) 
 acknowledged_behind [] = refl
 acknowledged_behind (event ∷ later) = acknowledged_behind later
 
--- ---- events, and more behind them
+-- ---- events, and more after them
 
 reported_both : (t : ℕ) (x : Reported) (events more : List Event) (answers outcome : List Answer) → length events ≡ length answers → reported_from t x (events ++ more) (answers ++ outcome) ≡ reported_from t (reported_from t x events answers) more outcome
 reported_both t x [] more [] outcome same = refl
 reported_both t x [] more (a ∷ answers) outcome same = absurd (omega arith)
 reported_both t x (e ∷ events) more [] outcome same = absurd (omega arith)
-reported_both t x (e ∷ events) more (a ∷ answers) outcome same = reported_both t (tells t x e a) events more answers outcome (omega arith)
+reported_both t x (e ∷ events) more (a ∷ answers) outcome same = reported_both t (with_answer t x e a) events more answers outcome (omega arith)
 
 committing_both : (events more : List Event) (answers outcome : List Answer) → length events ≡ length answers → committing (events ++ more) (answers ++ outcome) ≡ committing events answers ++ committing more outcome
 committing_both [] more [] outcome same = refl

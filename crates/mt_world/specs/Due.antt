@@ -1,5 +1,5 @@
 -- Why an event is answered as it is, and whose state of a transaction it sets.
-use Rattle.std.specs.Prelude.{ℕ, ◌≡◌, ◌⊎◌, ◌+◌, List, [], ◌∷◌, ◌++◌, length, get_or, true, false, Option, Some, None, Ok, Err, ⊤}
+use Rattle.std.specs.Prelude.{ℕ, ◌≡◌, ◌⊎◌, ◌+◌, List, [], ◌∷◌, ◌++◌, length, true, Option, Some, None, Ok, Err, ⊤}
 use Rattle.mt_base.specs.declared.refusal.Refusal.{Refusal}
 use Rattle.mt_base.specs.declared.refusal.Refusal.TheVariants as refusal
 use Rattle.mt_disk.specs.declared.device.Device.{Ghosts}
@@ -8,19 +8,19 @@ use Rattle.mt_live.specs.Sound.{Each}
 use Rattle.mt_live.specs.declared.transactions.TxnState.TheVariants as state
 use Rattle.mt_log.specs.Words.{appended, durable}
 use Rattle.mt_op.specs.Begun.{AreImages}
-use Rattle.mt_pool.specs.Views.{Cleans, IsWaiting, pages, AreClean}
+use Rattle.mt_pool.specs.Views.{Cleans, IsWaiting, AreClean}
 use Rattle.mt_pool.specs.declared.flushes.Flushed.{Flushed as FlushOutcome}
 use Rattle.mt_pool.specs.declared.flushes.Flushed.TheVariants as flush
 use Rattle.mt_restart.specs.Rotated.{IsKeptCause, early_cause}
+use Rattle.mt_txn.specs.Effects.{MovesAbort, MovesReturn, MovesStep}
 use Rattle.mt_txn.specs.Events.{IsAnsweredBy, IsForcedBy}
+use Rattle.mt_txn.specs.Seen.{seen_of}
 use Rattle.mt_txn.specs.Shown.{CallsOnce, ReadsDevice, is_failed, kernel_device, kernel_log, kernel_pool}
-use Rattle.mt_txn.specs.Work.{IsAbortForOther, IsForOther, LowersSteps, LowersUndoing, NoMoreAreLeft, NoneAreLeft}
 use Rattle.mt_txn.specs.declared.answers.AbortStepped.{AbortStepped}
 use Rattle.mt_txn.specs.declared.answers.AbortStepped.TheVariants as abort
 use Rattle.mt_txn.specs.declared.answers.Stepped.{Stepped as StepOutcome}
-use Rattle.mt_txn.specs.declared.answers.Stepped.TheVariants as step
 use Rattle.mt_txn.specs.declared.kernel.Kernel.{Kernel}
-use Rattle.mt_txn.specs.Words.{kernel_book, kernel_commits, kernel_count, kernel_members, kernel_state, kernel_steps, kernel_undo_steps, kernel_begin_cause, kernel_call_cause, kernel_step_cause, kernel_commit_cause, kernel_abort_begin_cause, kernel_abort_cause, kernel_back_cause, kernel_return_cause, IsKernelFault, IsKernelFailure, StatesStay, StatesStayBut, UncommittedStay, StateIsSet, CommitsStay, FrameIsWanted}
+use Rattle.mt_txn.specs.Words.{kernel_book, kernel_commits, kernel_count, kernel_state, kernel_begin_cause, kernel_call_cause, kernel_step_cause, kernel_commit_cause, kernel_abort_begin_cause, kernel_abort_cause, kernel_back_cause, kernel_return_cause, IsKernelFault, IsKernelFailure, StatesStay, StatesStayBut, UncommittedStay, StateIsSet, CommitsStay}
 use Rattle.mt_world.specs.declared.events.Answer.{Answer}
 use Rattle.mt_world.specs.declared.events.Answer.TheVariants.{Begun, Called, Stepped, Committing, Aborting, Undone, Returning, Returned, Forced, Flushed, Rotated, Refused}
 use Rattle.mt_world.specs.declared.events.Event.{Event}
@@ -33,28 +33,20 @@ abbrev pub IsCaused : Option Refusal → Refusal → Type 0
 IsCaused cause why = (why ≡ refusal.NoMemory) ⊎ (cause ≡ Some why)
 
 module _ {D : Type 0} {g : Ghosts D} where
-  -- a step of an operation has fewer left after it if it went on; it waits for another's, or lacks a frame
+  -- a step of an operation
   pub record IsStepped (k : Kernel D g) (t : ℕ) (outcome : StepOutcome) (n : Kernel D g) : Type 0 where
     pub may : kernel_step_cause k t ≡ None
-    pub work : LowersSteps (pages (kernel_pool k)) (Ok outcome) (kernel_steps k t) (kernel_steps n t)
-    pub other : IsForOther (kernel_members k) t outcome
-    pub full : outcome ≡ step.Flush → FrameIsWanted k n
+    pub moves : MovesStep (seen_of k) t (Ok outcome) (seen_of n)
 
-  -- and so a step of an abort
+  -- of an abort
   pub record IsAbortStepped (k : Kernel D g) (t : ℕ) (outcome : AbortStepped) (n : Kernel D g) : Type 0 where
     pub may : kernel_abort_cause k t ≡ None
-    pub work : LowersUndoing NoneAreLeft (pages (kernel_pool k)) (Ok outcome) (kernel_undo_steps k t)
-        (kernel_undo_steps n t)
-    pub other : IsAbortForOther (kernel_members k) t outcome
-    pub full : outcome ≡ abort.Flush → FrameIsWanted k n
+    pub moves : MovesAbort (seen_of k) t (Ok outcome) (seen_of n)
 
-  -- And so a step of going back. Once that ends, the operations count that it went back to.
+  -- And of going back. Once that ends, the operations count that it went back to.
   pub record IsReturned (k : Kernel D g) (t : ℕ) (outcome : AbortStepped) (n : Kernel D g) : Type 0 where
     pub may : kernel_return_cause k t ≡ None
-    pub work : LowersUndoing NoMoreAreLeft (pages (kernel_pool k)) (Ok outcome) (kernel_undo_steps k t)
-        (kernel_undo_steps n t)
-    pub other : IsAbortForOther (kernel_members k) t outcome
-    pub full : outcome ≡ abort.Flush → FrameIsWanted k n
+    pub moves : MovesReturn (seen_of k) t (Ok outcome) (seen_of n)
     pub count : (first : ℕ) → kernel_state k t ≡ Some (state.Returning first) → outcome ≡ abort.Ended
         → kernel_count n t ≡ Some first
 

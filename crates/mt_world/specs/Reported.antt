@@ -52,20 +52,20 @@ gone_back so_far = record so_far {
 }
 
 -- what one more event with its answer says of transaction t
-abbrev pub tells : ℕ → Reported → Event → Answer → Reported
-tells t so_far (Begin session) (Begun u) = cond (t == u) (begun_by session) so_far
-tells t so_far (Call u op) (Called call.Started) = cond (t == u) (record so_far { started = Some op }) so_far
-tells t so_far (Step u) (Stepped (step.Replied reply)) = cond (t == u) (with_reply so_far reply) so_far
-tells t so_far (Back u first) Returning = cond (t == u) (record so_far { first = first }) so_far
-tells t so_far (BackStep u) (Returned abort.Ended) = cond (t == u) (gone_back so_far) so_far
-tells t so_far event answer = so_far
+abbrev pub with_answer : ℕ → Reported → Event → Answer → Reported
+with_answer t so_far (Begin session) (Begun u) = cond (t == u) (begun_by session) so_far
+with_answer t so_far (Call u op) (Called call.Started) = cond (t == u) (record so_far { started = Some op }) so_far
+with_answer t so_far (Step u) (Stepped (step.Replied reply)) = cond (t == u) (with_reply so_far reply) so_far
+with_answer t so_far (Back u first) Returning = cond (t == u) (record so_far { first = first }) so_far
+with_answer t so_far (BackStep u) (Returned abort.Ended) = cond (t == u) (gone_back so_far) so_far
+with_answer t so_far event answer = so_far
 
 -- and what all of them do, one after the other
 abbrev pub reported_from : ℕ → Reported → List Event → List Answer → Reported
 reported_from t so_far [] answers = so_far
 reported_from t so_far (event ∷ events) [] = so_far
 reported_from t so_far (event ∷ events) (answer ∷ answers) =
-    reported_from t (tells t so_far event answer) events answers
+    reported_from t (with_answer t so_far event answer) events answers
 
 abbrev pub reported_of : List Event → List Answer → ℕ → Reported
 reported_of events answers t = reported_from t nothing_reported events answers

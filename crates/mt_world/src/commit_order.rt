@@ -5,7 +5,7 @@ ghost use Rattle.mt_base.specs.declared.refusal.Refusal.{Refusal};
 ghost use Rattle.mt_inverse.specs.Steps.{IsWithinSteps};
 ghost use Rattle.mt_model.specs.Backwards.{call_back as back, calls_back};
 ghost use Rattle.mt_world.specs.Heard.{reported_by};
-ghost use Rattle.mt_world.specs.Reported.{acknowledged, begun_by, commit_of, commit_order, gone_back, named, started_by, tells, reported_of, with_reply};
+ghost use Rattle.mt_world.specs.Reported.{acknowledged, begun_by, commit_of, commit_order, gone_back, named, started_by, with_answer, reported_of, with_reply};
 
 use crate::events::{Answer, Event};
 use mt_base::limits::step_fits;
@@ -120,7 +120,7 @@ fn hear(
     event: &Event,
     answer: &Answer,
 ) -> Result<(), AllocError>
-    ensures { OnOk result (reported_by heard.new ≡ tells txn (reported_by heard.old) event.now answer.now) }
+    ensures { OnOk result (reported_by heard.new ≡ with_answer txn (reported_by heard.old) event.now answer.now) }
 {
     match (event, answer) {
         (Event::Begin(session), Answer::Begun(own)) => {

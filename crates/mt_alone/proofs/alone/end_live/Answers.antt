@@ -11,7 +11,7 @@ returns-in-Ok-clause-ended g c = λ p b.
     let D = g.D.Device in
     end_written p c.args.kernel.now _ _ c.undo_open.new.kernel (c.in_default.ensures.aborted p b.0 b.2) c.in-Ok.ensures.all
 
-pub returns-in-Err-tell-clause-cut : goal.returns-in-Err-tell-clause-cut
-returns-in-Err-tell-clause-cut g c = λ p b.
+pub returns-in-Err-report-clause-cut : goal.returns-in-Err-report-clause-cut
+returns-in-Err-report-clause-cut g c = λ p b.
     let D = g.D.Device in
-    end_unwritten p c.args.kernel.now _ _ c.undo_open.new.kernel (c.in_default.ensures.aborted p b.0 b.2) c.in-Err-tell.ensures.front
+    end_unwritten p c.args.kernel.now _ _ c.undo_open.new.kernel (c.in_default.ensures.aborted p b.0 b.2) c.in-Err-report.ensures.front

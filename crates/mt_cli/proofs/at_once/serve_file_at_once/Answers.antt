@@ -23,8 +23,8 @@ pub returns-in-Ok-serve_over_at_once-clause-unserved : goal.returns-in-Ok-serve_
 returns-in-Ok-serve_over_at_once-clause-unserved g c =
     let behind = c.in-Ok-serve_over_at_once.behind in
     rw c.as_str-name.ensures.value at
-    (unreported_at_once _ _ _ _ _ _ _ behind.transcripts.items c.in-Ok.ensures.held c.in-Ok.ensures.lent c.back-in-Ok-serve_over_at_once.ensures behind.has_failed _ _ c.tell_sessions.result
-    c.in-Ok-serve_over_at_once.ensures.served (rw c.as_slice.ensures.value at c.tell_sessions.ensures.front) c.tell_sessions.ensures.why)
+    (unreported_at_once _ _ _ _ _ _ _ behind.transcripts.items c.in-Ok.ensures.held c.in-Ok.ensures.lent c.back-in-Ok-serve_over_at_once.ensures behind.has_failed _ _ c.report_sessions.result
+    c.in-Ok-serve_over_at_once.ensures.served (rw c.as_slice.ensures.value at c.report_sessions.ensures.front) c.report_sessions.ensures.why)
 
 pub returns-in-Err-serve_over_at_once-clause-unserved : goal.returns-in-Err-serve_over_at_once-clause-unserved
 returns-in-Err-serve_over_at_once-clause-unserved g c =

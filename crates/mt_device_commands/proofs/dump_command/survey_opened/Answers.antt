@@ -1,12 +1,12 @@
 use Rattle.mt_live.specs.Machine.{start}
 use Rattle.mt_restart.proofs.Living.{nobody}
-use Rattle.mt_device_commands.proofs.DumpLemmas.{ok_both, tells_of, unmade_of}
+use Rattle.mt_device_commands.proofs.DumpLemmas.{ok_both, reports_of, unmade_of}
 use Rattle.mt_device_commands.proofs.dump_command.survey_opened.Goals as goal
 
 pub returns-clause-outcome : goal.returns-clause-outcome
 returns-clause-outcome g c = λ relations counters b opened.
     let D = g.D.Device in
-    ok_both c.survey-outcome.result (λ survey base outcome. tells_of relations counters b c.args.kernel survey opened base outcome) (c.survey-outcome.ensures.base b (start b) opened.shows) c.survey-outcome.ensures.pages
+    ok_both c.survey-outcome.result (λ survey base outcome. reports_of relations counters b c.args.kernel survey opened base outcome) (c.survey-outcome.ensures.base b (start b) opened.shows) c.survey-outcome.ensures.pages
 
 pub returns-clause-why : goal.returns-clause-why
 returns-clause-why g c =

@@ -3,7 +3,7 @@ use Rattle.std.proofs.lemmas.Result.{err_from_is_err_and}
 use Rattle.std.proofs.KnownBytes.{Appends-trans}
 use Rattle.mt_script.specs.Answers.{AppendsFront}
 use Rattle.mt_script.proofs.TextLemmas.{all_about, all_bytes, all_more, front_then}
-use Rattle.mt_report.specs.Tellings.{reported_line}
+use Rattle.mt_report.specs.AnswerLines.{reported_line}
 use Rattle.mt_report.proofs.answer_lines.write_all_reported.Goals as goal
 
 pub returns-in_err-write_reported-clause-front : goal.returns-in_err-write_reported-clause-front

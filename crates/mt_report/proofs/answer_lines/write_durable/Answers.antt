@@ -3,7 +3,7 @@ use Rattle.std.specs.List.{concat}
 use Rattle.std.proofs.lemmas.Result.{err_from_is_err_and, on_err_weaker}
 use Rattle.std.proofs.KnownBytes.{Appends-trans}
 use Rattle.mt_script.proofs.TextLemmas.{front_then, front_whole}
-use Rattle.mt_report.specs.Tellings.{name_text}
+use Rattle.mt_report.specs.AnswerLines.{name_text}
 use Rattle.mt_report.proofs.answer_lines.write_durable.Goals as goal
 
 pub returns-in_err-put-clause-front : goal.returns-in_err-put-clause-front

@@ -3,7 +3,7 @@ use Rattle.std.proofs.lemmas.Result.{err_from_is_err_and}
 use Rattle.std.proofs.KnownBytes.{Appends-trans}
 use Rattle.mt_script.specs.Answers.{AppendsFront}
 use Rattle.mt_script.proofs.TextLemmas.{all_about, all_bytes, all_more, front_then}
-use Rattle.mt_report.specs.Tellings.{name_text}
+use Rattle.mt_report.specs.AnswerLines.{name_text}
 use Rattle.mt_report.proofs.answer_lines.write_names.Goals as goal
 
 pub returns-in_err-write_name-clause-front : goal.returns-in_err-write_name-clause-front

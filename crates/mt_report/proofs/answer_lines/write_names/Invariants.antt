@@ -1,7 +1,7 @@
 use Rattle.std.proofs.Common.{take}
 use Rattle.std.specs.Io.KnownBytes.{Appends}
 use Rattle.mt_script.proofs.TextLemmas.{all_bytes}
-use Rattle.mt_report.specs.Tellings.{name_text}
+use Rattle.mt_report.specs.AnswerLines.{name_text}
 use Rattle.mt_report.proofs.answer_lines.write_names.Given as goal
 
 abbrev pub invariant-loop-name : goal.invariant-loop-name

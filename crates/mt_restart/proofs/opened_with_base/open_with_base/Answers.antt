@@ -45,6 +45,19 @@ returns-clause-opened g c =
     let listed = (surveyed checked.relations checked.counters based.0 checked.good based.1).base in
     begins.same base (subst (λ (n : ℕ). IsSame n base based.0) (sym many) listed) c.keeps_bounds.ensures
 
+pub returns-clause-sized : goal.returns-clause-sized
+returns-clause-sized g c =
+    let D = g.D.Device in let o = c.args.device in let n = c.find_synced.new.device in let read = c.find_synced.ensures.reads in
+    let x = recovers D g.met.D.Device.counts_now o n read.same read.moments c.args.frames c.in-Ok.found c.in-Ok.ensures c.slots_are_read_back.ensures c.only_own_pages_matter.ensures c.turn_to.new.device (Ok c.in-Ok-turn_to.recovered) c.in-Ok-turn_to.ensures in
+    let r = c.in-Ok-turn_to.recovered in let is = x.recovered in let checked = is.checked in
+    let based = base_of_good checked.relations checked.counters (length r.restored.pages.items) (bytes_of r.restored.pages.items) checked.good in
+    let opened = c.kernel_over.ensures.opened based.0 based.1 based.2 in
+    let surveyed = subst (λ (items : List (List ℕ)). IsOfPages items c.in-Ok-survey_of.survey) (sym c.in-Ok-turn_to.ensures.restored) c.in-Ok-survey_of.ensures.surveyed in
+    let survey = surveyed checked.relations checked.counters based.0 checked.good based.1 in (
+      survey.relations_reported ∙ sym (opened.relations_are ∙ is.beside.relations ∙ checked.good.counts.relations_reported),
+      survey.counters_reported ∙ sym (opened.counters_are ∙ is.beside.counters ∙ checked.good.counts.counters_reported),
+    )
+
 pub returns-clause-base : goal.returns-clause-base
 returns-clause-base g c = λ relations counters b can.
     let items = c.in-Ok.found.restored.pages.items in

@@ -8,7 +8,7 @@ use Rattle.mt_script.specs.Answers.{AppendsFront, pair_lines}
 use Rattle.mt_script.proofs.TextLemmas.{front_then, front_whole}
 use Rattle.mt_script.proofs.answers.write_rows.Goals as goal
 
--- the three pieces, one behind the other
+-- the three pieces, one after the other
 abbrev counted : List ℕ → List ℕ
 counted digits = codes "rows " ++ (digits ++ [])
 

@@ -6,10 +6,10 @@ use Rattle.mt_script.specs.declared.lines.Line.TheVariants.{Begin}
 use Rattle.mt_locked.specs.Seen.{PassSeen}
 use Rattle.mt_server.proofs.attempts.run_once.Goals as goal
 
-pub returns-in-Ok-tell_begun-clause-runs : goal.returns-in-Ok-tell_begun-clause-runs
-returns-in-Ok-tell_begun-clause-runs g c = λ booked.
-    rw c.and_begin.ensures (run_fresh g.J.Naming.base c.args.session booked c.args.pass.now c.begin.new.pass c.in-Ok.txn c.args.lines.now c.args.out.now.items c.tell_begun.new.out.items c.go_on.new.out.items c.go_on.new.pass c.go_on.result c.in-Ok.ensures.pass c.in-Ok.ensures.token
-    c.in-Ok-tell_begun.ensures.ok (c.go_on.ensures.runs booked))
+pub returns-in-Ok-report_begun-clause-runs : goal.returns-in-Ok-report_begun-clause-runs
+returns-in-Ok-report_begun-clause-runs g c = λ booked.
+    rw c.and_begin.ensures (run_fresh g.J.Naming.base c.args.session booked c.args.pass.now c.begin.new.pass c.in-Ok.txn c.args.lines.now c.args.out.now.items c.report_begun.new.out.items c.go_on.new.out.items c.go_on.new.pass c.go_on.result c.in-Ok.ensures.pass c.in-Ok.ensures.token
+    c.in-Ok-report_begun.ensures.ok (c.go_on.ensures.runs booked))
 
 pub returns-in-Err-clause-runs : goal.returns-in-Err-clause-runs
 returns-in-Err-clause-runs g c = λ booked.

@@ -11,4 +11,5 @@ pub returns-in_ok-refuse-in_default : goal.returns-in_ok-refuse-in_default
 returns-in_ok-refuse-in_default c = record {
   runs = λ b session booked pass lines. begin_refused b session booked pass pass lines c.args.why _ _ (lets_go_on c.args.why c.in_default.not-DeviceFailed, c.requires) refl c.in_ok-refuse-in_default.ensures.ok;
   lives = tt;
+  fails = tt;
 }

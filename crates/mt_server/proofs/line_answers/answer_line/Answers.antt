@@ -6,4 +6,4 @@ use Rattle.mt_server.proofs.line_answers.answer_line.Goals as goal
 
 pub returns-in-Begin-clause-turns : goal.returns-in-Begin-clause-turns
 returns-in-Begin-clause-turns g c =
-    rw c.in-Begin.is (reported_refused g.J.Naming.base c.args.txn c.args.pass.now c.requires.own line.Begin refusal.Busy _ _ c.refused.new.pass c.refused.result refl c.refused.ensures.tells)
+    rw c.in-Begin.is (reported_refused g.J.Naming.base c.args.txn c.args.pass.now c.requires.own line.Begin refusal.Busy _ _ c.refused.new.pass c.refused.result refl c.refused.ensures.reports)

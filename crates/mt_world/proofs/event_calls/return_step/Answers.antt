@@ -11,7 +11,7 @@ pub returns-in-Ok : goal.returns-in-Ok
 returns-in-Ok g c =
     let D = g.D.Device in let k = c.args.kernel.now in let n = c.back_step.new.self in let e = c.in-Ok.ensures in
     return_made k n c.args.txn c.in-Ok.stepped
-    (record { may = e.may; work = e.moves.work; other = e.moves.other; full = λ is. e.moves.full (ap Ok is); count = λ first goes is. (e.leaves.ends (ap Ok is) first goes).1 }) e.reads e.returned
+    (record { may = e.may; moves = e.moves; count = λ first goes is. (e.leaves.ends (ap Ok is) first goes).1 }) e.reads e.returned
     (return_phases k n c.args.txn c.in-Ok.stepped e.may e.leaves.states e.leaves.commits (λ first goes is. (e.leaves.ends (ap Ok is) first goes).0)) e.schema (fails_ok k n _ _ e.fails (λ broken. cc)) e.restarts e.moments
 
 pub returns-in-Err : goal.returns-in-Err

@@ -10,7 +10,7 @@ use Rattle.mt_world.proofs.event_calls.undo.Goals as goal
 pub returns-in-Ok : goal.returns-in-Ok
 returns-in-Ok g c =
     let D = g.D.Device in let k = c.args.kernel.now in let n = c.abort_step.new.self in let e = c.in-Ok.ensures in
-    undo_made k n c.args.txn c.in-Ok.stepped (record { may = e.may; work = e.moves.work; other = e.moves.other; full = λ is. e.moves.full (ap Ok is) }) e.reads e.aborted
+    undo_made k n c.args.txn c.in-Ok.stepped (record { may = e.may; moves = e.moves }) e.reads e.aborted
     (undo_phases k n c.args.txn c.in-Ok.stepped e.leaves.states e.leaves.commits (λ is. e.leaves.ends (ap Ok is))) e.schema (fails_ok k n _ _ e.fails (λ broken. cc)) e.restarts e.moments
 
 pub returns-in-Err : goal.returns-in-Err

@@ -48,7 +48,7 @@ returns-in-Err-start g c = record {
   ok = search rules;
   may = search rules;
   cause = λ origin base locks l. let k = c.args.self.now in let e = c.in-Ok.ensures in
-      behind g.D.Device origin k (log_kept k) c.args.txn c.args.op c.args.split c.in-Err-start.why e.admitted
+      behind g.D.Device origin k (log_kept k) c.args.txn c.args.op c.in-Err-start.why e.admitted
       (c.in-Err-start.ensures.cause origin base locks k.escrow
       (granted_from g.D.Device origin base locks k (record k { escrow = c.ask.new.escrow }) c.args.txn c.args.op l e.granted c.ask.ensures.committed c.ask.ensures.aside e.admitted));
   back = search rules;
@@ -66,8 +66,8 @@ returns-in-Err g c = record {
   ok = search rules;
   may = search rules;
   cause = λ origin base locks l. let k = c.args.self.now in
-      ⊎_elim (λ m. subst (IsRefusedBehind g.D.Device origin k (log_kept k) c.args.txn c.args.op c.args.split) (sym m) tt)
-      (λ e. subst (IsRefusedBehind g.D.Device origin k (log_kept k) c.args.txn c.args.op c.args.split) (sym e.0) e.1) c.in-Err.ensures.cause;
+      ⊎_elim (λ m. subst (IsRefusedBehind g.D.Device origin k (log_kept k) c.args.txn c.args.op) (sym m) tt)
+      (λ e. subst (IsRefusedBehind g.D.Device origin k (log_kept k) c.args.txn c.args.op) (sym e.0) e.1) c.in-Err.ensures.cause;
   back = search rules;
   err = search rules;
   live = search rules;

@@ -58,8 +58,8 @@ returns-clause-answer g c = λ origin base safe may. let k = c.args.self.now in 
     let n : Core g.row.D.Denot = record k { live = c.room.new.self; running = c.reserve.new.self } in
     let ready = prepared_in g.D.Device origin base k n c.args.txn safe e.member e.begun e.standing e.count a.items in
     let kept : log_kept n ≡ log_kept k = ap (λ (rs : List OpScope). used k.operations.store.log + sum_by left_of rs + k.reserved) a.items in
-    subst (λ m. IsAnswered g.D.Device origin k m c.args.txn c.args.op.now c.args.split c.lock.result) kept
-    (subst (λ o. IsAnswered g.D.Device origin n (log_kept n) c.args.txn o c.args.split c.lock.result) c.in_ok-own.ensures (c.lock.ensures.answer origin base ready.consistent (subst (MayRun origin n c.args.txn) (sym c.in_ok-own.ensures) (prepared_may g.D.Device origin base k n c.args.txn c.args.op.now may e.member a.items))))
+    subst (λ m. IsAnswered g.D.Device origin k m c.args.txn c.args.op.now c.lock.result) kept
+    (subst (λ o. IsAnswered g.D.Device origin n (log_kept n) c.args.txn o c.lock.result) c.in_ok-own.ensures (c.lock.ensures.answer origin base ready.consistent (subst (MayRun origin n c.args.txn) (sym c.in_ok-own.ensures) (prepared_may g.D.Device origin base k n c.args.txn c.args.op.now may e.member a.items))))
 
 pub returns-clause-states : goal.returns-clause-states
 returns-clause-states g c = λ u. ap (λ (l : Lives). state_in l.members u) c.lock.ensures.live ∙ states_kept with_room c.args.self.now.live.members c.room.new.self.members c.args.txn (λ m. refl) c.in_ok-room.ensures.member u

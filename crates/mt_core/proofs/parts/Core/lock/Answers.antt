@@ -57,7 +57,7 @@ returns-in-Err g c = record {
       (c.take_out.ensures.taken ∙ (λ i. without_locks (held_of c.admit.new.self.locks) c.args.txn (fresh_in ((c.into_asks.ensures ∙ ap asks_of c.in-Err.ensures.back) i) c.in-Granted.fresh)));
   answer = λ origin base safe may. let k = c.args.self.now in
       let asked : IsAsked (held_of k.locks) c.args.txn (asks_of c.args.op) (Granted c.in-Granted.fresh) (held_of c.ask.new.self) = subst (λ (X : Type 0). X) (λ i. IsAsked (held_of k.locks) c.args.txn (c.requires.same i) (c.in-Granted.is i) (held_of c.ask.new.self)) c.in_ok-holder.ensures.asked in
-      refused_call g.D.Device origin k (log_kept k) c.args.txn c.args.op c.args.split c.in-Err.why asked.0 (c.in-Err.ensures.cause origin base k.locks (locked_from g.D.Device origin base k (record k { locks = c.ask.new.self }) c.args.txn c.args.op safe may asked.0 asked.1));
+      refused_call g.D.Device origin k (log_kept k) c.args.txn c.args.op c.in-Err.why asked.0 (c.in-Err.ensures.cause origin base k.locks (locked_from g.D.Device origin base k (record k { locks = c.ask.new.self }) c.args.txn c.args.op safe may asked.0 asked.1));
   live = search rules;
   runs = search rules;
   numbered = ap (λ (x : Core _). x.last) c.in-Err.ensures.err.same;

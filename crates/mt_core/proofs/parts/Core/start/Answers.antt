@@ -1,4 +1,4 @@
-use Rattle.std.proofs.Common.{rules, ◌≡◌, ◌∙◌, ◌+◌, ◌*◌, ℕ, refl, ap, sym, subst, arith}
+use Rattle.std.proofs.Common.{rules, ◌≡◌, ◌∙◌, ◌+◌, ◌*◌, ℕ, true, refl, ap, sym, subst, arith}
 use Rattle.mt_op.proofs.Driving.{fresh_same}
 use Rattle.mt_op.specs.Operations.{world, claimed}
 use Rattle.mt_op.specs.World.{IsFresh}
@@ -19,14 +19,14 @@ use Rattle.mt_core.proofs.Calling.{txn_named}
 use Rattle.mt_core.proofs.parts.Core.start.Goals as goal
 
 pub overflow_add-pages : goal.overflow_add-pages
-overflow_add-pages g c = let few = needs_few c.args.op c.args.split in let a = c.pages_for.ensures in let b = c.pages_to_undo.ensures.pages in omega arith
+overflow_add-pages g c = let few = needs_few c.args.op true in let a = c.pages_for.ensures in let b = c.pages_to_undo.ensures.pages in omega arith
 
 pub returns-then-not-takes : goal.returns-then-not-takes
 returns-then-not-takes g c = record {
   ok = search rules;
   may = search rules;
   cause = λ origin base locks escrow granted. let k = c.args.self.now in let seen = g.D.Device.seen in
-      let pages : c.pages_for.result + c.pages_to_undo.result ≡ pages_asked c.args.op c.args.split = (λ i. c.pages_for.ensures i + c.pages_to_undo.ensures.pages i) in
+      let pages : c.pages_for.result + c.pages_to_undo.result ≡ pages_asked c.args.op = (λ i. c.pages_for.ensures i + c.pages_to_undo.ensures.pages i) in
       let bytes : c.log_bytes_for-bytes.result ≡ undo_bytes c.args.op = c.log_bytes_for-bytes.ensures in
       let full = c.if-not-takes.ensures.full in (
         subst (λ n. claimed k.operations + n ≤ pages_free g.D.Device origin k) pages (c.in-Ok.ensures.fits origin.pages origin.relations origin.counters granted.was.fit.right),
@@ -80,11 +80,11 @@ returns-in-Ok-begin_op g c = record {
       let right = m.right origin.pages origin.relations origin.counters fit.right in
       let fresh_old : IsFresh (world g.D.Device origin.pages k.operations) c.args.txn (k.last + 1) 0 = next_fresh g.D.Device origin base (without_call locks escrow k) c.args.txn (k.last + 1) fit granted.may.at_work (omega arith) in
       let fresh : IsFresh (world g.D.Device origin.pages c.claim.new.self) c.args.txn c.new.result 0 = subst (λ (n : ℕ). IsFresh (world g.D.Device origin.pages c.claim.new.self) c.args.txn n 0) (sym c.new.ensures) (fresh_same g.D.Device k.operations c.claim.new.self origin.pages c.args.txn (k.last + 1) 0 m.store m.locks fresh_old) in
-      let pages : c.pages_for.result + c.pages_to_undo.result ≡ own_needs c.args.op c.args.split + undo_pages c.args.op = (λ i. c.pages_for.ensures i + c.pages_to_undo.ensures.pages i) in
+      let pages : c.pages_for.result + c.pages_to_undo.result ≡ own_needs c.args.op true + undo_pages c.args.op = (λ i. c.pages_for.ensures i + c.pages_to_undo.ensures.pages i) in
       let bytes : c.log_bytes_for-bytes.result ≡ undo_bytes c.args.op = c.log_bytes_for-bytes.ensures in
       let left : s.left ≡ undo_bytes c.args.op = e.left in
       let n : Core g.row.D.Denot = record k { operations = c.claim.new.self; running = c.push_reserved.new.self; reserved = k.reserved + c.log_bytes_for-bytes.result } in
-      called_in g.D.Device origin base locks escrow k n c.args.txn c.args.op c.args.split s
+      called_in g.D.Device origin base locks escrow k n c.args.txn c.args.op true s
       granted c.push_reserved.ensures.items
       (record {
         right = right;
@@ -101,7 +101,7 @@ returns-in-Ok-begin_op g c = record {
         planning = e.planning.0;
       }) c.requires.few (ap (λ (x : ℕ). k.reserved + x) bytes) (let takes = c.if-not-takes.ensures.takes in omega arith);
   may = λ origin base locks escrow granted. let k = c.args.self.now in let seen = g.D.Device.seen in
-      let pages : c.pages_for.result + c.pages_to_undo.result ≡ pages_asked c.args.op c.args.split = (λ i. c.pages_for.ensures i + c.pages_to_undo.ensures.pages i) in
+      let pages : c.pages_for.result + c.pages_to_undo.result ≡ pages_asked c.args.op = (λ i. c.pages_for.ensures i + c.pages_to_undo.ensures.pages i) in
       let bytes : c.log_bytes_for-bytes.result ≡ undo_bytes c.args.op = c.log_bytes_for-bytes.ensures in
       let takes = c.if-not-takes.ensures.takes in (
         subst (λ n. claimed k.operations + n ≤ pages_free g.D.Device origin k) pages (c.in-Ok.ensures.fits origin.pages origin.relations origin.counters granted.was.fit.right),
@@ -131,8 +131,8 @@ returns-in-Err g c = record {
   ok = search rules;
   may = search rules;
   cause = λ origin base locks escrow granted. let k = c.args.self.now in let seen = g.D.Device.seen in let f = c.in-Err.ensures in
-      let pages : c.pages_for.result + c.pages_to_undo.result ≡ pages_asked c.args.op c.args.split = (λ i. c.pages_for.ensures i + c.pages_to_undo.ensures.pages i) in
-      subst (IsUnreserved g.D.Device origin k (log_kept k) c.args.op c.args.split) (sym f.why)
+      let pages : c.pages_for.result + c.pages_to_undo.result ≡ pages_asked c.args.op = (λ i. c.pages_for.ensures i + c.pages_to_undo.ensures.pages i) in
+      subst (IsUnreserved g.D.Device origin k (log_kept k) c.args.op) (sym f.why)
       (subst (λ n. pages_free g.D.Device origin k < claimed k.operations + n) pages (f.cause origin.pages origin.relations origin.counters granted.was.fit.right));
   back = search rules;
   err = search rules;

@@ -1,8 +1,7 @@
 use Rattle.std.proofs.Common.{◌∙◌, ap}
 use Rattle.mt_locked.proofs.Keeping.{stays}
-use Rattle.mt_locked.proofs.Standings.{asked, goes_on, keeps_parts, on_err_led, on_ok_led}
+use Rattle.mt_locked.proofs.Standings.{asked, goes_on, on_err_led}
 use Rattle.mt_locked.specs.Seen.{LockedSeen}
-use Rattle.mt_live.specs.declared.transactions.TxnState.TheVariants.{Aborting}
 use Rattle.mt_txn.specs.Seen.{seen_of}
 use Rattle.mt_txn.specs.declared.kernel.Kernel.{Kernel}
 use Rattle.mt_locked.proofs.locked.Locked.abort_begin.Goals as goal
@@ -18,7 +17,11 @@ pub returns-clause-kernel : goal.returns-clause-kernel
 returns-clause-kernel g c =
     let D = g.D.Device in let e = c.abort_begin.ensures in
     asked c.self.inside.standing c.in-Stands.kernel c.abort_begin.new.self c.self.inside.end.view _ _ _ c.in-Stands.is c.self.view_is
-    (record { answers = record { may = e.may; why = e.cause; aborts = on_ok_led c.abort_begin.result (λ b. b.state) e.begins; err = on_err_led c.abort_begin.result (λ same. ap (λ (x : Kernel _ _). seen_of x) same) e.err }; state = e.state; keeps = keeps_parts _ _ c.args.txn Aborting c.abort_begin.result e.begins e.err })
+    (record {
+      answers = record { may = e.may; why = e.cause; err = on_err_led c.abort_begin.result (λ same. ap (λ (x : Kernel _ _). seen_of x) same) e.err };
+      begins = e.begins;
+      state = e.state;
+    })
 
 pub returns-clause-book : goal.returns-clause-book
 returns-clause-book g c =

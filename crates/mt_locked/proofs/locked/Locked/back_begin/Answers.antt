@@ -1,8 +1,7 @@
 use Rattle.std.proofs.Common.{◌∙◌, ap}
 use Rattle.mt_locked.proofs.Keeping.{stays}
-use Rattle.mt_locked.proofs.Standings.{asked, goes_on, keeps_parts, on_err_led, on_ok_led}
+use Rattle.mt_locked.proofs.Standings.{asked, goes_on, on_err_led}
 use Rattle.mt_locked.specs.Seen.{LockedSeen}
-use Rattle.mt_live.specs.declared.transactions.TxnState.TheVariants.{Returning}
 use Rattle.mt_txn.specs.Seen.{seen_of}
 use Rattle.mt_txn.specs.declared.kernel.Kernel.{Kernel}
 use Rattle.mt_locked.proofs.locked.Locked.back_begin.Goals as goal
@@ -19,10 +18,10 @@ returns-clause-kernel g c =
     let D = g.D.Device in let e = c.back_begin.ensures in
     asked c.self.inside.standing c.in-Stands.kernel c.back_begin.new.self c.self.inside.end.view _ _ _ c.in-Stands.is c.self.view_is
     (record {
-      answers = record { may = e.may; why = e.cause; returns = on_ok_led c.back_begin.result (λ b. b.state) e.begins; err = on_err_led c.back_begin.result (λ same. ap (λ (x : Kernel _ _). seen_of x) same) e.err };
+      answers = record { may = e.may; why = e.cause; err = on_err_led c.back_begin.result (λ same. ap (λ (x : Kernel _ _). seen_of x) same) e.err };
+      begins = e.begins;
       savepoint = e.standing;
       state = e.state;
-      keeps = keeps_parts _ _ c.args.txn (Returning c.args.first) c.back_begin.result e.begins e.err;
     })
 
 pub returns-clause-book : goal.returns-clause-book

@@ -1,7 +1,7 @@
 use Rattle.std.proofs.Common.{◌∙◌, ap}
 use Rattle.mt_model.specs.Views.{base_of}
 use Rattle.mt_locked.proofs.Keeping.{returns_one}
-use Rattle.mt_locked.proofs.Standings.{abort_held_up, asked, at_once, goes_on, reports}
+use Rattle.mt_locked.proofs.Standings.{asked, at_once, goes_on, reports}
 use Rattle.mt_locked.specs.Seen.{LockedSeen}
 use Rattle.mt_locked.proofs.locked.Locked.back_step.Goals as goal
 
@@ -17,20 +17,9 @@ returns-clause-kernel g c =
     let D = g.D.Device in let e = c.back_step.ensures in
     asked c.self.inside.standing c.in-Stands.kernel c.back_step.new.self c.self.inside.end.view _ _ _ c.in-Stands.is c.self.view_is
     (record {
-      answers = record { may = e.may; early = at_once _ _ _ _ e.early; why = e.cause; opened = λ first is ended. e.leaves.ends ended first is; returned = e.returned };
-      work = e.moves.work;
-      others = e.moves.others;
-      waits = abort_held_up c.in-Stands.kernel c.back_step.new.self c.args.txn c.back_step.result e.moves.other e.moves.full;
-      locks = e.moves.locks;
-      idle = λ none. record { goes = e.moves.goes none; store = e.leaves.idle none; locks = e.moves.idle none };
-      writes = e.leaves.writes;
-      durable = e.leaves.durable;
-      states = e.leaves.states;
-      err = e.leaves.err_states;
-      commits = e.leaves.commits;
-      numbers = e.leaves.numbers;
-      numbered = e.leaves.numbered;
-      unbegun = e.leaves.unnumbered;
+      answers = record { may = e.may; early = at_once _ _ _ _ e.early; why = e.cause; returned = e.returned };
+      moves = e.moves;
+      leaves = e.leaves;
       reads = e.reads;
       faults = reports _ _ c.back_step.result e.fails e.quiet;
     })

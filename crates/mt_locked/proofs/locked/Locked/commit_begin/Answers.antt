@@ -15,7 +15,13 @@ pub returns-clause-kernel : goal.returns-clause-kernel
 returns-clause-kernel g c =
     let D = g.D.Device in let e = c.commit_begin.ensures in
     asked c.self.inside.standing c.in-Stands.kernel c.commit_begin.new.self c.self.inside.end.view _ _ _ c.in-Stands.is c.self.view_is
-    (record { answers = record { refused = record { may = e.may; why = e.cause }; early = at_once _ _ _ _ e.early; place = e.place; queue = e.logs.queue; waits = e.logs.waits; commits = e.logs.commits; unappended = e.logs.err_appended; states = e.logs.err }; state = e.state; numbers = e.keeps.numbers; device = e.keeps.device })
+    (record {
+      answers = record { refused = record { may = e.may; why = e.cause }; early = at_once _ _ _ _ e.early; place = e.place };
+      logs = e.logs;
+      state = e.state;
+      numbers = e.keeps.numbers;
+      device = e.keeps.device;
+    })
 
 pub returns-clause-book : goal.returns-clause-book
 returns-clause-book g c =

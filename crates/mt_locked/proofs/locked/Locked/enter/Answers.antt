@@ -77,7 +77,7 @@ returns-clause-entered g c =
     let book = subst (λ (x : Held). IsLegal b (book_in standing (dones x.view.list))) s.same (h.legal c.if-not-has.false) in
     let on = entered_on b list e c.check-at.result standing s.stands there i.4 in
     let front = subst (IsPrefix (dones (list ++ e ∷ []))) on.1 (front_of b (dones (list ++ e ∷ [])) standing on.0) in
-    let locked : LockedSeen _ = seen_in standing c.self.inside.end.view in
+    let locked : LockedSeen _ = seen_in standing c.self.inside.end.view c.self.inside.holding c.self.inside.due in
     let old : PassSeen = record { number = c.pass.inside.number; seen = c.pass.inside.seat.view.list } in
     let new : PassSeen = record { number = c.pass.inside.number; seen = c.enter.new.seat.view.list } in
     let seen = n.seen ∙ ap (λ (x : Held). x.view.list ++ e ∷ []) s.same in

@@ -15,7 +15,12 @@ pub returns-clause-kernel : goal.returns-clause-kernel
 returns-clause-kernel g c =
     let D = g.D.Device in let e = c.flush_step.ensures in
     asked c.self.inside.standing c.in-Stands.kernel c.flush_step.new.self c.self.inside.end.view _ _ _ c.in-Stands.is c.self.view_is
-    (record { answers = record { why = e.cause; log = e.log }; written = e.flushes.written; waits = e.flushes.held_up; nothing = e.flushes.nothing; rest = e.rest; device = record { once = e.once; faults = reports _ _ c.flush_step.result e.fails e.quiet } })
+    (record {
+      answers = record { why = e.cause; log = e.log };
+      flushes = e.flushes;
+      rest = e.rest;
+      device = record { once = e.once; faults = reports _ _ c.flush_step.result e.fails e.quiet };
+    })
 
 pub returns-clause-book : goal.returns-clause-book
 returns-clause-book g c =

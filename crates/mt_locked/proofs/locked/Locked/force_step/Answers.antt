@@ -27,12 +27,8 @@ returns-clause-kernel g c =
     let D = g.D.Device in let e = c.force_step.ensures in
     asked c.self.inside.standing c.in-Stands.kernel c.force_step.new.self c.self.inside.end.view _ _ _ c.in-Stands.is c.self.view_is
     (record {
-      answers = record { why = e.cause; forced = e.log; unappended = e.keeps.appended };
-      pool = e.keeps.pool;
-      running = e.keeps.running;
-      states = e.keeps.states;
-      err = e.keeps.err;
+      answers = record { why = e.cause; forced = e.log };
+      keeps = e.keeps;
       memory = λ is. ap (λ (x : Kernel _ _). seen_of x) (e.memory is);
-      numbers = e.keeps.numbers;
       device = record { once = e.once; faults = reports _ _ c.force_step.result e.fails e.quiet };
     })

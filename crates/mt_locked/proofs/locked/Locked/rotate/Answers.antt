@@ -6,7 +6,7 @@ use Rattle.mt_locked.specs.Seen.{LockedSeen, is_failed_in}
 use Rattle.mt_locked.specs.Standings.{KeepsHistory, book_in, kernel_in, seen_in}
 use Rattle.mt_locked.specs.Turns.{IsLeftAfter, IsTooEarlyIn, TurnsLogOver}
 use Rattle.mt_locked.proofs.Books.{dones-length}
-use Rattle.mt_locked.proofs.Uses.{too_early}
+use Rattle.mt_locked.proofs.Uses.{too_early, too_soon}
 use Rattle.mt_locked.proofs.locked.Locked.rotate.Goals as goal
 
 pub invariant_of-self : goal.invariant_of-self
@@ -67,9 +67,19 @@ returns-else-ne-clause-early g c = λ is.
     let D = g.D.Device in let i = c.self.invariant in let s = c.check-entered.ensures in
     let list = c.self.inside.end.view.list in let standing = c.self.inside.standing in let new = c.replace_with-outcome.new.dest in
     let early = c.replace_with-outcome.ensures.early is in (
-      (λ j. seen_in (early.0 j) (ap (λ (x : Held). x.view) s.same j)) ∙ c.self.view_is,
-      subst (λ (l : LockedSeen _). IsTooEarlyIn l) c.self.view_is (too_early c.check-entered.result standing c.self.inside.end.view s.stands early.1),
+      (λ j. seen_in (early.0 j) (ap (λ (x : Held). x.view) s.same j) c.self.inside.holding c.self.inside.due) ∙ c.self.view_is,
+      subst (λ (l : LockedSeen _). IsTooEarlyIn l) c.self.view_is (too_early c.self.inside.holding c.self.inside.due c.check-entered.result standing c.self.inside.end.view s.stands early.1),
     )
+
+pub returns-then-ne-clause-waits : goal.returns-then-ne-clause-waits
+returns-then-ne-clause-waits g c = λ well early.
+    let kernel = ap (λ (l : LockedSeen _). is_failed_in l.kernel) c.self.view_is in
+    (c.replace_with-outcome.ensures.waits (kernel ∙ well) (too_soon c.self.inside.holding c.self.inside.due c.check-entered.result c.self.inside.standing c.self.inside.end.view c.check-entered.ensures.stands (kernel ∙ well) (subst (λ (l : LockedSeen _). IsTooEarlyIn l) (sym c.self.view_is) early))).0
+
+pub returns-else-ne-clause-waits : goal.returns-else-ne-clause-waits
+returns-else-ne-clause-waits g c = λ well early.
+    let kernel = ap (λ (l : LockedSeen _). is_failed_in l.kernel) c.self.view_is in
+    (c.replace_with-outcome.ensures.waits (kernel ∙ well) (too_soon c.self.inside.holding c.self.inside.due c.check-entered.result c.self.inside.standing c.self.inside.end.view c.check-entered.ensures.stands (kernel ∙ well) (subst (λ (l : LockedSeen _). IsTooEarlyIn l) (sym c.self.view_is) early))).0
 
 pub returns-then-ne-clause-refused : goal.returns-then-ne-clause-refused
 returns-then-ne-clause-refused g c =
@@ -82,12 +92,12 @@ returns-else-ne-clause-refused g c =
 
 pub returns-then-ne-clause-failed : goal.returns-then-ne-clause-failed
 returns-then-ne-clause-failed g c = λ bad.
-    let s = c.check-entered.ensures in
-    let failed = c.replace_with-outcome.ensures.failed (ap (λ (l : LockedSeen _). is_failed_in l.kernel) c.self.view_is ∙ bad) in
-    (failed.0, c.settle.ensures ∙ ((λ j. seen_in (failed.1 j) (ap (λ (x : Held). x.view) s.same j)) ∙ c.self.view_is))
+    let kernel = ap (λ (l : LockedSeen _). l.kernel) c.self.view_is in
+    let failed = c.replace_with-outcome.ensures.failed (ap is_failed_in kernel ∙ bad) in
+    (failed.0, ap (λ (l : LockedSeen _). l.kernel) c.settle.ensures ∙ (ap kernel_in failed.1 ∙ kernel))
 
 pub returns-else-ne-clause-failed : goal.returns-else-ne-clause-failed
 returns-else-ne-clause-failed g c = λ bad.
-    let s = c.check-entered.ensures in
-    let failed = c.replace_with-outcome.ensures.failed (ap (λ (l : LockedSeen _). is_failed_in l.kernel) c.self.view_is ∙ bad) in
-    (failed.0, (λ j. seen_in (failed.1 j) (ap (λ (x : Held). x.view) s.same j)) ∙ c.self.view_is)
+    let kernel = ap (λ (l : LockedSeen _). l.kernel) c.self.view_is in
+    let failed = c.replace_with-outcome.ensures.failed (ap is_failed_in kernel ∙ bad) in
+    (failed.0, ap kernel_in failed.1 ∙ kernel)

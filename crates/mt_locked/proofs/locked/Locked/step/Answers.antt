@@ -1,7 +1,7 @@
 use Rattle.std.proofs.Common.{◌∙◌, ap}
 use Rattle.mt_model.specs.Views.{base_of}
 use Rattle.mt_locked.proofs.Keeping.{steps_one}
-use Rattle.mt_locked.proofs.Standings.{asked, at_once, goes_on, held_up, reports}
+use Rattle.mt_locked.proofs.Standings.{asked, at_once, goes_on, reports}
 use Rattle.mt_locked.specs.Seen.{LockedSeen}
 use Rattle.mt_locked.proofs.locked.Locked.step.Goals as goal
 
@@ -18,15 +18,8 @@ returns-clause-kernel g c =
     asked c.self.inside.standing c.in-Stands.kernel c.step.new.self c.self.inside.end.view _ _ _ c.in-Stands.is c.self.view_is
     (record {
       answers = record { may = e.may; early = at_once _ _ _ _ e.early; why = e.cause; stepped = e.stepped };
-      work = e.moves.work;
-      others = e.moves.others;
-      waits = held_up c.in-Stands.kernel c.step.new.self c.args.txn c.step.result e.moves.other e.moves.full;
-      locks = e.moves.locks;
-      writes = e.leaves.writes;
-      durable = e.leaves.durable;
-      states = e.leaves.states;
-      commits = e.leaves.commits;
-      numbers = e.leaves.numbers;
+      moves = e.moves;
+      leaves = e.leaves;
       reads = e.reads;
       faults = reports _ _ c.step.result e.fails e.quiet;
     })

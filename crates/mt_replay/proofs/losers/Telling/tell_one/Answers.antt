@@ -1,4 +1,6 @@
-use Rattle.std.proofs.Common.{◌∷◌, [], refl, sym, subst}
+use Rattle.std.proofs.Common.{◌≡◌, ◌∷◌, ◌==◌, ◌&&◌, ◌||◌, [], ℕ, refl, sym, subst}
+use Rattle.std.specs.BTreeSet.{contains}
+use Rattle.mt_area_rules.specs.Known.{pair_cmp}
 use Rattle.mt_frame.specs.declared.records.Record.{Record}
 use Rattle.mt_frame.specs.declared.records.Record.TheVariants.{Commit}
 use Rattle.mt_replay.specs.Losers.{Tells}
@@ -13,10 +15,12 @@ returns-in_ok-note_end-in-Commit-clause-tells c =
     subst (λ (r : Record). Tells c.args.batch.now (r ∷ []) old new) (sym c.in-Commit.is)
     (tells_ended c.args.batch.now (Commit c.in-Commit.txn) c.in-Commit.txn old new (λ rs. refl) (λ t. refl) (λ t o. refl) refl refl c.in_ok-note_end-in-Commit.ensures)
 
-pub returns-in_ok-note_undone-in-OpEnd-clause-tells : goal.returns-in_ok-note_undone-in-OpEnd-clause-tells
-returns-in_ok-note_undone-in-OpEnd-clause-tells c =
+pub returns-in_ok-note_operation-in-OpEnd-clause-tells : goal.returns-in_ok-note_operation-in-OpEnd-clause-tells
+returns-in_ok-note_operation-in-OpEnd-clause-tells c =
     let old : Telling = c.args.self.now in
-    let new : Telling = record { losers = old.losers; ended = old.ended; undone = c.note_undone.new.set } in
+    let new : Telling = record { losers = old.losers; ended = old.ended; undone = c.note_operation.new.set } in
     let it = c.in-OpEnd in
     subst (λ (r : Record). Tells c.args.batch.now (r ∷ []) old new) (sym it.is)
-    (tells_inverse c.args.batch.now it.txn it.op it.undoes it.done old new c.if-undoes-eq0.false refl refl c.in_ok-note_undone-in-OpEnd.ensures)
+    let noted : (t o : ℕ) → contains pair_cmp new.undone (t, o) ≡ (contains pair_cmp old.undone (t, o) || ((it.txn == t) && (it.undoes == o))) =
+    subst (λ (n : ℕ). (t o : ℕ) → contains pair_cmp new.undone (t, o) ≡ (contains pair_cmp old.undone (t, o) || ((n == t) && (it.undoes == o)))) c.get.ensures c.in_ok-note_operation-in-OpEnd.ensures in
+    (tells_inverse c.args.batch.now it.txn it.op it.undoes it.done old new c.if-undoes-eq0.false refl refl noted)

@@ -48,7 +48,7 @@ returns-clause-fails g c =
     let none : call_cause r m (is_failed k) k.core c.args.txn c.args.op.now ≡ None = sym c.in_default.ensures.cause in (
       λ failed. let wrong : Some DeviceFailed ≡ None = sym (ap (λ (b : Bool). call_cause r m b k.core c.args.txn c.args.op.now) failed) ∙ none in absurd cc,
       λ is. absurd (∥∥₁_elim k.well (hlevel props) (λ (origin, base, own, safe). answered_fine g.D.Device origin k.core (log_kept k.core) c.args.txn c.args.op.now
-          (subst (IsAnswered g.D.Device origin k.core (log_kept k.core) c.args.txn c.args.op.now true) is
+          (subst (IsAnswered g.D.Device origin k.core (log_kept k.core) c.args.txn c.args.op.now) is
           (c.call.ensures.answer origin base safe (may_call g.D.Device r m k.core c.args.txn c.args.op.now origin own c.in_default.ensures.named c.in_default.ensures.sized c.in_default.ensures.opened c.in_default.ensures.idle c.in_default.ensures.counted))))),
       λ marked.
           let failed : is_failed k ≡ true = ap (λ (b : Bool). b || has_failed k.core.operations.store.log) marked in

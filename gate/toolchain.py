@@ -9,6 +9,7 @@ import importlib.util
 import json
 import os
 import re
+import resource
 import shutil
 import subprocess
 import sys
@@ -144,6 +145,12 @@ def stolen():
         return int(it.readline().split()[8]) / os.sysconf("SC_CLK_TCK")
 
 
+def worked():
+    """Returns the processor seconds of this process and of all that it has started and waited for."""
+    used = [resource.getrusage(it) for it in (resource.RUSAGE_SELF, resource.RUSAGE_CHILDREN)]
+    return sum(it.ru_utime + it.ru_stime for it in used)
+
+
 def timed(call, name_of):
     """Returns the call, which then prints its seconds under the name that is made of its arguments."""
 
@@ -237,16 +244,20 @@ class Run:
         return [it if holds(it[0]) else self.rt.must_fail(crate, edit, flags) for edit, it in zip(edits, tried)]
 
     def told(self, tasks):
-        """Returns the tasks, each of which prints its seconds if that is wanted, but for those whose parts do."""
+        """Returns the tasks, each of which prints its seconds if that is wanted, but for those whose parts do. A program gets one lane: most
+        of its time is the compiler's, which uses no more."""
         name = lambda key: (lambda given, jobs: f"{' '.join(map(str, key))} jobs={jobs}")
-        return {key: (*task[:3], task[3] if key[1] == "edits" else self.clocked(task[3], name(key))) for key, task in tasks.items()}
+        narrow = lambda call: (lambda given, jobs: call(given, 1))
+        told = {key: task[3] if key[1] == "edits" else self.clocked(task[3], name(key)) for key, task in tasks.items()}
+        is_program = lambda key: key[1] == "proof" and self.crates[key[0]].is_program
+        return {key: (*task[:3], narrow(told[key]) if is_program(key) else told[key]) for key, task in tasks.items()}
 
     def run(self):
         """Makes the run, and returns how much passed and how much failed."""
         out, before = sys.stdout, stolen()
         sys.stdout = held = Held(out)
         try:
-            status = self.clocked(self.rt.main, lambda _: f"all cores={self.rt.processors()} stolen={stolen() - before:.0f}")(["ci"])
+            status = self.clocked(self.rt.main, lambda _: f"all cores={self.rt.processors()} stolen={stolen() - before:.0f} worked={worked():.0f}")(["ci"])
         finally:
             sys.stdout, self.seconds = out, held.seconds
             # `rt` holds the crates' folders as long as its process lives. What comes after the run works in them too.

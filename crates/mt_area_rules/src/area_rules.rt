@@ -1,8 +1,8 @@
 // The rules over all records of a log area, tested record by record. The first batch has images alone.
 // No record follows the end of its transaction, and no page record that of its operation. An inverse names a finished
 // operation, once. Of a page the first record has the image, and no other. mt_log's scan asks it about each batch.
-ghost use Rattle.std.specs.Prelude.{◌≡◌, ◌==◌, ◌&&◌, ◌||◌, ◌∷◌, ◌++◌, ℕ, List, [], true, false, not, if◌then◌else◌, IfOk, IfErr, OnOk};
-ghost use Rattle.std.specs.BTreeSet.{contains};
+ghost use Rattle.std.specs.Prelude.{◌≡◌, ◌==◌, ◌&&◌, ◌||◌, ◌∷◌, ◌++◌, ℕ, List, [], true, false, not, if◌then◌else◌, IfOk, IfErr, OnOk, OnErr};
+ghost use Rattle.std.specs.BTreeSet.{contains, IsUnchanged};
 ghost use Rattle.std.specs.Ordering.{nat_cmp};
 ghost use Rattle.mt_base.specs.declared.refusal.Refusal.{Refusal};
 ghost use Rattle.mt_frame.specs.declared.records.Record.{Record};
@@ -28,10 +28,11 @@ pub struct AreaRules {
 }
 
 /// Puts an operation into a set of them, each of which is after its transaction. It is refused for want of memory
-/// alone.
+/// alone, and the set has the same ones then.
 pub fn note_operation(set: &mut BTreeSet<(u64, u64)>, txn: u64, op: u64) -> Result<(), AllocError>
-    ensures { OnOk result ((t o : ℕ) → contains pair_cmp set.new (t, o) ≡
+    ensures ok { OnOk result ((t o : ℕ) → contains pair_cmp set.new (t, o) ≡
         (contains pair_cmp set.old (t, o) || ((txn == t) && (op == o)))) }
+    ensures err { OnErr result (IsUnchanged set.old set.new) }
 {
     match set.insert((txn, op)) {
         Ok(_) => Ok(()),

@@ -20,7 +20,7 @@ use Rattle.mt_steps.proofs.Ranged.{ranges_by, records_repeated, short_within}
 use Rattle.mt_steps.proofs.Repeating.{logged_more, held_alone, held_changed}
 use Rattle.mt_op.specs.World.{World, repeated_in, held_in, unfinished_in, IsWorld, looked, looked_bytes, changes_in, HasNothing, IsPlanning, IsWriting, IsAt, IsUnderWay}
 use Rattle.mt_op.specs.Operations.{Goes, Steps}
-use Rattle.mt_op.specs.Records.{end_with, HasPageMore, KeepsRecords, TellsDropped, dropped_with}
+use Rattle.mt_op.specs.Records.{end_with, HasPageMore, KeepsRecords, ReportsDropped, dropped_with}
 use Rattle.mt_op.specs.Work.{IsGoing, ComesTo}
 use Rattle.mt_op.specs.declared.answers.Stepped.{Stepped}
 use Rattle.mt_op.specs.declared.answers.Stepped.TheVariants as stepped
@@ -32,7 +32,7 @@ use Rattle.mt_op.proofs.Alone.{looked_alone}
 use Rattle.mt_op.proofs.Staying.{repeated_more}
 use Rattle.mt_op.proofs.Writing.{held_as_seen, planned_held}
 use Rattle.mt_replay.specs.Recoverable.{LeadsOn}
-use Rattle.mt_replay.specs.Recorded.{Recorded, tell, calls_in}
+use Rattle.mt_replay.specs.Recorded.{Recorded, plus_records, calls_in}
 use Rattle.mt_core.proofs.Leads.{acts_lead}
 use Rattle.mt_core.specs.Consistent.{Origin}
 use Rattle.mt_core.specs.Restartable.{IsQuiet, AppendsQuietly, Appends}
@@ -69,12 +69,12 @@ alone_in xs ys zs is size =
     let none = empty_by_length xs (omega arith) in
     (none, sym (ap (λ (ws : List Change). ws ++ ys) none) ∙ is)
 
--- records of pages tell nothing
+-- records of pages say nothing of operations
 quiet_changes : (txn op p : ℕ) (image : Option (List ℕ)) (old new : List ℕ) (es : List Edit) → calls_in (change_records txn op p image old new es) ≡ []
 quiet_changes txn op p image old new [] = refl
 quiet_changes txn op p image old new (e ∷ es) = quiet_changes txn op p None old new es
 
-unreported_changes : (txn op p : ℕ) (image : Option (List ℕ)) (old new : List ℕ) (es : List Edit) (x : Recorded) → tell x (change_records txn op p image old new es) ≡ x
+unreported_changes : (txn op p : ℕ) (image : Option (List ℕ)) (old new : List ℕ) (es : List Edit) (x : Recorded) → plus_records x (change_records txn op p image old new es) ≡ x
 unreported_changes txn op p image old new [] x = refl
 unreported_changes txn op p image old new (e ∷ es) x = unreported_changes txn op p None old new es x
 
@@ -196,7 +196,7 @@ module _ (relations counters : ℕ) (w z : World) (s t : OpScope) (hz : IsWorld 
               ∙ records_repeated t.txn t.number c.page bytes after_all image k.first (repeated_in w) named)
               ∙ held_changed (repeated_in w) (ranges_of t.number c.page bytes after_all k.first) (restores going k.first k.rest k.is);
           calls = ap calls_in k.records ∙ quiet_changes t.txn t.number c.page image bytes after_all k.first;
-          outcome = λ x. ap (tell x) k.records ∙ unreported_changes t.txn t.number c.page image bytes after_all k.first x;
+          outcome = λ x. ap (plus_records x) k.records ∙ unreported_changes t.txn t.number c.page image bytes after_all k.first x;
         };
   }
 
@@ -235,7 +235,7 @@ step_total relations counters w z s t (Err why) k g = goes_total relations count
 
 -- ---- a taking back
 
-pub back_appends : (relations counters : ℕ) (w z : World) (s t : OpScope) (result : Result TakenBack Refusal) → z.opening ≡ w.opening → Goes relations counters w z s t → TellsDropped s w.records z.records result → AppendsQuietly w.opening w.records z.records
+pub back_appends : (relations counters : ℕ) (w z : World) (s t : OpScope) (result : Result TakenBack Refusal) → z.opening ≡ w.opening → Goes relations counters w z s t → ReportsDropped s w.records z.records result → AppendsQuietly w.opening w.records z.records
 back_appends relations counters w z s t (Ok taken.Clear) opening g more = go s.standing refl
   where
     go : (n : ℕ) → s.standing ≡ n → AppendsQuietly w.opening w.records z.records

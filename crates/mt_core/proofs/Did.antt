@@ -1,4 +1,4 @@
--- Entries that did something, among those of several transactions, and the records' tellings of them.
+-- Entries that did something, among those of several transactions, and what is recorded of them.
 use Rattle.std.proofs.Common.{◌≡◌, ◌≢◌, ◌⊎◌, inl, inr, ℕ, suc, ◌<◌, ◌==◌, Bool, true, false, not, ◌&&◌, is_some, cond, List, [], ◌∷◌, ◌++◌, Option, Some, None, length, take, get_or, map, filter, refl, sym, ap, ◌∙◌, subst, arith, append-nil, append_assoc}
 use Rattle.std.specs.Prelude.{AllPairs, All}
 use Rattle.std.specs.List.{AllByRecursion}
@@ -126,7 +126,7 @@ pub without_did : (ts : List ℕ) (es : List Entry) → filter did (without_all 
 without_did [] es = refl
 without_did (t ∷ ts) es = without_did ts (kept (others t) es) ∙ ap (without_all ts) (filter-swap did (λ (e : Entry). others t e.txn) es)
 
--- ---- as the records tell them
+-- ---- as they are recorded
 
 pub calls_entries : (fs : List Finished) → calls (map entry_of fs) ≡ calls_of fs
 calls_entries [] = refl

@@ -18,7 +18,7 @@ use Rattle.mt_model.specs.Model.{Base}
 use Rattle.mt_live.specs.declared.transactions.TxnState.TheVariants.{Aborting}
 use Rattle.mt_op.specs.Moves.{SameOp}
 use Rattle.mt_op.specs.Operations.{world, IsRight, HasBudget, Goes, claimed}
-use Rattle.mt_op.specs.Records.{TellsDropped}
+use Rattle.mt_op.specs.Records.{ReportsDropped}
 use Rattle.mt_op.specs.declared.answers.TakenBack.{TakenBack}
 use Rattle.mt_op.specs.declared.answers.TakenBack.TheVariants as taken
 use Rattle.mt_op.specs.declared.operations.Operations.{Operations}
@@ -43,7 +43,7 @@ pub record HasGoneBack {D : Type 0} (g : Ghosts D) (opening : PageBytes) (relati
   pub area : area_size n.store.log ≡ area_size o.store.log
   pub budget : HasBudget t
   pub claims : claimed n ≡ claimed o
-  pub records : TellsDropped s (appended o.store.log) (appended n.store.log) r
+  pub records : ReportsDropped s (appended o.store.log) (appended n.store.log) r
   pub locks : n.locks ≡ o.locks
 
 module _ {D : Type 0} (g : Ghosts D) (origin : Origin) (base : Base) where

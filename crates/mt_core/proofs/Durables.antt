@@ -27,7 +27,7 @@ module _ {D : Type 0} (g : Ghosts D) where
   pub record HaveLeft (k n : Core D) (count : ℕ) (old names : List ℕ) : Type 0 where
     pub state : (origin : Origin) (base : Base) → IsConsistent g origin base k → IsIn g origin base (booked_each (state_of k base) (txns_of (take count k.commits.items))) n
     pub leaves : n.commits.items ≡ drop count k.commits.items
-    pub tells : names ≡ old ++ txns_of (take count k.commits.items)
+    pub named : names ≡ old ++ txns_of (take count k.commits.items)
 
   pub left_sound : (k n : Core D) (count : ℕ) (old names : List ℕ) → IsSound g k → HaveLeft k n count old names → IsSound g n
   left_sound k n count old names sound left = ∥∥₁_map sound (λ (origin, base, safe). (origin, base, (left.state origin base safe).consistent))
@@ -40,7 +40,7 @@ module _ {D : Type 0} (g : Ghosts D) where
   pub left_more : (k n z : Core D) (count t : ℕ) (old names new : List ℕ) (d : Commit) → HaveLeft k n count old names → count < length k.commits.items
       → ((origin : Origin) (base : Base) (c : Commit) (cs : List Commit) → IsConsistent g origin base n → n.commits.items ≡ c ∷ cs → BooksIn g origin base n z c)
       → (t ≡ (get_or k.commits.items count d).txn) × (z.commits.items ≡ drop (suc count) k.commits.items) → new ≡ names ++ t ∷ [] → HaveLeft k z (count + 1) old new
-  left_more k n z count t old names new d left within books own tells =
+  left_more k n z count t old names new d left within books own named =
       let c = get_or k.commits.items count d in
       let queue = next_left k n count old names d left within in
       let more : txns_of (take (count + 1) k.commits.items) ≡ txns_of (take count k.commits.items) ++ c.txn ∷ [] = map_more (λ (x : Commit). x.txn) k.commits.items count d within in
@@ -53,5 +53,5 @@ module _ {D : Type 0} (g : Ghosts D) where
             let now : booked s c.txn (session_at s c.txn) ≡ booked (state_of n base) c.txn (session_in n.live.members c.txn) = λ i. booked (was.state i) c.txn (session i) in
             subst (λ (x : State). IsIn g origin base x z) (sym (ap (booked_each (state_of k base)) more ∙ booked_push (state_of k base) (txns_of (take count k.commits.items)) c.txn ∙ now)) b;
         leaves = rw add-one own.1;
-        tells = tells ∙ ((λ i. left.tells i ++ own.0 i ∷ []) ∙ (append_assoc old (txns_of (take count k.commits.items)) (c.txn ∷ []) ∙ ap (λ xs. old ++ xs) (sym more)));
+        named = named ∙ ((λ i. left.named i ++ own.0 i ∷ []) ∙ (append_assoc old (txns_of (take count k.commits.items)) (c.txn ∷ []) ∙ ap (λ xs. old ++ xs) (sym more)));
       }

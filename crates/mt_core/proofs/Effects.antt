@@ -206,7 +206,7 @@ last_kept u t (x ∷ es) apart = go (last_kept u t es apart) (x.txn == t) refl
         rec ∙ sym (ap (λ (c : Bool). last_of (last_effect u es) c x) gone ∙ last_skips (last_effect u es) x)
     go rec false is = ap (λ (o : Option Entry). last_of o (is_effect u x) x) rec
 
--- its own entries tell as much of it
+-- its own entries say as much of it
 pub last_only : (t : ℕ) (es : List Entry) → last_effect t (kept (only t) es) ≡ last_effect t es
 last_only t [] = refl
 last_only t (x ∷ es) = go (last_only t es) (x.txn == t) refl

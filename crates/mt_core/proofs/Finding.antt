@@ -95,8 +95,8 @@ inverse_logged e i base inverse a = go (logged_of e.op e.reply) refl
     go : (o : Option LoggedOp) → logged_of e.op e.reply ≡ o → is_some (logged_of i (reply_of base i)) ≡ true
     go None is = let some : is_some (inverse_of e.op e.reply) ≡ true = ap is_some inverse in let none : is_some (inverse_of e.op e.reply) ≡ false = logged_did e.op e.reply ∙ ap is_some is in absurd cc
     go (Some d) is =
-        let tells = logged_is e.op e.reply d is in
-        let same : i ≡ undo_of d = inverse_is d e.op e.reply i (sym tells.0) (sym tells.1) inverse in
-        let found : reply_of (base_after a.before (op_of d)) (undo_of d) ≡ reply_back d = reply_after d a.before a.bounds (ap (reply_of a.before) tells.0 ∙ a.reply ∙ sym tells.1) in
-        let here : reply_of base i ≡ reply_back d = (λ j. reply_of ((a.is ∙ ap (base_after a.before) (sym tells.0)) j) (same j)) ∙ found in
+        let same_call = logged_is e.op e.reply d is in
+        let same : i ≡ undo_of d = inverse_is d e.op e.reply i (sym same_call.0) (sym same_call.1) inverse in
+        let found : reply_of (base_after a.before (op_of d)) (undo_of d) ≡ reply_back d = reply_after d a.before a.bounds (ap (reply_of a.before) same_call.0 ∙ a.reply ∙ sym same_call.1) in
+        let here : reply_of base i ≡ reply_back d = (λ j. reply_of ((a.is ∙ ap (base_after a.before) (sym same_call.0)) j) (same j)) ∙ found in
         (λ j. is_some (logged_of (same j) (here j))) ∙ undo_logged d

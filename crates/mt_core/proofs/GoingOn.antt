@@ -10,7 +10,7 @@ use Rattle.mt_op.specs.declared.scope.OpScope.{OpScope}
 use Rattle.mt_core.specs.Consistent.{Advances, IsIn, Origin}
 use Rattle.mt_core.specs.PageLocks.{step_of}
 use Rattle.mt_core.specs.Restartable.{QuietlyAppends, StepAppends}
-use Rattle.mt_core.specs.Steps.{AwaitsOther, TellsOther}
+use Rattle.mt_core.specs.Steps.{AwaitsOther, StepNamesOther}
 use Rattle.mt_core.specs.Work.{LeavesSteps}
 use Rattle.mt_core.specs.declared.parts.Core.{Core}
 use Rattle.mt_core.specs.declared.steps.Going.{Going}
@@ -30,7 +30,7 @@ lowers_prop (going.Wait holder) total before now = hlevel props
 lowers_prop (going.Again holder) total before now = hlevel props
 lowers_prop going.Flush total before now = hlevel props
 
-pub other_on : (g : Going) (rs : List OpScope) (t : ℕ) → TellsOther rs t (Ok (step_of g)) → AwaitsOther rs t g
+pub other_on : (g : Going) (rs : List OpScope) (t : ℕ) → StepNamesOther rs t (Ok (step_of g)) → AwaitsOther rs t g
 other_on going.Went rs t other = tt
 other_on (going.Wait holder) rs t other = other
 other_on (going.Again holder) rs t other = other

@@ -21,7 +21,7 @@ use Rattle.mt_plock.specs.declared.guards.PageLock.{PageLock}
 use Rattle.mt_core.specs.Consistent.{IsOwnerOf}
 use Rattle.mt_core.specs.Runs.{AreApart, AreHeldBy, IsOwned, is_under_way, kept_bytes, pages_of, taken_bytes, is_working}
 use Rattle.mt_op.specs.World.{left_of}
-use Rattle.mt_core.specs.Steps.{IsOfOther, TellsOther}
+use Rattle.mt_core.specs.Steps.{IsOfOther, StepNamesOther}
 use Rattle.mt_op.specs.declared.scope.OpScope.{OpScope}
 use Rattle.mt_core.proofs.Lists.{pair_at}
 use Rattle.mt_core.proofs.Underway.{apart_flip}
@@ -125,18 +125,18 @@ in_way rs lock locks holder held least =
     let (i, d, lt, at, both) = least.holds in
     ap (is_under_way rs) (sym both.1 ∙ ap (λ (l : PageLock). l.op) (sym at)) ∙ held i d lt
 
-pub tells_other : (rs : List OpScope) (place : ℕ) (r q : OpScope) (Next : ℕ → Mode → Type 0) (old new : List PageLock) (res : Result Stepped Refusal) → place < length rs → r ≡ get_or rs place r → AllPairs AreApart rs → AreHeldBy rs old → KeepsLocks r.number Next old new res
-    → TellsOther (set rs place q) r.txn res
-tells_other rs place r q Next old new (Ok (stepped.Wait holder)) within there pairs held keeps =
+pub step_names_other : (rs : List OpScope) (place : ℕ) (r q : OpScope) (Next : ℕ → Mode → Type 0) (old new : List PageLock) (res : Result Stepped Refusal) → place < length rs → r ≡ get_or rs place r → AllPairs AreApart rs → AreHeldBy rs old → KeepsLocks r.number Next old new res
+    → StepNamesOther (set rs place q) r.txn res
+step_names_other rs place r q Next old new (Ok (stepped.Wait holder)) within there pairs held keeps =
     let (p, mode, next, awaited) = keeps.1 in
     other_of rs place r q holder within there (λ same. let more = awaited.1 in absurd (omega (arith, same, more))) pairs (in_way rs (lock_of r.number p mode) old holder held awaited.0)
-tells_other rs place r q Next old new (Ok (stepped.Again holder)) within there pairs held keeps =
+step_names_other rs place r q Next old new (Ok (stepped.Again holder)) within there pairs held keeps =
     let (p, mode, next, barred) = keeps.1 in
     other_of rs place r q holder within there (λ same. let less = barred.1 in absurd (omega (arith, same, less))) pairs (in_way rs (lock_of r.number p mode) old holder held barred.0)
-tells_other rs place r q Next old new (Ok stepped.Went) within there pairs held keeps = tt
-tells_other rs place r q Next old new (Ok stepped.Flush) within there pairs held keeps = tt
-tells_other rs place r q Next old new (Ok (stepped.Ready first second)) within there pairs held keeps = tt
-tells_other rs place r q Next old new (Err why) within there pairs held keeps = tt
+step_names_other rs place r q Next old new (Ok stepped.Went) within there pairs held keeps = tt
+step_names_other rs place r q Next old new (Ok stepped.Flush) within there pairs held keeps = tt
+step_names_other rs place r q Next old new (Ok (stepped.Ready first second)) within there pairs held keeps = tt
+step_names_other rs place r q Next old new (Err why) within there pairs held keeps = tt
 
 -- ---- an operation has one owner, who lives
 

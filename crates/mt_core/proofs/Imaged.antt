@@ -1,4 +1,4 @@
--- Images, with which a log's area may begin. They end nothing and tell nothing. The pages held are those of the opening.
+-- Images, with which a log's area may begin. They end nothing, and nothing is recorded by them. The pages held are those of the opening.
 use Rattle.std.proofs.Common.{◌≡◌, ℕ, false, List, [], ◌∷◌, ◌++◌, refl, subst, arith}
 use Rattle.std.specs.List.{AllByRecursion}
 use Rattle.std.proofs.lemmas.List.Elements.{All-from_recursion, recursion_from_All}
@@ -11,16 +11,16 @@ use Rattle.mt_log.proofs.Prefix.{each_front}
 use Rattle.mt_op.proofs.Stored.{unlogged_held}
 use Rattle.mt_op.specs.Begun.{AreImages}
 use Rattle.mt_replay.specs.Recoverable.{EachBeginning, pages_held}
-use Rattle.mt_replay.specs.Recorded.{Recorded, tell, calls_in}
+use Rattle.mt_replay.specs.Recorded.{Recorded, plus_records, calls_in}
 use Rattle.mt_space.specs.Changes.{PageBytes}
 use Rattle.mt_core.specs.Restartable.{IsQuiet}
 
--- no transaction and no operation ends in these records, and they tell nothing
+-- no transaction and no operation ends in these records, and nothing is recorded by them
 pub record EndNothing (records : List Record) : Type 0 where
   pub txns : (t : ℕ) → some_record (ends_txn t) records ≡ false
   pub ops : (n : ℕ) → some_record (ends_op n) records ≡ false
   pub calls : calls_in records ≡ []
-  pub outcome : (x : Recorded) → tell x records ≡ x
+  pub outcome : (x : Recorded) → plus_records x records ≡ x
 
 -- a transaction's number is not 0
 some_txn : (t : ℕ) → IsTxn t → t ≡ 0 → ⊥
@@ -48,7 +48,7 @@ front_images front back images =
     let none = recursion_from_All (λ (r : Record). txn_of r ≡ 0) (front ++ back) images in
     All-from_recursion (λ (r : Record). txn_of r ≡ 0) front (each_front (λ (r : Record). txn_of r ≡ 0) front back none)
 
--- each beginning of images tells what no record at all tells, and the pages held stay
+-- by each beginning of images is recorded what is by no record at all, and the pages held stay
 pub images_quiet : (opening : PageBytes) (records : List Record) → AllByRecursion IsRecord records → AreImages records → EachBeginning (IsQuiet opening []) records
 images_quiet opening records each images front back is =
     let alone : AreImages front = front_images front back (subst AreImages is images) in

@@ -1,4 +1,4 @@
--- What is durable tells of each commit of the book, and of those under way whose records are durable; and so it stays.
+-- Each commit of the book is recorded by what is durable, and each under way whose record is; and so it stays.
 use Rattle.std.proofs.Common.{◌≡◌, ◌≢◌, ◌⊎◌, inl, inr, ⊎_elim, ℕ, zero, suc, ◌<◌, ◌≤◌, ◌+◌, ◌-◌, nat_lt, Bool, true, false, not, cond, List, [], ◌∷◌, ◌++◌, length, get_or, refl, sym, ap, ◌∙◌, subst, arith, append-nil, append_assoc}
 use Rattle.std.specs.Prelude.{All, AllPairs}
 use Rattle.std.proofs.lemmas.Bool.{cases_eq, cases_lt, lt-ltb, ltb-true}
@@ -8,13 +8,13 @@ use Rattle.mt_frame.specs.declared.records.Record.{Record}
 use Rattle.mt_frame.specs.declared.records.Record.TheVariants as record_of
 use Rattle.mt_log.specs.Words.{appended, durable, in_flight, waiting, Moves}
 use Rattle.mt_model.specs.declared.history.Committed.{Committed}
-use Rattle.mt_replay.proofs.Walking.{tell_more}
-use Rattle.mt_replay.specs.Recorded.{Recorded, nothing, its, tells}
+use Rattle.mt_replay.proofs.Walking.{plus_more}
+use Rattle.mt_replay.specs.Recorded.{Recorded, nothing, its, recorded_in}
 use Rattle.mt_core.proofs.Lists.{pairs_head, pairs_tail}
-use Rattle.mt_core.proofs.Prefixed.{tells_more}
+use Rattle.mt_core.proofs.Prefixed.{recorded_more}
 use Rattle.mt_core.specs.Booked.{durable_count}
 use Rattle.mt_core.specs.Consistent.{Origin, IsPlaced, IsConsistent}
-use Rattle.mt_core.specs.Restartable.{Lasts, TellsBook, SameBook}
+use Rattle.mt_core.specs.Restartable.{Lasts, RecordsBook, SameBook}
 use Rattle.mt_model.specs.Model.{Base}
 use Rattle.mt_core.specs.declared.parts.Commit.{Commit}
 use Rattle.mt_core.specs.declared.parts.Core.{Core}
@@ -99,12 +99,12 @@ next_count (c ∷ cs) p rising = ⊎_elim behind (before (next_count cs p (pairs
         (λ (apart : c.place ≢ suc p). let then = count_none c cs (suc p) (omega (arith, less, apart)) in inl (omega (arith, then)))
         (cases_eq c.place (suc p))
 
--- ---- what more records tell
+-- ---- what is recorded by more records
 
-commit_reported : (front : List Record) (t : ℕ) → length (tells (front ++ record_of.Commit t ∷ [])).books ≡ length (tells front).books + 1
+commit_reported : (front : List Record) (t : ℕ) → length (recorded_in (front ++ record_of.Commit t ∷ [])).books ≡ length (recorded_in front).books + 1
 commit_reported front t =
-    let x = tells front in
-    ap (λ (y : Recorded). length y.books) (tell_more nothing front (record_of.Commit t ∷ [])) ∙ length_push x.books (its t x.ends)
+    let x = recorded_in front in
+    ap (λ (y : Recorded). length y.books) (plus_more nothing front (record_of.Commit t ∷ [])) ∙ length_push x.books (its t x.ends)
 
 record_at : (front back : List Record) (r d : Record) (i : ℕ) → length front ≡ i → get_or (front ++ r ∷ back) i d ≡ r
 record_at front back r d i is =
@@ -112,14 +112,14 @@ record_at front back r d i is =
     ap (λ (rs : List Record). get_or rs i d) (sym (append_assoc front (r ∷ []) back)) ∙ get_or_append_left (front ++ r ∷ []) back d i (omega (arith, more, is)) ∙ get_or_push front r d i is
 
 one_counted : (front back : List Record) (r : Record) (cs : List Commit) → Rising cs → All (IsPlaced (front ++ r ∷ back)) cs
-    → durable_count cs (length (front ++ r ∷ [])) + length (tells front).books ≤ durable_count cs (length front) + length (tells (front ++ r ∷ [])).books
-one_counted front back r cs rising placed = subst (λ (n : ℕ). durable_count cs n + length (tells front).books ≤ durable_count cs (length front) + length (tells (front ++ r ∷ [])).books) (sym size) (⊎_elim
-    (λ (few : durable_count cs (suc (length front)) ≤ durable_count cs (length front)). let more = tells_more front (r ∷ []) in omega (arith, few, more))
+    → durable_count cs (length (front ++ r ∷ [])) + length (recorded_in front).books ≤ durable_count cs (length front) + length (recorded_in (front ++ r ∷ [])).books
+one_counted front back r cs rising placed = subst (λ (n : ℕ). durable_count cs n + length (recorded_in front).books ≤ durable_count cs (length front) + length (recorded_in (front ++ r ∷ [])).books) (sym size) (⊎_elim
+    (λ (few : durable_count cs (suc (length front)) ≤ durable_count cs (length front)). let more = recorded_more front (r ∷ []) in omega (arith, few, more))
     (λ (n : Next cs (length front)).
     let c = get_or cs n.at none in
     let at : length front ≡ c.place - 1 = let is = n.there none in omega (arith, is) in
     let is : r ≡ record_of.Commit c.txn = sym (record_at front back r r (c.place - 1) at) ∙ (placed n.at none n.within).there r in
-    let books : length (tells (front ++ r ∷ [])).books ≡ length (tells front).books + 1 = ap (λ (x : Record). length (tells (front ++ x ∷ [])).books) is ∙ commit_reported front c.txn in
+    let books : length (recorded_in (front ++ r ∷ [])).books ≡ length (recorded_in front).books + 1 = ap (λ (x : Record). length (recorded_in (front ++ x ∷ [])).books) is ∙ commit_reported front c.txn in
     let one = n.one in omega (arith, one, books))
     (next_count cs (length front) rising))
   where
@@ -130,15 +130,15 @@ one_counted front back r cs rising placed = subst (λ (n : ℕ). durable_count c
     size = let more = length_push front r in omega (arith, more)
 
 pub all_counted : (more front rest : List Record) (cs : List Commit) → Rising cs → All (IsPlaced (front ++ (more ++ rest))) cs
-    → durable_count cs (length (front ++ more)) + length (tells front).books ≤ durable_count cs (length front) + length (tells (front ++ more)).books
-all_counted [] front rest cs rising placed = subst (λ (rs : List Record). durable_count cs (length rs) + length (tells front).books ≤ durable_count cs (length front) + length (tells rs).books) (sym (append-nil front)) (omega arith)
+    → durable_count cs (length (front ++ more)) + length (recorded_in front).books ≤ durable_count cs (length front) + length (recorded_in (front ++ more)).books
+all_counted [] front rest cs rising placed = subst (λ (rs : List Record). durable_count cs (length rs) + length (recorded_in front).books ≤ durable_count cs (length front) + length (recorded_in rs).books) (sym (append-nil front)) (omega arith)
 all_counted (r ∷ more) front rest cs rising placed =
     let next = front ++ r ∷ [] in
     let whole : next ++ more ≡ front ++ r ∷ more = append_assoc front (r ∷ []) more in
     let one = one_counted front (more ++ rest) r cs rising placed in
     let others = all_counted more next rest cs rising (subst (λ (rs : List Record). All (IsPlaced rs) cs) (sym (append_assoc front (r ∷ []) (more ++ rest))) placed) in
     let now : durable_count cs (length (next ++ more)) ≡ durable_count cs (length (front ++ r ∷ more)) = ap (λ (rs : List Record). durable_count cs (length rs)) whole in
-    let books : length (tells (next ++ more)).books ≡ length (tells (front ++ r ∷ more)).books = ap (λ (rs : List Record). length (tells rs).books) whole in
+    let books : length (recorded_in (next ++ more)).books ≡ length (recorded_in (front ++ r ∷ more)).books = ap (λ (rs : List Record). length (recorded_in rs).books) whole in
     omega (arith, one, others, now, books)
 
 -- ---- parts
@@ -159,7 +159,7 @@ module _ {D : Type 0} where
 
 module _ {D : Type 0} (g : Ghosts D) (origin : Origin) where
   -- with the same book and the same commits under way
-  pub stays_reported : (k n : Core D) (later : Base) → IsConsistent g origin later n → Lasts k n → SameBook k n → TellsBook origin k → TellsBook origin n
+  pub stays_reported : (k n : Core D) (later : Base) → IsConsistent g origin later n → Lasts k n → SameBook k n → RecordsBook origin k → RecordsBook origin n
   stays_reported k n later safe (more, is) same was =
       let old = durable k.operations.store.log in
       let rest = in_flight n.operations.store.log ++ waiting n.operations.store.log in
@@ -167,36 +167,36 @@ module _ {D : Type 0} (g : Ghosts D) (origin : Origin) where
       let records : appended n.operations.store.log ≡ old ++ (more ++ rest) = ap (λ (rs : List Record). rs ++ rest) is ∙ append_assoc old more rest in
       let counted = all_counted more old rest cs safe.fit.queued.rising (subst (λ (rs : List Record). All (IsPlaced rs) cs) records safe.fit.queued.placed) in
       let now : durable_count cs (length (durable n.operations.store.log)) ≡ durable_count cs (length (old ++ more)) = ap (λ (rs : List Record). durable_count cs (length rs)) is in
-      let books : length (tells (durable n.operations.store.log)).books ≡ length (tells (old ++ more)).books = ap (λ (rs : List Record). length (tells rs).books) is in
+      let books : length (recorded_in (durable n.operations.store.log)).books ≡ length (recorded_in (old ++ more)).books = ap (λ (rs : List Record). length (recorded_in rs).books) is in
       let book : length n.book.items ≡ length k.book.items = ap (λ (b : List Committed). length b) same.book in
       let commits : durable_count cs (length old) ≡ durable_count k.commits.items (length old) = ap (λ (xs : List Commit). durable_count xs (length old)) same.commits in
       omega (arith, was, counted, now, books, book, commits)
 
   -- a commit more is under way, whose record is not durable
   pub begins_reported : (k n : Core D) (it : Commit) → durable n.operations.store.log ≡ durable k.operations.store.log → n.book.items ≡ k.book.items → n.commits.items ≡ k.commits.items ++ it ∷ [] → length (durable k.operations.store.log) < it.place
-      → TellsBook origin k → TellsBook origin n
+      → RecordsBook origin k → RecordsBook origin n
   begins_reported k n it same book commits behind was =
       let old = durable k.operations.store.log in
       let now : durable_count n.commits.items (length (durable n.operations.store.log)) ≡ durable_count k.commits.items (length old) =
       (λ i. durable_count (commits i) (length (same i))) ∙ count_push k.commits.items it (length old) behind in
-      let books : length (tells (durable n.operations.store.log)).books ≡ length (tells old).books = ap (λ (rs : List Record). length (tells rs).books) same in
+      let books : length (recorded_in (durable n.operations.store.log)).books ≡ length (recorded_in old).books = ap (λ (rs : List Record). length (recorded_in rs).books) same in
       let size : length n.book.items ≡ length k.book.items = ap (λ (b : List Committed). length b) book in
       omega (arith, was, now, books, size)
 
   -- the first is booked, whose record is durable
   pub leaves_reported : (k n : Core D) (c : Commit) (cs : List Commit) (done : Committed) → n.operations.store ≡ k.operations.store → k.commits.items ≡ c ∷ cs → n.commits.items ≡ cs → n.book.items ≡ k.book.items ++ done ∷ [] → c.place ≤ length (durable k.operations.store.log)
-      → TellsBook origin k → TellsBook origin n
+      → RecordsBook origin k → RecordsBook origin n
   leaves_reported k n c cs done store queue rest book there was =
       let old = durable k.operations.store.log in
       let same : durable n.operations.store.log ≡ old = ap (λ s. durable s.log) store in
       let before : durable_count k.commits.items (length old) ≡ 1 + durable_count cs (length old) = ap (λ (xs : List Commit). durable_count xs (length old)) queue ∙ count_some c cs (length old) there in
       let now : durable_count n.commits.items (length (durable n.operations.store.log)) ≡ durable_count cs (length old) = λ i. durable_count (rest i) (length (same i)) in
-      let books : length (tells (durable n.operations.store.log)).books ≡ length (tells old).books = ap (λ (rs : List Record). length (tells rs).books) same in
+      let books : length (recorded_in (durable n.operations.store.log)).books ≡ length (recorded_in old).books = ap (λ (rs : List Record). length (recorded_in rs).books) same in
       let size : length n.book.items ≡ length k.book.items + 1 = ap (λ (b : List Committed). length b) book ∙ length_push k.book.items done in
       omega (arith, was, before, now, books, size)
 
   -- the area begins with the book
-  pub starts_reported : (k : Core D) → k.book.items ≡ origin.earlier → k.commits.items ≡ [] → TellsBook origin k
+  pub starts_reported : (k : Core D) → k.book.items ≡ origin.earlier → k.commits.items ≡ [] → RecordsBook origin k
   starts_reported k book commits =
       let none : durable_count k.commits.items (length (durable k.operations.store.log)) ≡ 0 = ap (λ (cs : List Commit). durable_count cs (length (durable k.operations.store.log))) commits in
       let size : length k.book.items ≡ length origin.earlier = ap (λ (b : List Committed). length b) book in

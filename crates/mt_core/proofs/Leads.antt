@@ -26,7 +26,7 @@ use Rattle.mt_replay.specs.Recorded.{op_of, reply_in, call_of, call_in, calls_in
 some_is : (a b : LoggedOp) → Some a ≡ Some b → a ≡ b
 some_is a b is = cc
 
--- the end of an operation tells it and its reply
+-- the end of an operation records it and its reply
 pub logged_is : (op : Op) (reply : Reply) (done : LoggedOp) → logged_of op reply ≡ Some done → (op_of done ≡ op) × (reply_in done ≡ reply)
 logged_is (Insert r k v) (Found x) done is = absurd cc
 logged_is (Insert r k v) (Missing) done is = absurd cc
@@ -133,11 +133,11 @@ acts_lead relations counters w z s t reply opening total hz a k = go (logged_of 
     go (Some done) is =
         let r : Record = OpEnd s.txn s.number s.undoes done in
         let ended : z.records ≡ w.records ++ r ∷ [] = a.ended ∙ ap (λ (o : Option LoggedOp). w.records ++ end_with s.txn s.number s.undoes o) is in
-        let tells = logged_is s.op reply done is in
+        let same_call = logged_is s.op reply done is in
         let held_now : held_in z ≡ pages_held w.opening (w.records ++ r ∷ []) = λ i. held (logged (opening i) (ended i)) in
         subst (LeadsOn relations counters w.total w.opening) (sym ended)
         (leads_end relations counters w.total w.opening w.records s.txn s.number s.undoes done
         (subst (λ (X : Type 0). X) (λ i. IsGood relations counters (total i) (held_now i)) hz.good)
-        (λ b holds. ap (reply_of b) tells.0 ∙ a.replies b holds ∙ sym tells.1)
-        (λ b holds. subst (λ (X : Type 0). X) (λ i. Holds (held_now i) (base_after b (sym tells.0 i))) (a.base b holds))
+        (λ b holds. ap (reply_of b) same_call.0 ∙ a.replies b holds ∙ sym same_call.1)
+        (λ b holds. subst (λ (X : Type 0). X) (λ i. Holds (held_now i) (base_after b (sym same_call.0 i))) (a.base b holds))
         k)

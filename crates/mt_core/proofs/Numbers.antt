@@ -14,7 +14,7 @@ use Rattle.mt_live.specs.Members.{Member}
 use Rattle.mt_op.specs.Holds.{IsNext, KeepsLocks}
 use Rattle.mt_base.specs.declared.modes.Mode.{Mode}
 use Rattle.mt_op.specs.Operations.{Steps}
-use Rattle.mt_op.specs.Records.{end_with, dropped_with, HasPageMore, KeepsRecords, TellsDropped}
+use Rattle.mt_op.specs.Records.{end_with, dropped_with, HasPageMore, KeepsRecords, ReportsDropped}
 use Rattle.mt_op.specs.World.{World, IsWorld, IsFresh, unfinished_in}
 use Rattle.mt_op.specs.declared.answers.Stepped.{Stepped}
 use Rattle.mt_op.specs.declared.answers.Stepped.TheVariants as stepped
@@ -80,7 +80,7 @@ adds_pages s old new more =
     ⊎_elim (λ (same : new ≡ old). adds_none old new same)
     (λ one. let (c, image, bytes, there, is) = one in record { more = _; is = is; none = λ t n. page_undoes t n s.txn s.number c.page image bytes _ c.edits.items }) more
 
-pub adds_dropped : (s : OpScope) (old new : List Record) (r : Result TakenBack Refusal) → TellsDropped s old new r → AddsNoInverse old new
+pub adds_dropped : (s : OpScope) (old new : List Record) (r : Result TakenBack Refusal) → ReportsDropped s old new r → AddsNoInverse old new
 adds_dropped s old new (Ok taken.Clear) outcome = record { more = dropped_with s.txn s.number s.standing; is = outcome; none = λ t n. dropped_undoes t n s.txn s.number s.standing }
 adds_dropped s old new (Ok taken.More) outcome = adds_none old new outcome
 adds_dropped s old new (Ok taken.Flush) outcome = adds_none old new outcome
@@ -131,7 +131,7 @@ module _ (last begun : ℕ) (ms : List Member) where
   numbered_step noted relations counters w z s t (Err why) known steps locks records k = numbered_locks w.locks z.locks w.records z.records (subst (All (λ (l : PageLock). l.op ≤ last)) (sym locks) k.locks) records k
 
   -- a step of a taking back
-  pub numbered_dropped : (s : OpScope) (old new : List PageLock) (records more : List Record) (r : Result TakenBack Refusal) → s.number ≤ last → new ≡ old → TellsDropped s records more r → IsNumbered last begun ms old records → IsNumbered last begun ms new more
+  pub numbered_dropped : (s : OpScope) (old new : List PageLock) (records more : List Record) (r : Result TakenBack Refusal) → s.number ≤ last → new ≡ old → ReportsDropped s records more r → IsNumbered last begun ms old records → IsNumbered last begun ms new more
   numbered_dropped s old new records more (Ok taken.Clear) known locks outcome k =
       subst (IsNumbered last begun ms new) (sym outcome)
       (numbered_more old new records (dropped_with s.txn s.number s.standing) (subst (All (λ (l : PageLock). l.op ≤ last)) (sym locks) k.locks)

@@ -29,7 +29,7 @@ use Rattle.mt_model.specs.Model.{Base, IsBase, IsWithin, reply_of, base_after, i
 use Rattle.mt_model.specs.declared.history.Committed.{Committed}
 use Rattle.mt_pool.specs.Views.{pages}
 use Rattle.mt_replay.specs.Recoverable.{IsSerial, IsOf, LeadsOn, all_pages, inverse_pages, pages_held}
-use Rattle.mt_replay.specs.Recorded.{Finished, op_of, calls_of, losers, run_all, stands_for, tells}
+use Rattle.mt_replay.specs.Recorded.{Finished, op_of, calls_of, losers, run_all, stands_for, recorded_in}
 use Rattle.mt_space.specs.Rooms.{free_in, free_of}
 use Rattle.mt_steps.specs.Plans.{free_pages}
 use Rattle.mt_core.proofs.Calling.{open_some}
@@ -37,7 +37,7 @@ use Rattle.mt_core.proofs.Counted.{at_most}
 use Rattle.mt_core.proofs.Did.{calls_entries}
 use Rattle.mt_core.specs.Booked.{txns_of}
 use Rattle.mt_core.specs.Consistent.{Origin, state_of, session_in, IsConsistent, IsWithinSchema}
-use Rattle.mt_core.specs.Restartable.{did, did_call, effects_of, entry_of, TellsOf, Recovers}
+use Rattle.mt_core.specs.Restartable.{did, did_call, effects_of, entry_of, AreRecordsOf, Recovers}
 use Rattle.mt_core.specs.Runs.{entry_pages, entry_bytes, taken_bytes}
 use Rattle.mt_core.specs.declared.parts.Commit.{Commit}
 use Rattle.mt_core.specs.declared.parts.Core.{Core}
@@ -171,13 +171,13 @@ module _ {D : Type 0} (g : Ghosts D) (origin : Origin) (base : Base) (n : Core D
   pub whole_legal : IsLegal origin.first (n.book.items ++ turned)
   whole_legal = legal_append origin.first n.book.items turned safe.fit.kept.legal moved.0
 
-  module _ (begun : origin.begun ≡ after origin.first origin.earlier) (tells_of : TellsOf origin n records) where
+  module _ (begun : origin.begun ≡ after origin.first origin.earlier) (are_records_of : AreRecordsOf origin n records) where
     -- since the area began
     abbrev pub commits_since : List Committed
-    commits_since = tells_of.since ++ turned
+    commits_since = are_records_of.since ++ turned
 
     whole_is : n.book.items ++ turned ≡ origin.earlier ++ commits_since
-    whole_is = ap (λ (cs : List Committed). cs ++ turned) tells_of.book ∙ append_assoc origin.earlier tells_of.since turned
+    whole_is = ap (λ (cs : List Committed). cs ++ turned) are_records_of.book ∙ append_assoc origin.earlier are_records_of.since turned
 
     -- what is in the book since the area began is legal on what it began on, with the commits under way behind it
     pub since_legal : IsLegal origin.begun commits_since
@@ -189,26 +189,26 @@ module _ {D : Type 0} (g : Ghosts D) (origin : Origin) (base : Base) (n : Core D
         ap (λ (b : Base). after b (take count commits_since)) begun ∙ sym (after-append origin.first origin.earlier (take count commits_since)) ∙ ap (after origin.first) (sym (take-append-add origin.earlier commits_since count))
         ∙ ap (λ (cs : List Committed). after origin.first (take (length origin.earlier + count) cs)) (sym whole_is)
 
-    since_booked : after origin.begun tells_of.since ≡ booked_base
-    since_booked = ap (λ (b : Base). after b tells_of.since) begun ∙ sym (after-append origin.first origin.earlier tells_of.since) ∙ ap (after origin.first) (sym tells_of.book)
+    since_booked : after origin.begun are_records_of.since ≡ booked_base
+    since_booked = ap (λ (b : Base). after b are_records_of.since) begun ∙ sym (after-append origin.first origin.earlier are_records_of.since) ∙ ap (after origin.first) (sym are_records_of.book)
 
     serial : IsSerial origin.begun records
     serial =
-        let led : stands_for origin.begun records ≡ after booked_base turned = books_run origin.begun (tells records).books commits_since tells_of.telling.books since_legal ∙ after-append origin.begun tells_of.since turned ∙ ap (λ (b : Base). after b turned) since_booked in
+        let led : stands_for origin.begun records ≡ after booked_base turned = books_run origin.begun (recorded_in records).books commits_since are_records_of.recorded.books since_legal ∙ after-append origin.begun are_records_of.since turned ∙ ap (λ (b : Base). after b turned) since_booked in
         let whole = without_all ts es in
         let m = after booked_base turned in
         let still = effects_sound (state_of n base).held safe.fit.kept.locks m whole moved.1 in
         let led_on = effects_run (state_of n base).held safe.fit.kept.locks m whole moved.1 in
-        let done : calls (filter did whole) ≡ calls_of (losers records) = ap calls (sym tells_of.telling.live) ∙ calls_entries (losers records) in
+        let done : calls (filter did whole) ≡ calls_of (losers records) = ap calls (sym are_records_of.recorded.live) ∙ calls_entries (losers records) in
         record {
-          same = tells_of.calls ∙ sym moved.2 ∙ sym led_on ∙ (λ i. run (sym led i) (done i));
+          same = are_records_of.calls ∙ sym moved.2 ∙ sym led_on ∙ (λ i. run (sym led i) (done i));
           acted = subst (λ (X : Type 0). X) (λ i. IsActed (sym led i) (done i)) still.acted;
           bounds = subst IsBase (sym led) (within_after (state_of n base).held (after booked_base turned) [] whole moved.1);
         }
 
     weighs : (w : Entry → ℕ) → sum_by w (map entry_of (losers records)) ≤ sum_by w es
     weighs w =
-        let same : sum_by w (map entry_of (losers records)) ≡ sum_by w (filter did (without_all ts es)) = ap (sum_by w) tells_of.telling.live in
+        let same : sum_by w (map entry_of (losers records)) ≡ sum_by w (filter did (without_all ts es)) = ap (sum_by w) are_records_of.recorded.live in
         let one = sum_filter w did (without_all ts es) in let rest = sum_without w ts es in omega (arith, same, one, rest)
 
     pub recovers : 4194304 ≤ area_size n.operations.store.log → length n.live.members ≤ 64 → LeadsOn origin.relations origin.counters (pages n.operations.store.pool) origin.pages records → Recovers origin n records
@@ -216,7 +216,7 @@ module _ {D : Type 0} (g : Ghosts D) (origin : Origin) (base : Base) (n : Core D
       leads = leads;
       serial = serial;
       within = all_live (IsWithinSchema origin) (λ (f : Finished). IsOf origin.relations origin.counters f.done) (losers records) (λ f w. is_of origin.relations origin.counters f.done w.op)
-          (subst (All (IsWithinSchema origin)) (sym tells_of.telling.live) (All-filter did (IsWithinSchema origin) (without_all ts es) (all_without (IsWithinSchema origin) ts es safe.fit.small)));
+          (subst (All (IsWithinSchema origin)) (sym are_records_of.recorded.live) (All-filter did (IsWithinSchema origin) (without_all ts es) (all_without (IsWithinSchema origin) ts es safe.fit.small)));
       free =
           let total = pages n.operations.store.pool in
           let right = safe.fit.right in

@@ -1,4 +1,4 @@
--- What the records tell of each transaction's calls, once either has changed.
+-- What is recorded of each transaction's calls, once either has changed.
 use Rattle.std.proofs.Common.{◌≡◌, ◌≢◌, ⊎_elim, ℕ, zero, suc, ◌<◌, ◌≤◌, ◌==◌, ◌&&◌, ◌||◌, cond, not, Bool, true, false, List, [], ◌∷◌, ◌++◌, length, get_or, take, Option, Some, None, is_some, refl, sym, ap, ◌∙◌, subst, arith}
 use Rattle.std.specs.Prelude.{All}
 use Rattle.std.specs.Option.{option_map}
@@ -180,7 +180,7 @@ reported_call last records t n m c k below some low room due =
       few = let more = counted_more is_forward m.calls c in omega (arith, more, room);
     }
 
--- the first calls alone, over records behind these that tell of them
+-- the first calls alone, over records behind these that have them
 pub reported_cut : (last : ℕ) (was records : List Record) (t n : ℕ) (m : Member) → m.state ≡ Aborting → IsReported last was t m → n < length m.calls → ((i : ℕ) → get_or m.operations i 0 < get_or m.operations n 0 → IsDue was t (get_or m.operations i 0) → IsDue records t (get_or m.operations i 0))
     → IsReported last records t (cut_at m n)
 reported_cut last was records t n m aborting k within later =
@@ -244,7 +244,7 @@ marked_forward (c ∷ cs) p is = go (last_place cs) refl (has_inverse c) refl is
         subst (λ (x : ℕ). forward_count (set_role (c ∷ cs) x TakenBack) ≡ forward_count (c ∷ cs)) same (ap (λ b. cond b (suc (forward_count cs)) (forward_count cs)) (sym own))
     go None at false here k rec = absurd cc
 
--- the last that did something is taken back, over records that tell of all others
+-- the last that did something is taken back, over records that have all others
 pub reported_mark : (last : ℕ) (was records : List Record) (t p : ℕ) (m : Member) → IsReported last was t m → last_place m.calls ≡ Some p → p < length m.calls → ((first : ℕ) → m.state ≡ Returning first → first ≤ standing_count (take p m.calls))
     → ((n : ℕ) → n ≢ get_or m.operations p 0 → IsDue was t n → IsDue records t n) → IsReported last records t (with_role_at m p TakenBack)
 reported_mark last was records t p m k at within firsts later =

@@ -1,4 +1,4 @@
--- What the records tell, and that parts stay restartable, as events of the kernel change them.
+-- What is recorded, and that parts stay restartable, as events of the kernel change them.
 use Rattle.std.proofs.Common.{◌≡◌, ◌≢◌, inl, inr, ℕ, zero, suc, ◌<◌, ◌≤◌, ◌+◌, ◌*◌, Bool, true, false, cond, List, [], ◌∷◌, ◌++◌, Option, Some, None, length, get_or, map, filter, take, refl, sym, ap, ◌∙◌, subst, arith, append-nil, append_assoc}
 use Rattle.std.specs.Prelude.{All, is_some}
 use Rattle.std.specs.List.{AllByRecursion}
@@ -37,9 +37,9 @@ use Rattle.mt_op.specs.Operations.{world}
 use Rattle.mt_op.specs.Records.{end_with}
 use Rattle.mt_pool.specs.Views.{pages}
 use Rattle.mt_replay.proofs.Beginnings.{begin_more, begin_all, begin_one}
-use Rattle.mt_replay.proofs.Walking.{tell_more}
+use Rattle.mt_replay.proofs.Walking.{plus_more}
 use Rattle.mt_replay.specs.Recoverable.{EachBeginning, IsRecoverable, IsOf, LeadsOn, all_pages, inverse_images, pages_held}
-use Rattle.mt_replay.specs.Recorded.{Recorded, Finished, nothing, op_of, reply_in, call_of, calls_in, calls_of, its, others as others_of, without, tells, run_all}
+use Rattle.mt_replay.specs.Recorded.{Recorded, Finished, nothing, op_of, reply_in, call_of, calls_in, calls_of, its, others as others_of, without, recorded_in, run_all}
 use Rattle.mt_slock.specs.Views.{held_of}
 use Rattle.mt_space.specs.Changes.{PageBytes}
 use Rattle.mt_steps.specs.Logged.{logged_of}
@@ -62,18 +62,18 @@ use Rattle.mt_live.specs.Laws.{in_turn}
 use Rattle.mt_core.proofs.Between.{appends_none}
 use Rattle.mt_core.specs.Booked.{txns_of}
 use Rattle.mt_core.specs.Consistent.{Origin, session_in, state_in, state_of, IsConsistent, IsReported, InvertsIn}
-use Rattle.mt_core.specs.Restartable.{did, did_call, effects_of, its_effects, HasEnds, entry_of, numbers_did, numbers_of, TellsOf, Recovers, IsRestartable, TellsBook, Lasts, SameArea, IsQuiet, AppendsQuietly, AppendsEnd, QuietlyAppends, SameBook, NotesEnd, NotesUndone, NotesBack, NotesInverse}
+use Rattle.mt_core.specs.Restartable.{did, did_call, effects_of, its_effects, HasEnds, entry_of, numbers_did, numbers_of, AreRecordsOf, Recovers, IsRestartable, RecordsBook, Lasts, SameArea, IsQuiet, AppendsQuietly, AppendsEnd, QuietlyAppends, SameBook, NotesEnd, NotesUndone, NotesBack, NotesInverse}
 use Rattle.mt_core.specs.Runs.{is_at_work, TakesBack, is_working, is_undoing}
 use Rattle.mt_core.specs.declared.parts.Commit.{Commit}
 use Rattle.mt_core.specs.declared.parts.Core.{Core}
 use Rattle.mt_op.specs.declared.scope.OpScope.{OpScope}
 use Rattle.mt_live.specs.declared.transactions.Role.TheVariants.{Stands, Back}
 
--- ---- records that tell nothing
+-- ---- records by which nothing is recorded
 
 module _ (opening : PageBytes) (rs more : List Record) (q : IsQuiet opening rs more) where
-  pub unreported : tells (rs ++ more) ≡ tells rs
-  unreported = tell_more nothing rs more ∙ q.outcome (tells rs)
+  pub unreported : recorded_in (rs ++ more) ≡ recorded_in rs
+  unreported = plus_more nothing rs more ∙ q.outcome (recorded_in rs)
 
   pub uncalled : calls_in (rs ++ more) ≡ calls_in rs
   uncalled = calls_append rs more ∙ ap (λ (cs : List Call). calls_in rs ++ cs) q.calls ∙ append-nil (calls_in rs)
@@ -167,38 +167,38 @@ inverted_consistent g origin base s n t i (Some (Returning first)) h = h.leads.c
 inverted_consistent g origin base s n t i (Some Aborting) h = h.leads.consistent
 
 module _ {D : Type 0} (g : Ghosts D) (origin : Origin) where
-  -- these records tell of the parts, and have led to this base
+  -- these are the records of the parts, and have led to this base
   pub record Now (k : Core D) (rs : List Record) (base : Base) : Type 0 where
     pub since : List Committed
     pub book : k.book.items ≡ origin.earlier ++ since
-    pub tally : Tallies (txns_of k.commits.items) (num k.live.members) (filter did k.live.standing) (tells rs).live
-    pub ends : Books (map effects_of since) (txns_of k.commits.items) (state_in k.live.members) k.live.standing (tells rs)
+    pub tally : Tallies (txns_of k.commits.items) (num k.live.members) (filter did k.live.standing) (recorded_in rs).live
+    pub ends : Books (map effects_of since) (txns_of k.commits.items) (state_in k.live.members) k.live.standing (recorded_in rs)
     pub leads : run origin.begun (calls_in rs) ≡ base
 
   pub base_is : (k : Core D) (base : Base) → IsConsistent g origin base k → runs (after origin.first k.book.items) k.live.standing ≡ base
   base_is k base safe = safe.fit.kept.base
 
-  pub now_of : (k : Core D) (rs : List Record) (base : Base) → IsConsistent g origin base k → TellsOf origin k rs → Now k rs base
+  pub now_of : (k : Core D) (rs : List Record) (base : Base) → IsConsistent g origin base k → AreRecordsOf origin k rs → Now k rs base
   now_of k rs base safe t =
       let turned = in_turn (session_in k.live.members) (txns_of k.commits.items) k.live.standing in
       record {
         since = t.since;
         book = t.book;
-        tally = record { live = t.telling.live ∙ without_did (txns_of k.commits.items) k.live.standing; its = t.telling.numbers };
+        tally = record { live = t.recorded.live ∙ without_did (txns_of k.commits.items) k.live.standing; its = t.recorded.numbers };
         ends = record {
-          books = t.telling.books ∙ map-append effects_of t.since turned ∙ ap (λ (cs : List (List Call)). map effects_of t.since ++ cs) (effects_turn (session_in k.live.members) (txns_of k.commits.items) k.live.standing);
-          ends = t.telling.ends;
+          books = t.recorded.books ∙ map-append effects_of t.since turned ∙ ap (λ (cs : List (List Call)). map effects_of t.since ++ cs) (effects_turn (session_in k.live.members) (txns_of k.commits.items) k.live.standing);
+          ends = t.recorded.ends;
         };
         leads = t.calls ∙ base_is k base safe;
       }
 
-  pub tells_of : (k : Core D) (rs : List Record) (base : Base) → IsConsistent g origin base k → Now k rs base → TellsOf origin k rs
-  tells_of k rs base safe n =
+  pub are_records_of : (k : Core D) (rs : List Record) (base : Base) → IsConsistent g origin base k → Now k rs base → AreRecordsOf origin k rs
+  are_records_of k rs base safe n =
       let turned = in_turn (session_in k.live.members) (txns_of k.commits.items) k.live.standing in
       record {
         since = n.since;
         book = n.book;
-        telling = record {
+        recorded = record {
           books = n.ends.books ∙ sym (map-append effects_of n.since turned ∙ ap (λ (cs : List (List Call)). map effects_of n.since ++ cs) (effects_turn (session_in k.live.members) (txns_of k.commits.items) k.live.standing));
           live = n.tally.live ∙ sym (without_did (txns_of k.commits.items) k.live.standing);
           numbers = n.tally.its;
@@ -225,9 +225,9 @@ module _ {D : Type 0} (g : Ghosts D) (origin : Origin) where
   moved_each : (k n : Core D) → SameArea k n → IsRestartable origin k → 4194304 ≤ area_size n.operations.store.log → EachBeginning (Recovers origin n) (appended k.operations.store.log)
   moved_each k n same r area front back is = moved_recovers k n front same (r.beginnings (subst (λ (b : ℕ). 4194304 ≤ b) same.bytes area) front back is)
 
-  -- nothing is appended that tells
+  -- nothing is appended by which anything is recorded
   pub stays : (k n : Core D) (later : Base) → IsConsistent g origin later n → QuietlyAppends origin.pages k n → length n.live.members ≤ 64
-      → Now n (appended n.operations.store.log) later → TellsBook origin n → IsRestartable origin k → IsRestartable origin n
+      → Now n (appended n.operations.store.log) later → RecordsBook origin n → IsRestartable origin k → IsRestartable origin n
   stays k n later safe q few now booked r =
       let old = appended k.operations.store.log in
       record {
@@ -235,7 +235,7 @@ module _ {D : Type 0} (g : Ghosts D) (origin : Origin) where
             subst (EachBeginning (Recovers origin n)) (sym q.appends.is) (begin_more (Recovers origin n) old q.appends.more each
             (λ front back is. quiet_recovers origin.pages old front (q.appends.quiet front back is) origin.relations origin.counters (pages n.operations.store.pool) (area_size n.operations.store.log) origin.begun (begin_all (Recovers origin n) old each)));
         begun = r.begun;
-        tells = tells_of n (appended n.operations.store.log) later safe now;
+        records = are_records_of n (appended n.operations.store.log) later safe now;
         booked = booked;
         few = few;
       }
@@ -244,19 +244,19 @@ module _ {D : Type 0} (g : Ghosts D) (origin : Origin) where
   pub grows : (k n : Core D) (later : Base) (entry : Record) → IsConsistent g origin later n → SameArea k n → length n.live.members ≤ 64
       → appended n.operations.store.log ≡ appended k.operations.store.log ++ entry ∷ []
       → (LeadsOn origin.relations origin.counters (pages k.operations.store.pool) origin.pages (appended k.operations.store.log) → LeadsOn origin.relations origin.counters (pages k.operations.store.pool) origin.pages (appended n.operations.store.log))
-      → Now n (appended n.operations.store.log) later → TellsBook origin n → IsRestartable origin k → IsRestartable origin n
+      → Now n (appended n.operations.store.log) later → RecordsBook origin n → IsRestartable origin k → IsRestartable origin n
   grows k n later entry safe same few is leads now booked r =
       let old = appended k.operations.store.log in
-      let tells = tells_of n (appended n.operations.store.log) later safe now in
+      let of_records = are_records_of n (appended n.operations.store.log) later safe now in
       let led : LeadsOn origin.relations origin.counters (pages k.operations.store.pool) origin.pages old → LeadsOn origin.relations origin.counters (pages n.operations.store.pool) origin.pages (appended n.operations.store.log) = λ was. subst (λ (t : ℕ). LeadsOn origin.relations origin.counters t origin.pages (appended n.operations.store.log)) (sym same.total) (leads was) in
       record {
         beginnings = λ area.
             let each = moved_each k n same r area in
             let was : LeadsOn origin.relations origin.counters (pages k.operations.store.pool) origin.pages old = subst (λ (t : ℕ). LeadsOn origin.relations origin.counters t origin.pages old) same.total (begin_all (Recovers origin n) old each).leads in
-            let whole : Recovers origin n (appended n.operations.store.log) = recovers g origin later n safe r.begun tells area few (led was) in
+            let whole : Recovers origin n (appended n.operations.store.log) = recovers g origin later n safe r.begun of_records area few (led was) in
             subst (EachBeginning (Recovers origin n)) (sym is) (begin_one (Recovers origin n) old entry each (subst (Recovers origin n) is whole));
         begun = r.begun;
-        tells = tells;
+        records = of_records;
         booked = booked;
         few = few;
       }
@@ -275,15 +275,15 @@ module _ {D : Type 0} (g : Ghosts D) (origin : Origin) where
       → ((t : ℕ) → num n.live.members t ≡ num k.live.members t) → Eases (state_in k.live.members) (state_in n.live.members) → length n.live.members ≤ 64 → IsRestartable origin k → IsRestartable origin n
   stays_alike k n base later safe_k safe_n q book standing effects leads numbers eases few r =
       let old = appended k.operations.store.log in
-      let was = now_of k old base safe_k r.tells in
+      let was = now_of k old base safe_k r.records in
       let bases : base ≡ later = sym (base_is k base safe_k) ∙ (λ i. runs (after origin.first (sym book.book i)) k.live.standing) ∙ sym (leads (after origin.first n.book.items)) ∙ base_is n later safe_n in
-      let tally = tally_same (txns_of k.commits.items) (num k.live.members) (num n.live.members) (filter did k.live.standing) (tells old).live was.tally numbers in
-      let ends = books_still (map effects_of was.since) (txns_of k.commits.items) (state_in k.live.members) (state_in n.live.members) k.live.standing (tells old) was.ends n.live.standing effects eases in
+      let tally = tally_same (txns_of k.commits.items) (num k.live.members) (num n.live.members) (filter did k.live.standing) (recorded_in old).live was.tally numbers in
+      let ends = books_still (map effects_of was.since) (txns_of k.commits.items) (state_in k.live.members) (state_in n.live.members) k.live.standing (recorded_in old) was.ends n.live.standing effects eases in
       let here : Now n old later = record {
         since = was.since;
         book = book.book ∙ was.book;
-        tally = subst (λ (X : Type 0). X) (λ i. Tallies (txns_of (sym book.commits i)) (num n.live.members) (sym standing i) (tells old).live) tally;
-        ends = subst (λ (X : Type 0). X) (λ i. Books (map effects_of was.since) (txns_of (sym book.commits i)) (state_in n.live.members) n.live.standing (tells old)) ends;
+        tally = subst (λ (X : Type 0). X) (λ i. Tallies (txns_of (sym book.commits i)) (num n.live.members) (sym standing i) (recorded_in old).live) tally;
+        ends = subst (λ (X : Type 0). X) (λ i. Books (map effects_of was.since) (txns_of (sym book.commits i)) (state_in n.live.members) n.live.standing (recorded_in old)) ends;
         leads = was.leads ∙ bases;
       } in
       stays k n later safe_n q few (appended_now n old (appended n.operations.store.log) later q.appends here) (stays_reported g origin k n later safe_n q.area.lasts book r.booked) r
@@ -375,7 +375,7 @@ module _ {D : Type 0} (g : Ghosts D) (origin : Origin) where
       few = subst (λ (m : ℕ). m ≤ 64) (sym e.count) restartable.few
 
       was : Now k old base
-      was = now_of k old base safe_k restartable.tells
+      was = now_of k old base safe_k restartable.records
 
       m : AtWork (member_of k.live.members t)
       m = at_work_of (member_of k.live.members t) working
@@ -434,18 +434,18 @@ module _ {D : Type 0} (g : Ghosts D) (origin : Origin) where
             | inr apart ↦ rest u apart
           ] in
           let nothing_done : inverse_of r.op (reply_of base r.op) ≡ None = none_of (inverse_of r.op (reply_of base r.op)) (ap (λ (y : Reply). is_some (inverse_of r.op y)) replies ∙ logged_did r.op reply ∙ ap is_some is) in
-          let tally = tally_same (txns_of k.commits.items) (num k.live.members) (num n.live.members) (filter did k.live.standing) (tells old).live was.tally numbers in
+          let tally = tally_same (txns_of k.commits.items) (num k.live.members) (num n.live.members) (filter did k.live.standing) (recorded_in old).live was.tally numbers in
           let idle : did_call (r.op, reply) ≡ false = none in
           let same_effects : (u : ℕ) → its_effects u n.live.standing ≡ its_effects u k.live.standing = λ u. elim (cases_eq u t) [
             | inl own ↦ subst (λ (v : ℕ). its_effects v n.live.standing ≡ its_effects v k.live.standing) (sym own) (own_effects ∙ ap (λ (c : Bool). its_effects t k.live.standing ++ cond c ((r.op, reply) ∷ []) []) idle ∙ append-nil (its_effects t k.live.standing))
             | inr apart ↦ other_effects u apart
           ] in
-          let books = books_still (map effects_of was.since) (txns_of k.commits.items) (state_in k.live.members) (state_in n.live.members) k.live.standing (tells old) was.ends n.live.standing same_effects (eases_same (state_in k.live.members) (state_in n.live.members) states) in
+          let books = books_still (map effects_of was.since) (txns_of k.commits.items) (state_in k.live.members) (state_in n.live.members) k.live.standing (recorded_in old) was.ends n.live.standing same_effects (eases_same (state_in k.live.members) (state_in n.live.members) states) in
           let now : Now n old later = record {
             since = was.since;
             book = e.same.book ∙ was.book;
-            tally = tally_in (tells old).live (filter did k.live.standing) entries tally;
-            ends = books_in (tells old) books;
+            tally = tally_in (recorded_in old).live (filter did k.live.standing) entries tally;
+            ends = books_in (recorded_in old) books;
             leads = was.leads ∙ sym (later_is ∙ base_effectless base r.op nothing_done);
           } in
           stays k n later safe_n (record { area = same; appends = appends_none origin.pages old (appended n.operations.store.log) records }) few (subst (λ (rs : List Record). Now n rs later) (sym records) now) (stays_reported g origin k n later safe_n same.lasts e.same restartable.booked) restartable
@@ -456,22 +456,22 @@ module _ {D : Type 0} (g : Ghosts D) (origin : Origin) where
       go (Some done) is =
           let it : Record = OpEnd r.txn r.number r.undoes done in
           let f : Finished = record { txn = r.txn; op = r.number; done = done } in
-          let tells_it = logged_is r.op reply done is in
+          let logged_it = logged_is r.op reply done is in
           let some : has_inverse call ≡ true = is_did ∙ ap is_some is in
           let records : appended n.operations.store.log ≡ old ++ it ∷ [] = a.is ∙ ap (λ (o : Option LoggedOp). old ++ end_with r.txn r.number r.undoes o) is in
-          let with_it : Recorded = record { live = (tells old).live ++ f ∷ []; ends = (tells old).ends ++ f ∷ []; books = (tells old).books } in
-          let now_reported : tells (old ++ it ∷ []) ≡ with_it =
-          tell_more nothing old (it ∷ [])
-          ∙ ap {A = Bool} {B = Recorded} (λ (c : Bool). record { live = cond c ((tells old).live ++ f ∷ []) (without r.txn r.undoes (tells old).live); ends = (tells old).ends ++ f ∷ []; books = (tells old).books }) (eq-eqb r.undoes 0 fore) in
-          let same_entry : entry_of f ≡ entry = λ i. record { txn = r.txn; op = tells_it.0 i; reply = tells_it.1 i; role = Stands } in
+          let with_it : Recorded = record { live = (recorded_in old).live ++ f ∷ []; ends = (recorded_in old).ends ++ f ∷ []; books = (recorded_in old).books } in
+          let now_reported : recorded_in (old ++ it ∷ []) ≡ with_it =
+          plus_more nothing old (it ∷ [])
+          ∙ ap {A = Bool} {B = Recorded} (λ (c : Bool). record { live = cond c ((recorded_in old).live ++ f ∷ []) (without r.txn r.undoes (recorded_in old).live); ends = (recorded_in old).ends ++ f ∷ []; books = (recorded_in old).books }) (eq-eqb r.undoes 0 fore) in
+          let same_entry : entry_of f ≡ entry = λ i. record { txn = r.txn; op = logged_it.0 i; reply = logged_it.1 i; role = Stands } in
           let entries : filter did n.live.standing ≡ filter did k.live.standing ++ entry_of f ∷ [] = stood ∙ ap (λ (c : Bool). filter did k.live.standing ++ cond c (entry ∷ []) []) some ∙ ap (λ (x : Entry). filter did k.live.standing ++ x ∷ []) (sym same_entry) in
           let mine : num n.live.members t ≡ num k.live.members t ++ r.number ∷ [] = pushed ∙ ap (λ (c : Bool). num k.live.members t ++ cond c (r.number ∷ []) []) some in
-          let tally = tally_end (txns_of k.commits.items) (num k.live.members) (num n.live.members) (filter did k.live.standing) (tells old).live was.tally f (apart_from k.live.members k.commits.items t safe_k.fit.queued.each working) mine rest in
-          let call_is : call_of done ≡ (r.op, reply) = λ i. (tells_it.0 i, tells_it.1 i) in
+          let tally = tally_end (txns_of k.commits.items) (num k.live.members) (num n.live.members) (filter did k.live.standing) (recorded_in old).live was.tally f (apart_from k.live.members k.commits.items t safe_k.fit.queued.each working) mine rest in
+          let call_is : call_of done ≡ (r.op, reply) = λ i. (logged_it.0 i, logged_it.1 i) in
           let own : its_effects t n.live.standing ≡ its_effects t k.live.standing ++ call_of done ∷ [] = own_effects ∙ ap (λ (c : Bool). its_effects t k.live.standing ++ cond c ((r.op, reply) ∷ []) []) some ∙ ap (λ (c : Call). its_effects t k.live.standing ++ c ∷ []) (sym call_is) in
-          let books = books_end (map effects_of was.since) (txns_of k.commits.items) (state_in k.live.members) (state_in n.live.members) k.live.standing (tells old) was.ends f n.live.standing ((tells old).live ++ f ∷ []) (apart_from k.live.members k.commits.items t safe_k.fit.queued.each working)
-          other_effects states (more_ends (member_of k.live.members t) working (calls_of (its t (tells old).ends)) (its_effects t k.live.standing) (its_effects t n.live.standing) (call_of done) own (was.ends.ends t)) in
-          let led : run origin.begun (calls_in (old ++ it ∷ [])) ≡ later = ap (run origin.begun) (calls_append old (it ∷ [])) ∙ run-append origin.begun (calls_in old) (call_of done ∷ []) ∙ (λ i. base_after (was.leads i) (tells_it.0 i)) ∙ sym later_is in
+          let books = books_end (map effects_of was.since) (txns_of k.commits.items) (state_in k.live.members) (state_in n.live.members) k.live.standing (recorded_in old) was.ends f n.live.standing ((recorded_in old).live ++ f ∷ []) (apart_from k.live.members k.commits.items t safe_k.fit.queued.each working)
+          other_effects states (more_ends (member_of k.live.members t) working (calls_of (its t (recorded_in old).ends)) (its_effects t k.live.standing) (its_effects t n.live.standing) (call_of done) own (was.ends.ends t)) in
+          let led : run origin.begun (calls_in (old ++ it ∷ [])) ≡ later = ap (run origin.begun) (calls_append old (it ∷ [])) ∙ run-append origin.begun (calls_in old) (call_of done ∷ []) ∙ (λ i. base_after (was.leads i) (logged_it.0 i)) ∙ sym later_is in
           let now : Now n (old ++ it ∷ []) later = record {
             since = was.since;
             book = e.same.book ∙ was.book;
@@ -509,7 +509,7 @@ module _ {D : Type 0} (g : Ghosts D) (origin : Origin) where
       few = subst (λ (m : ℕ). m ≤ 64) (sym e.count) restartable.few
 
       was : Now k old base
-      was = now_of k old base safe_k restartable.tells
+      was = now_of k old base safe_k restartable.records
 
       m : AtWork (member_of k.live.members t)
       m = at_work_of (member_of k.live.members t) working
@@ -561,25 +561,25 @@ module _ {D : Type 0} (g : Ghosts D) (origin : Origin) where
           f = record { txn = r.txn; op = r.number; done = done }
 
           cut_reported : Recorded
-          cut_reported = record { live = without t r.undoes (tells old).live; ends = (tells old).ends ++ f ∷ []; books = (tells old).books }
+          cut_reported = record { live = without t r.undoes (recorded_in old).live; ends = (recorded_in old).ends ++ f ∷ []; books = (recorded_in old).books }
 
-          now_reported : tells (old ++ it ∷ []) ≡ cut_reported
+          now_reported : recorded_in (old ++ it ∷ []) ≡ cut_reported
           now_reported =
-              tell_more nothing old (it ∷ [])
-              ∙ ap {A = Bool} {B = Recorded} (λ (h : Bool). record { live = cond h ((tells old).live ++ f ∷ []) (without r.txn r.undoes (tells old).live); ends = (tells old).ends ++ f ∷ []; books = (tells old).books }) (ne_eqb r.undoes 0 back)
+              plus_more nothing old (it ∷ [])
+              ∙ ap {A = Bool} {B = Recorded} (λ (h : Bool). record { live = cond h ((recorded_in old).live ++ f ∷ []) (without r.txn r.undoes (recorded_in old).live); ends = (recorded_in old).ends ++ f ∷ []; books = (recorded_in old).books }) (ne_eqb r.undoes 0 back)
 
-          tells_it : (op_of done ≡ r.op) × (reply_in done ≡ reply)
-          tells_it = logged_is r.op reply done is
+          logged_it : (op_of done ≡ r.op) × (reply_in done ≡ reply)
+          logged_it = logged_is r.op reply done is
 
           led : run origin.begun (calls_in (old ++ it ∷ [])) ≡ base_after base r.op
-          led = ap (run origin.begun) (calls_append old (it ∷ [])) ∙ run-append origin.begun (calls_in old) (call_of done ∷ []) ∙ (λ i. base_after (was.leads i) (tells_it.0 i))
+          led = ap (run origin.begun) (calls_append old (it ∷ [])) ∙ run-append origin.begun (calls_in old) (call_of done ∷ []) ∙ (λ i. base_after (was.leads i) (logged_it.0 i))
 
           call_is : (r.op, reply) ≡ call_of done
-          call_is = λ i. (sym tells_it.0 i, sym tells_it.1 i)
+          call_is = λ i. (sym logged_it.0 i, sym logged_it.1 i)
 
           books : Books (map effects_of was.since) (txns_of k.commits.items) (state_in n.live.members) n.live.standing cut_reported
-          books = books_end (map effects_of was.since) (txns_of k.commits.items) (state_in k.live.members) (state_in n.live.members) k.live.standing (tells old) was.ends f n.live.standing (without t r.undoes (tells old).live) (apart_from k.live.members k.commits.items t safe_k.fit.queued.each working)
-              e.effects e.states (subst (λ (x : Call). HasEnds (state_in k.live.members t) (calls_of (its t (tells old).ends) ++ x ∷ []) (its_effects t n.live.standing)) call_is (e.ends (calls_of (its t (tells old).ends)) (was.ends.ends t)))
+          books = books_end (map effects_of was.since) (txns_of k.commits.items) (state_in k.live.members) (state_in n.live.members) k.live.standing (recorded_in old) was.ends f n.live.standing (without t r.undoes (recorded_in old).live) (apart_from k.live.members k.commits.items t safe_k.fit.queued.each working)
+              e.effects e.states (subst (λ (x : Call). HasEnds (state_in k.live.members t) (calls_of (its t (recorded_in old).ends) ++ x ∷ []) (its_effects t n.live.standing)) call_is (e.ends (calls_of (its t (recorded_in old).ends)) (was.ends.ends t)))
 
           tallied : Tallies (txns_of k.commits.items) (num n.live.members) (front ++ behind) cut_reported.live → IsRestartable origin n
           tallied tally =
@@ -596,7 +596,7 @@ module _ {D : Type 0} (g : Ghosts D) (origin : Origin) where
               let mine : num k.live.members t ≡ num n.live.members t ++ r.undoes ∷ [] =
               ap numbers_of m.is ∙ open_did m.member m.working ∙ did_last m.member.calls m.member.operations p reported_of.many place ∙ (λ i. sym left i ++ number i ∷ []) in
               let less = rising_apart m.member.calls m.member.operations (num n.live.members t) r.undoes reported_of.rising (sym (ap numbers_of m.is ∙ open_did m.member m.working) ∙ mine) in
-              tallied (tally_undone (txns_of k.commits.items) (num k.live.members) (num n.live.members) (filter did k.live.standing) (tells old).live was.tally t r.undoes front takes.entry behind stood c.done.its none_behind
+              tallied (tally_undone (txns_of k.commits.items) (num k.live.members) (num n.live.members) (filter did k.live.standing) (recorded_in old).live was.tally t r.undoes front takes.entry behind stood c.done.its none_behind
               (apart_from k.live.members k.commits.items t safe_k.fit.queued.each working) mine less e.others)
             where
               some_number : (x y : ℕ) → Some x ≡ Some y → x ≡ y
@@ -672,17 +672,17 @@ module _ {D : Type 0} (g : Ghosts D) (origin : Origin) where
       let old = appended k.operations.store.log in
       let t = it.txn in
       let working = open_works (member_of k.live.members t) opened in
-      let was = now_of k old base safe_k r.tells in
+      let was = now_of k old base safe_k r.records in
       let m = at_work_of (member_of k.live.members t) working in
       let bases : base ≡ later = sym (base_is k base safe_k) ∙ (λ i. runs (after origin.first (sym book i)) (sym standing i)) ∙ base_is n later safe_n in
       let mine : num n.live.members t ≡ [] = ap numbers_of (members t ∙ put_same (member_of k.live.members) t (option_map (λ x. with_state x Committing) (member_of k.live.members t)) ∙ ap (option_map (λ x. with_state x Committing)) m.is) in
       let mine_now : state_in n.live.members t ≡ Some Committing = ap (option_map (λ (x : Member). x.state)) (members t ∙ put_same (member_of k.live.members) t (option_map (λ x. with_state x Committing) (member_of k.live.members t)) ∙ ap (option_map (λ x. with_state x Committing)) m.is) in
-      let books = books_commit (map effects_of was.since) (txns_of k.commits.items) (state_in k.live.members) (state_in n.live.members) k.live.standing (tells old) was.ends t (others_of t (tells old).live)
+      let books = books_commit (map effects_of was.since) (txns_of k.commits.items) (state_in k.live.members) (state_in n.live.members) k.live.standing (recorded_in old) was.ends t (others_of t (recorded_in old).live)
       (apart_from k.live.members k.commits.items t safe_k.fit.queued.each working) opened mine_now (λ u apart. ap (option_map (λ (x : Member). x.state)) (changed_other (λ x. with_state x Committing) k.live.members n.live.members t members u apart)) in
-      let tally = tally_commit (txns_of k.commits.items) (num k.live.members) (num n.live.members) (filter did k.live.standing) (tells old).live was.tally t mine
+      let tally = tally_commit (txns_of k.commits.items) (num k.live.members) (num n.live.members) (filter did k.live.standing) (recorded_in old).live was.tally t mine
       (λ u apart. ap numbers_of (changed_other (λ x. with_state x Committing) k.live.members n.live.members t members u apart)) in
       let names : txns_of k.commits.items ++ t ∷ [] ≡ txns_of n.commits.items = sym (map-append (λ (x : Commit). x.txn) k.commits.items (it ∷ [])) ∙ sym (ap txns_of commits) in
-      let now_reported : record { live = others_of t (tells old).live; ends = others_of t (tells old).ends; books = (tells old).books ++ its t (tells old).ends ∷ [] } ≡ tells (old ++ CommitOf t ∷ []) = sym (tell_more nothing old (CommitOf t ∷ [])) in
+      let now_reported : record { live = others_of t (recorded_in old).live; ends = others_of t (recorded_in old).ends; books = (recorded_in old).books ++ its t (recorded_in old).ends ∷ [] } ≡ recorded_in (old ++ CommitOf t ∷ []) = sym (plus_more nothing old (CommitOf t ∷ [])) in
       let here = subst (λ (X : Type 0). X) (λ i. Tallies (names i) (num n.live.members) (filter did (sym standing i)) (now_reported i).live) tally in
       let ends = subst (λ (X : Type 0). X) (λ i. Books (map effects_of was.since) (names i) (state_in n.live.members) (sym standing i) (now_reported i)) books in
       let now : Now n (old ++ CommitOf t ∷ []) later = record { since = was.since; book = book ∙ was.book; tally = here; ends = ends; leads = ap (run origin.begun) (ends_calls old (CommitOf t) refl) ∙ was.leads ∙ bases } in
@@ -694,14 +694,14 @@ module _ {D : Type 0} (g : Ghosts D) (origin : Origin) where
       → n.live.standing ≡ kept (others t) k.live.standing → SameBook k n → is_working (member_of k.live.members t) ≡ true → last_effect t k.live.standing ≡ None → IsRestartable origin k → IsRestartable origin n
   aborted k n base later t safe_k safe_n same records members count standing book working idle r =
       let old = appended k.operations.store.log in
-      let was = now_of k old base safe_k r.tells in
+      let was = now_of k old base safe_k r.records in
       let states = states_put k.live.members n.live.members t None members in
-      let books = books_abort (map effects_of was.since) (txns_of k.commits.items) (state_in k.live.members) (state_in n.live.members) k.live.standing (tells old) was.ends t (others_of t (tells old).live)
+      let books = books_abort (map effects_of was.since) (txns_of k.commits.items) (state_in k.live.members) (state_in n.live.members) k.live.standing (recorded_in old) was.ends t (others_of t (recorded_in old).live)
       (apart_from k.live.members k.commits.items t safe_k.fit.queued.each working) (states t ∙ put_same (state_in k.live.members) t None) (λ u apart. states u ∙ put_other (state_in k.live.members) t None u apart) in
-      let tally = tally_abort (txns_of k.commits.items) (num k.live.members) (num n.live.members) (filter did k.live.standing) (tells old).live was.tally t (apart_from k.live.members k.commits.items t safe_k.fit.queued.each working)
+      let tally = tally_abort (txns_of k.commits.items) (num k.live.members) (num n.live.members) (filter did k.live.standing) (recorded_in old).live was.tally t (apart_from k.live.members k.commits.items t safe_k.fit.queued.each working)
       (put_num k.live.members n.live.members t None members) (other_num k.live.members n.live.members t None members) in
       let stands : kept (others t) (filter did k.live.standing) ≡ filter did n.live.standing = sym (ap (filter did) standing ∙ filter-swap did (λ (x : Entry). others t x.txn) k.live.standing) in
-      let now_reported : record { live = others_of t (tells old).live; ends = others_of t (tells old).ends; books = (tells old).books } ≡ tells (old ++ AbortEnd t ∷ []) = sym (tell_more nothing old (AbortEnd t ∷ [])) in
+      let now_reported : record { live = others_of t (recorded_in old).live; ends = others_of t (recorded_in old).ends; books = (recorded_in old).books } ≡ recorded_in (old ++ AbortEnd t ∷ []) = sym (plus_more nothing old (AbortEnd t ∷ [])) in
       let here = subst (λ (X : Type 0). X) (λ i. Tallies (txns_of (sym book.commits i)) (num n.live.members) (stands i) (now_reported i).live) tally in
       let ends = subst (λ (X : Type 0). X) (λ i. Books (map effects_of was.since) (txns_of (sym book.commits i)) (state_in n.live.members) (sym standing i) (now_reported i)) books in
       let effects : (z : Core D) (b : Base) → IsConsistent g origin b z → run (after origin.first z.book.items) (calls (filter did z.live.standing)) ≡ b = λ z b safe.
@@ -725,14 +725,14 @@ module _ {D : Type 0} (g : Ghosts D) (origin : Origin) where
   leaves k n base later c cs done safe_k safe_n store queue rest book its_calls members count standing there r =
       let old = appended k.operations.store.log in
       let t = c.txn in
-      let was = now_of k old base safe_k r.tells in
+      let was = now_of k old base safe_k r.records in
       let committing : state_in k.live.members t ≡ Some Committing = All-head (λ (x : Commit). state_in k.live.members x.txn ≡ Some Committing) c cs (subst (All (λ (x : Commit). state_in k.live.members x.txn ≡ Some Committing)) queue safe_k.fit.queued.each) in
-      let first = subst (λ (xs : List Commit). Tallies (txns_of xs) (num k.live.members) (filter did k.live.standing) (tells old).live) queue was.tally in
-      let tally = tally_booked t (txns_of cs) (num k.live.members) (num n.live.members) (filter did k.live.standing) (tells old).live first
+      let first = subst (λ (xs : List Commit). Tallies (txns_of xs) (num k.live.members) (filter did k.live.standing) (recorded_in old).live) queue was.tally in
+      let tally = tally_booked t (txns_of cs) (num k.live.members) (num n.live.members) (filter did k.live.standing) (recorded_in old).live first
       (kept_num k.live.members n.live.members t None members (sym (closed_num (member_of k.live.members t) committing))) in
       let states = states_put k.live.members n.live.members t None members in
-      let first_books = subst (λ (xs : List Commit). Books (map effects_of was.since) (txns_of xs) (state_in k.live.members) k.live.standing (tells old)) queue was.ends in
-      let booked_now = books_booked (map effects_of was.since) t (txns_of cs) (state_in k.live.members) (state_in n.live.members) k.live.standing (tells old) first_books committing (states t ∙ put_same (state_in k.live.members) t None) (λ u apart. states u ∙ put_other (state_in k.live.members) t None u apart) in
+      let first_books = subst (λ (xs : List Commit). Books (map effects_of was.since) (txns_of xs) (state_in k.live.members) k.live.standing (recorded_in old)) queue was.ends in
+      let booked_now = books_booked (map effects_of was.since) t (txns_of cs) (state_in k.live.members) (state_in n.live.members) k.live.standing (recorded_in old) first_books committing (states t ∙ put_same (state_in k.live.members) t None) (λ u apart. states u ∙ put_other (state_in k.live.members) t None u apart) in
       let books : map effects_of was.since ++ its_effects t k.live.standing ∷ [] ≡ map effects_of (was.since ++ done ∷ []) = sym (map-append effects_of was.since (done ∷ []) ∙ ap (λ (cs : List Call). map effects_of was.since ++ cs ∷ []) (ap (filter did_call) its_calls)) in
       let stands : kept (others t) (filter did k.live.standing) ≡ filter did n.live.standing = sym (ap (filter did) standing ∙ filter-swap did (λ (x : Entry). others t x.txn) k.live.standing) in
       let m = after origin.first k.book.items in
@@ -740,7 +740,7 @@ module _ {D : Type 0} (g : Ghosts D) (origin : Origin) where
       let booked : after origin.first n.book.items ≡ runs m (kept (only t) k.live.standing) = ap (after origin.first) book ∙ after-append origin.first k.book.items (done ∷ []) ∙ ap (run m) its_calls in
       let bases : base ≡ later = sym (base_is k base safe_k) ∙ sym moved.same ∙ (λ i. runs (sym booked i) (sym standing i)) ∙ base_is n later safe_n in
       let whole : n.book.items ≡ origin.earlier ++ (was.since ++ done ∷ []) = book ∙ ap (λ (xs : List Committed). xs ++ done ∷ []) was.book ∙ append_assoc origin.earlier was.since (done ∷ []) in
-      let here : Now n old later = record { since = was.since ++ done ∷ []; book = whole; tally = subst (λ (X : Type 0). X) (λ i. Tallies (txns_of (sym rest i)) (num n.live.members) (stands i) (tells old).live) tally; ends = subst (λ (X : Type 0). X) (λ i. Books (books i) (txns_of (sym rest i)) (state_in n.live.members) (sym standing i) (tells old)) booked_now; leads = was.leads ∙ bases } in
+      let here : Now n old later = record { since = was.since ++ done ∷ []; book = whole; tally = subst (λ (X : Type 0). X) (λ i. Tallies (txns_of (sym rest i)) (num n.live.members) (stands i) (recorded_in old).live) tally; ends = subst (λ (X : Type 0). X) (λ i. Books (books i) (txns_of (sym rest i)) (state_in n.live.members) (sym standing i) (recorded_in old)) booked_now; leads = was.leads ∙ bases } in
       let q = quiet_store k n store in
       let few = r.few in
       stays k n later safe_n q (omega (arith, few, count)) (appended_now n old (appended n.operations.store.log) later q.appends here) (leaves_reported g origin k n c cs done store queue rest book there r.booked) r
@@ -778,7 +778,7 @@ module _ {D : Type 0} (g : Ghosts D) (origin : Origin) where
       record {
         beginnings = λ area front back is. quiet_recovers origin.pages [] front (quiet front back is) origin.relations origin.counters total (area_size k.operations.store.log) origin.begun (recovered area);
         begun = begun;
-        tells = tells_of k records origin.begun safe now;
+        records = are_records_of k records origin.begun safe now;
         booked = starts_reported g origin k book commits;
         few = let nobody : length k.live.members ≡ 0 = ap (λ (ms : List Member). length ms) members in omega (arith, nobody);
       }

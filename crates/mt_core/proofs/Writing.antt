@@ -9,7 +9,7 @@ use Rattle.mt_frame.specs.PageRecords.{change_records}
 use Rattle.mt_frame.specs.declared.records.LoggedOp.{LoggedOp}
 use Rattle.mt_frame.specs.declared.records.Record.{Record}
 use Rattle.mt_model.specs.declared.operations.Reply.{Reply}
-use Rattle.mt_op.specs.Records.{dropped_with, end_of, end_with, KeepsRecords, TellsDropped}
+use Rattle.mt_op.specs.Records.{dropped_with, end_of, end_with, KeepsRecords, ReportsDropped}
 use Rattle.mt_op.specs.declared.answers.Stepped.{Stepped}
 use Rattle.mt_op.specs.declared.answers.Stepped.TheVariants as stepped
 use Rattle.mt_op.specs.declared.answers.TakenBack.{TakenBack}
@@ -46,7 +46,7 @@ drop_short txn number zero old new is = let all = ap length is in let parts = le
 drop_short txn number (suc standing) old new is =
     let all = ap length is in let parts = length-append old (dropped_with txn number (suc standing)) in omega (arith, all, parts)
 
-pub back_writes : (s : OpScope) (old new : List Record) (r : Result TakenBack Refusal) → TellsDropped s old new r → BackWrites old new r
+pub back_writes : (s : OpScope) (old new : List Record) (r : Result TakenBack Refusal) → ReportsDropped s old new r → BackWrites old new r
 back_writes s old new (Ok taken.Clear) is = drop_short s.txn s.number s.standing old new is
 back_writes s old new (Ok taken.More) is = is
 back_writes s old new (Ok taken.Flush) is = is

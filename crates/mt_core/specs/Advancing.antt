@@ -4,7 +4,7 @@ use Rattle.mt_disk.specs.declared.device.Device.{Ghosts}
 use Rattle.mt_base.specs.declared.refusal.Refusal.{Refusal}
 use Rattle.mt_core.specs.Consistent.{Advances, AtPlace, GoesBack, IsConsistent, Origin, state_of, EndsIn, IsReadyAt, SameStates, UndoesIn, ReturnsIn, InvertsIn, state_in, DropsIn, IsClearedAt, BooksIn, SameUncommitted, IsCalled, MayRun, SameCommits, log_kept, CallsIn, IsAskedFor, IsGranted, IsRestored, without_call, IsLocked}
 use Rattle.mt_core.specs.Restartable.{QuietlyAppends, StepAppends, NotesEnd, NotesUndone, NotesBack, NotesInverse, StaysRestartable}
-use Rattle.mt_core.specs.Steps.{LeavesExplained, TellsOther, WantsFrame}
+use Rattle.mt_core.specs.Steps.{LeavesExplained, StepNamesOther, WantsFrame}
 use Rattle.mt_core.specs.declared.calls.Called.{Called}
 use Rattle.mt_core.specs.declared.parts.Core.{Core}
 use Rattle.mt_model.specs.declared.operations.Op.{Op}
@@ -13,7 +13,7 @@ use Rattle.mt_log.specs.Words.{appended, durable}
 use Rattle.mt_core.specs.Work.{KeepsOthers, LeavesStanding, LeavesUndo, CallRuns, DrawsNumber, RunsBehind, TakesNumber}
 use Rattle.mt_core.specs.Writes.{BackWrites, WritesOnce}
 use Rattle.mt_model.specs.Model.{Base}
-use Rattle.mt_op.specs.Faults.{TellsFaults}
+use Rattle.mt_op.specs.Faults.{ReportsFaults}
 use Rattle.mt_op.specs.Holds.{IsNext, KeepsLocks}
 use Rattle.mt_op.specs.Moves.{SameOp}
 use Rattle.mt_op.specs.Operations.{IsCause}
@@ -60,11 +60,11 @@ module _ {D : Type 0} (g : Ghosts D) where
     pub locks : AtPlace k.running.items place (λ r. KeepsLocks r.number (IsNext (core_rooms k) (core_page_locks k) r)
         (core_page_locks k) (core_page_locks n) result)
     pub why : IfErr result IsCause
-    pub faults : TellsFaults (g.faults (core_device k)) (g.faults (core_device n)) result
+    pub faults : ReportsFaults (g.faults (core_device k)) (g.faults (core_device n)) result
     pub advances : (origin : Origin) (base : Base) → IsConsistent g origin base k
         → Advances g origin base (state_of k base) n place result
     pub other : (origin : Origin) (base : Base) → IsConsistent g origin base k
-        → AtPlace k.running.items place (λ r. TellsOther n.running.items r.txn result)
+        → AtPlace k.running.items place (λ r. StepNamesOther n.running.items r.txn result)
     pub book : n.book ≡ k.book
     pub durable : durable (core_log n) ≡ durable (core_log k)
     pub moments : LeavesExplained g k n
@@ -89,7 +89,7 @@ module _ {D : Type 0} (g : Ghosts D) where
         → LeavesStanding r q result
     pub writes : BackWrites (appended (core_log k)) (appended (core_log n)) result
     pub why : IfErr result IsCause
-    pub faults : TellsFaults (g.faults (core_device k)) (g.faults (core_device n)) result
+    pub faults : ReportsFaults (g.faults (core_device k)) (g.faults (core_device n)) result
     pub back : (origin : Origin) (base : Base) → IsConsistent g origin base k
         → GoesBack g origin base (state_of k base) n place result
     pub book : n.book ≡ k.book

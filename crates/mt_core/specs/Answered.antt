@@ -6,7 +6,7 @@ use Rattle.mt_frame.specs.declared.records.Record.TheVariants as record_of
 use Rattle.mt_live.specs.declared.transactions.TxnState.TheVariants.{Committing}
 use Rattle.mt_log.specs.Words.{appended, calls_left, durable, in_flight, waiting}
 use Rattle.mt_model.specs.Model.{Base}
-use Rattle.mt_op.specs.Faults.{TellsFaults}
+use Rattle.mt_op.specs.Faults.{ReportsFaults}
 use Rattle.mt_op.specs.Operations.{IsCause}
 use Rattle.mt_op.specs.declared.answers.TakenBack.{TakenBack}
 use Rattle.mt_op.specs.declared.answers.TakenBack.TheVariants as taken
@@ -43,7 +43,7 @@ module _ {D : Type 0} (g : Ghosts D) where
     pub durable : durable (core_log n) ≡ durable (core_log k)
     pub full : result ≡ Ok (GoingOn Flush) → WantsFrame k n
     pub why : IfErr result IsCause
-    pub faults : TellsFaults (g.faults (core_device k)) (g.faults (core_device n)) result
+    pub faults : ReportsFaults (g.faults (core_device k)) (g.faults (core_device n)) result
     pub moments : LeavesExplained g k n
     pub reads : ReadsOnce g (core_device k) (core_device n)
 
@@ -59,7 +59,7 @@ module _ {D : Type 0} (g : Ghosts D) where
     pub durable : durable (core_log n) ≡ durable (core_log k)
     pub full : result ≡ Ok taken.Flush → WantsFrame k n
     pub why : IfErr result IsCause
-    pub faults : TellsFaults (g.faults (core_device k)) (g.faults (core_device n)) result
+    pub faults : ReportsFaults (g.faults (core_device k)) (g.faults (core_device n)) result
     pub moments : LeavesExplained g k n
     pub reads : ReadsOnce g (core_device k) (core_device n)
 

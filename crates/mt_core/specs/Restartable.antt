@@ -23,7 +23,7 @@ use Rattle.mt_op.specs.declared.answers.Stepped.TheVariants as stepped
 use Rattle.mt_op.specs.declared.scope.OpScope.{OpScope}
 use Rattle.mt_pool.specs.Views.{pages}
 use Rattle.mt_replay.specs.Recoverable.{EachBeginning, IsRecoverable, LeadsOn, pages_held}
-use Rattle.mt_replay.specs.Recorded.{Recorded, Finished, tell, tells, its, op_of, reply_in, calls_in, calls_of}
+use Rattle.mt_replay.specs.Recorded.{Recorded, Finished, plus_records, recorded_in, its, op_of, reply_in, calls_in, calls_of}
 use Rattle.mt_space.specs.Changes.{PageBytes}
 use Rattle.mt_core.specs.Booked.{txns_of, durable_count}
 use Rattle.mt_core.specs.Consistent.{Origin, session_in, IsConsistent}
@@ -74,7 +74,7 @@ HasEnds (Some Aborting) ends mine = ⊤
 
 -- Of a book with commits of these transactions after it, in their order, and of the others, which are at work: what
 -- each has committed, what stands of each and did something, under its numbers, and what of each has ended.
-pub record IsTelling (book : List Committed) (ts : List ℕ) (ms : List Member) (standing : List Entry)
+pub record IsRecorded (book : List Committed) (ts : List ℕ) (ms : List Member) (standing : List Entry)
     (x : Recorded) : Type 0 where
   pub books : map calls_of x.books ≡ map effects_of (book ++ in_turn (session_in ms) ts standing)
   pub live : map entry_of x.live ≡ filter did (without_all ts standing)
@@ -83,10 +83,10 @@ pub record IsTelling (book : List Committed) (ts : List ℕ) (ms : List Member) 
 
 -- The records name what is in the book since the area began, the commits under way and the transactions at work, and
 -- have led to what these leave.
-pub record TellsOf {D : Type 0} (origin : Origin) (k : Core D) (records : List Record) : Type 0 where
+pub record AreRecordsOf {D : Type 0} (origin : Origin) (k : Core D) (records : List Record) : Type 0 where
   pub since : List Committed
   pub book : k.book.items ≡ origin.earlier ++ since
-  pub telling : IsTelling since (txns_of k.commits.items) k.live.members k.live.standing (tells records)
+  pub recorded : IsRecorded since (txns_of k.commits.items) k.live.members k.live.standing (recorded_in records)
   pub calls : run origin.begun (calls_in records) ≡ runs (after origin.first k.book.items) k.live.standing
 
 -- a restart over these records finds the base that they represent
@@ -96,9 +96,9 @@ Recovers origin k records = IsRecoverable origin.relations origin.counters (page
 
 -- The durable records name each commit that was booked since the area began. Of those under way they name each whose
 -- record is one of them.
-abbrev pub TellsBook : {D : Type 0} → Origin → Core D → Type 0
-TellsBook origin k = length k.book.items + durable_count k.commits.items (length (durable (core_log k)))
-    ≤ length origin.earlier + length (tells (durable (core_log k))).books
+abbrev pub RecordsBook : {D : Type 0} → Origin → Core D → Type 0
+RecordsBook origin k = length k.book.items + durable_count k.commits.items (length (durable (core_log k)))
+    ≤ length origin.earlier + length (recorded_in (durable (core_log k))).books
 
 -- A restart over each beginning of the records finds its base, if the area has 4 MiB at least: at most 64
 -- transactions live, and such an area has room for the images of the pages that inverses change. The area began on
@@ -107,8 +107,8 @@ pub record IsRestartable {D : Type 0} (origin : Origin) (k : Core D) : Type 0 wh
   pub beginnings : MIN_AREA_MIB * MIB_BYTES ≤ area_size (core_log k)
       → EachBeginning (Recovers origin k) (appended (core_log k))
   pub begun : origin.begun ≡ after origin.first origin.earlier
-  pub tells : TellsOf origin k (appended (core_log k))
-  pub booked : TellsBook origin k
+  pub records : AreRecordsOf origin k (appended (core_log k))
+  pub booked : RecordsBook origin k
   pub few : length k.live.members ≤ MAX_LIVE
 
 -- ---- what a step appends
@@ -127,7 +127,7 @@ pub record SameArea {D : Type 0} (k n : Core D) : Type 0 where
 pub record IsQuiet (opening : PageBytes) (records more : List Record) : Type 0 where
   pub held : pages_held opening (records ++ more) ≡ pages_held opening records
   pub calls : calls_in more ≡ []
-  pub outcome : (x : Recorded) → tell x more ≡ x
+  pub outcome : (x : Recorded) → plus_records x more ≡ x
 
 -- each beginning of what is appended is such
 pub record AppendsQuietly (opening : PageBytes) (old new : List Record) : Type 0 where

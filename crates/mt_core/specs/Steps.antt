@@ -65,10 +65,10 @@ NamesOther rs t (Ok (GoingOn g)) = AwaitsOther rs t g
 NamesOther rs t (Err why) = ⊤
 
 -- the same of what a step of the operations answers
-abbrev pub TellsOther : List OpScope → ℕ → Result Stepped Refusal → Type 0
-TellsOther rs t (Ok stepped.Went) = ⊤
-TellsOther rs t (Ok (stepped.Wait holder)) = IsOfOther rs t holder
-TellsOther rs t (Ok (stepped.Again holder)) = IsOfOther rs t holder
-TellsOther rs t (Ok stepped.Flush) = ⊤
-TellsOther rs t (Ok (stepped.Ready first second)) = ⊤
-TellsOther rs t (Err why) = ⊤
+abbrev pub StepNamesOther : List OpScope → ℕ → Result Stepped Refusal → Type 0
+StepNamesOther rs t (Ok stepped.Went) = ⊤
+StepNamesOther rs t (Ok (stepped.Wait holder)) = IsOfOther rs t holder
+StepNamesOther rs t (Ok (stepped.Again holder)) = IsOfOther rs t holder
+StepNamesOther rs t (Ok stepped.Flush) = ⊤
+StepNamesOther rs t (Ok (stepped.Ready first second)) = ⊤
+StepNamesOther rs t (Err why) = ⊤

@@ -1,5 +1,5 @@
 -- What a device represents after a migration, and its file.
-use Rattle.std.proofs.Common.{◌≡◌, ◌∙◌, ◌≤◌, ◌⊎◌, inl, inr, ℕ, List, Result, Ok, Err, IfErr, OnOk, sym, subst}
+use Rattle.std.proofs.Common.{◌≡◌, ◌∙◌, ◌≤◌, inl, inr, ℕ, List, Result, Ok, Err, IfErr, OnOk, sym, subst}
 use Rattle.mt_base.specs.declared.format.Format.TheVariants.{One}
 use Rattle.mt_base.specs.declared.refusal.Refusal.{Refusal}
 use Rattle.mt_disk.specs.Disk.{LeavesOnly, Only}

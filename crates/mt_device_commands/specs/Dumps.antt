@@ -7,14 +7,11 @@ use Rattle.mt_base.specs.declared.refusal.Refusal.TheVariants as refusal
 use Rattle.mt_model.specs.Model.{Base}
 use Rattle.mt_rows.specs.Rows.{IsOrdered}
 use Rattle.mt_model.specs.Views.{counters_of, rows_of}
-use Rattle.mt_op.specs.Surveyed.{IsSurvey}
 use Rattle.mt_op.specs.declared.survey.Survey.{Survey}
 use Rattle.mt_replay.specs.Stands.{CanRestart}
+use Rattle.mt_restart.specs.Inspected.{ReportsRestored}
 use Rattle.mt_restart.specs.Recovered.{IsCauseToStop}
 use Rattle.mt_script.specs.Answers.{AppendsFront}
-use Rattle.mt_space.specs.Changes.{PageBytes}
-use Rattle.mt_steps.specs.Held.{Holds}
-use Rattle.mt_steps.specs.Plans.{IsGood}
 use Rattle.mt_device_commands.specs.Checks.{IsContentOf, number_line}
 use Rattle.mt_folder.specs.Folders.{AreKept, Files, IsFileRefusal, IsHeld, Puts}
 use Rattle.mt_explain.specs.Listings.{counter_lines, row_line}
@@ -32,18 +29,6 @@ dump_text s = (sizes_text s ++ concat (map row_line (rows_of s.base))) ++ counte
 
 -- ---- of which bytes
 
--- the survey is of pages that break no rule, and that hold this base of so many relations and counters
-abbrev pub ReportsBase : ℕ → ℕ → Base → Survey → Type 0
-ReportsBase relations counters b survey =
-    ∥ ((total : ℕ) × (pages : PageBytes) × IsGood relations counters total pages × Holds pages b
-    × IsSurvey relations counters total pages b survey) ∥₁
-
--- it is of some base, and of the one that the bytes represent, if they represent one
-pub record Dumps (c : List ℕ) (survey : Survey) : Type 0 where
-  pub some : (relations : ℕ) × (counters : ℕ) × (b : Base) × ReportsBase relations counters b survey
-  pub stood_for : (relations counters : ℕ) (b : Base) → CanRestart relations counters c b
-      → ReportsBase relations counters b survey
-
 -- what these bytes represent, those do
 abbrev pub StandAs : List ℕ → List ℕ → Type 0
 StandAs c d =
@@ -60,7 +45,7 @@ IsEarly why = (why ≢ refusal.NoMemory) × (why ≢ refusal.DeviceFailed)
 -- ---- of which file
 
 abbrev pub DumpsOf : Option (List ℕ) → Survey → Type 0
-DumpsOf bytes survey = (c : List ℕ) × IsContentOf bytes c × Dumps c survey
+DumpsOf bytes survey = (c : List ℕ) × IsContentOf bytes c × ReportsRestored c survey
 
 -- why nothing is reported of a file
 abbrev pub IsUndumpable : Option (List ℕ) → Refusal → Type 0

@@ -9,7 +9,7 @@ use Rattle.mt_folder.specs.Folders.{AreKept, Files, IsFileRefusal, IsHeld, Puts}
 use Rattle.mt_model.specs.Model.{Base}
 use Rattle.mt_replay.specs.Stands.{CanReplay, CanRestart}
 use Rattle.mt_report.specs.declared.faults.Fault.{Fault}
-use Rattle.mt_report.specs.declared.faults.Fault.TheVariants.{Output, Refused, Stopped, Unread, Unscheduled}
+use Rattle.mt_report.specs.declared.faults.Fault.TheVariants.{Refused}
 use Rattle.mt_restart.specs.Migrated.{Additions, IsCauseNotToCarry, grown}
 
 -- what a schema is asked to get more; 65,535 represents each number of relations that is larger, since no schema takes

@@ -2,15 +2,12 @@
 ghost use Rattle.std.specs.Prelude.{◌≡◌, ℕ, IfErr, IfOk, OnErr, OnOk};
 ghost use Rattle.std.specs.Io.KnownBytes.{Appends};
 ghost use Rattle.mt_disk.specs.Disk.{Only};
-ghost use Rattle.mt_model.specs.Model.{Base};
 ghost use Rattle.mt_rows.specs.Rows.{IsOrdered};
 ghost use Rattle.mt_model.specs.Views.{rows_of};
-ghost use Rattle.mt_restart.specs.Resumed.{IsOpened};
+ghost use Rattle.mt_restart.specs.Inspected.{ReportsRestored};
 ghost use Rattle.mt_script.specs.Answers.{AppendsFront};
-ghost use Rattle.mt_device_commands.specs.Dumps.{AreFilesLeft, AreLeftBy, Dumps, DumpsOf, HasDumped, IsUnsurveyed, IsEarly, IsUndumped, IsUndumpable, StandAs, IsRestarted, ReportsBase, dump_text, sizes_text};
-ghost use Rattle.mt_folder.specs.Folders.{IsUnmade, known_in};
-ghost use Rattle.mt_txn.specs.Shown.{kernel_device};
-ghost use Rattle.mt_txn.specs.Words.{kernel_counters, kernel_relations};
+ghost use Rattle.mt_device_commands.specs.Dumps.{AreFilesLeft, AreLeftBy, DumpsOf, HasDumped, IsUnsurveyed, IsEarly, IsUndumped, IsUndumpable, StandAs, IsRestarted, dump_text, sizes_text};
+ghost use Rattle.mt_folder.specs.Folders.{known_in};
 
 use crate::check_command::write_figures;
 use crate::waits::Patience;
@@ -19,39 +16,26 @@ use mt_disk::Device;
 use mt_explain::{write_counters, write_rows};
 use mt_folder::Folder;
 use mt_report::Fault;
-use mt_restart::open;
+use mt_restart::open_with_survey;
 use mt_script::Unheard;
-use mt_txn::{Kernel, Survey};
+use mt_txn::Survey;
 use std::alloc::Global;
 use std::io::Write;
 use std::time::Clock;
 
-/// Pages that the kernel keeps in frames: as few as it may, since a survey needs none.
+/// Pages that the kernel keeps in frames: as few as it may, since it is asked for nothing.
 const FRAMES: usize = 32;
-
-/// Surveys a kernel that was just opened, and gives its device back.
-fn survey_opened<D: Device + Drop>(kernel: Kernel<D>) -> (Result<Survey, Refusal>, D)
-    requires opened { (b : Base) × IsOpened (kernel_relations kernel) (kernel_counters kernel) b kernel }
-    ensures outcome { (relations counters : ℕ) (b : Base) → IsOpened relations counters b kernel
-        → IfOk result.0 (ReportsBase relations counters b) }
-    ensures why { IfErr result.0 IsUnmade }
-    ensures content { D.seen result.1 ≡ D.seen (kernel_device kernel) }
-{
-    let mut kernel = kernel;
-    let outcome = kernel.survey();
-    (outcome, kernel.into_device())
-}
 
 /// Opens a device, surveys it, and gives it back, whatever came of that.
 fn survey_of<D: Device + Drop>(alloc: Global, device: D) -> (Result<Survey, Refusal>, D)
     requires settled { Only (D.seen device) (D.may_leave device) }
-    ensures outcome { IfOk result.0 (Dumps (D.seen device)) }
+    ensures outcome { IfOk result.0 (ReportsRestored (D.seen device)) }
     ensures cause { IfErr result.0 (IsUnsurveyed (D.seen device)) }
     ensures stands { StandAs (D.seen device) (D.seen result.1) }
     ensures early { IfErr result.0 (λ why. IsEarly why → D.seen result.1 ≡ D.seen device) }
 {
-    match open(alloc, device, FRAMES) {
-        Ok(kernel) => survey_opened(kernel),
+    match open_with_survey(alloc, device, FRAMES) {
+        Ok((kernel, survey)) => (Ok(survey), kernel.into_device()),
         Err((refusal, device)) => (Err(refusal), device),
     }
 }

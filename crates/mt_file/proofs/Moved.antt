@@ -133,8 +133,8 @@ roomy_same None bytes pages mid named is = tt
 pub moves_on : (at_hand : ℕ → Option (List ℕ)) (room : Option ℕ) (total : ℕ) (before : List PageChange) (pages : PageBytes) (p s : ℕ) (r row : Row) (step : Step)
     → Drops pages (after before pages) p s → IsOutgrown pages p r row → r ≢ row → after before pages 0 ≡ pages 0 → ((h : ℕ) → room ≡ Some h → after before pages h ≡ pages h)
     → IsPut at_hand room total before pages row step → IsReplacement at_hand room total pages p s r row step
-moves_on at_hand room total before pages p s r row (Need q mode) drops outgrown ne map named put =
-    (put.0, put.1, inr (outgrown, looked_same room total pages (after before pages) q map put.2))
+moves_on at_hand room total before pages p s r row (Need q) drops outgrown ne map named put =
+    (put.0, inr (outgrown, looked_same room total pages (after before pages) q map put.1))
 moves_on at_hand room total before pages p s r row (Done plan) drops outgrown ne map named put = (
   inr (outgrown, inr (chosen_same room total pages (after before pages) plan.name.page map put.1, roomy_same room (row_length row) pages (after before pages) named put.2), record { between = after before pages; drops = drops; adds = put.0 }),
   λ e. absurd (ne e),
@@ -170,6 +170,6 @@ room_seen pages p s old r row held over = subst (λ (m : List ℕ). room_of m + 
 -- ---- of a plan that is made
 
 pub done_weaker : (step : Step) (P Q : Plan → Type 0) → ((plan : Plan) → P plan → Q plan) → IfDone step P → IfDone step Q
-done_weaker (Need p mode) P Q f outcome = tt
+done_weaker (Need p) P Q f outcome = tt
 done_weaker (Done plan) P Q f outcome = f plan outcome
 done_weaker Full P Q f outcome = tt

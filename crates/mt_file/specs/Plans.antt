@@ -1,7 +1,6 @@
 -- What a plan of the record file answers.
 use Rattle.std.specs.Prelude.{◌≡◌, ◌≢◌, ◌⊎◌, ℕ, ◌+◌, ◌<◌, ◌≤◌, List, [], length, Option, Some, None, false}
 use Rattle.std.proofs.Math.ListN.{get_or}
-use Rattle.mt_base.specs.declared.modes.Mode.TheVariants.{Write, Read}
 use Rattle.mt_space.specs.Changes.{PageBytes, after, IsUntouched, AreShort}
 use Rattle.mt_space.specs.declared.changes.PageChange.{PageChange}
 use Rattle.mt_slots.specs.Page.{Row, slot, IsShaped, row_length, room_of}
@@ -57,8 +56,8 @@ pub record IsApart (room : Option ℕ) (before : List PageChange) (pages : PageB
 
 -- the answer of a put after these changes
 abbrev pub IsPut : (ℕ → Option (List ℕ)) → Option ℕ → ℕ → List PageChange → PageBytes → Row → Step → Type 0
-IsPut at_hand room total before pages row (Need p mode) =
-    (at_hand p ≡ None) × (mode ≡ Write) × IsLooked room total (after before pages) p
+IsPut at_hand room total before pages row (Need p) =
+    (at_hand p ≡ None) × IsLooked room total (after before pages) p
 IsPut at_hand room total before pages row (Done plan) =
     Adds (after before pages) (after plan.changes.list.items pages) plan.name.page plan.name.slot row
     × IsChosen room total (after before pages) plan.name.page
@@ -67,7 +66,7 @@ IsPut at_hand room total before pages row Full = IsTooFull room total (after bef
 
 -- the changes of a plan are as a log wants them
 abbrev pub IsShortPlan : PageBytes → Step → Type 0
-IsShortPlan pages (Need p mode) = Unit {0}
+IsShortPlan pages (Need p) = Unit {0}
 IsShortPlan pages (Done plan) = AreShort plan.changes.list.items pages
 IsShortPlan pages Full = Unit {0}
 
@@ -89,8 +88,8 @@ IsSeen at_hand before step =
 
 -- the answer of a removal: the map is asked for only if the page is given back
 abbrev pub IsRemoval : (ℕ → Option (List ℕ)) → PageBytes → ℕ → ℕ → Step → Type 0
-IsRemoval at_hand pages p s (Need q mode) =
-    (at_hand q ≡ None) × (mode ≡ Write) × ((q ≡ p) ⊎ ((q ≡ 0) × ((t : ℕ) → t ≢ s → record_in pages p t ≡ None)))
+IsRemoval at_hand pages p s (Need q) =
+    (at_hand q ≡ None) × ((q ≡ p) ⊎ ((q ≡ 0) × ((t : ℕ) → t ≢ s → record_in pages p t ≡ None)))
 IsRemoval at_hand pages p s (Done plan) =
     Drops pages (after plan.changes.list.items pages) p s × (plan.name.page ≡ p) × (plan.name.slot ≡ s)
 IsRemoval at_hand pages p s Full = ⊥
@@ -110,8 +109,8 @@ IsReplaced room total pages next p s r row q t =
 
 -- the answer of a replacement of r
 abbrev pub IsReplacement : (ℕ → Option (List ℕ)) → Option ℕ → ℕ → PageBytes → ℕ → ℕ → Row → Row → Step → Type 0
-IsReplacement at_hand room total pages p s r row (Need q mode) =
-    (at_hand q ≡ None) × (mode ≡ Write) × ((q ≡ p) ⊎ (IsOutgrown pages p r row × IsLooked room total pages q))
+IsReplacement at_hand room total pages p s r row (Need q) =
+    (at_hand q ≡ None) × ((q ≡ p) ⊎ (IsOutgrown pages p r row × IsLooked room total pages q))
 IsReplacement at_hand room total pages p s r row (Done plan) =
     IsReplaced room total pages (after plan.changes.list.items pages) p s r row plan.name.page plan.name.slot
     × (r ≡ row → plan.changes.list.items ≡ [])
@@ -128,7 +127,7 @@ pub record IsWhole (old new : PageBytes) (p s : ℕ) (row : Row) : Type 0 where
 -- ---- a reading
 
 abbrev pub IsFound : (ℕ → Option (List ℕ)) → PageBytes → ℕ → ℕ → Lookup → Type 0
-IsFound at_hand pages p s (found.Need q mode) = (at_hand q ≡ None) × (mode ≡ Read) × (q ≡ p)
+IsFound at_hand pages p s (found.Need q) = (at_hand q ≡ None) × (q ≡ p)
 IsFound at_hand pages p s (found.Record view) =
     record_in pages p s ≡ Some (record { relation = view.relation; key = view.key.now; value = view.value.now })
 IsFound at_hand pages p s found.Nothing = record_in pages p s ≡ None

@@ -11,7 +11,7 @@ ghost use Rattle.mt_file.specs.Plans.{IsNamed, IsReady, IsPut, IsShortPlan, IfDo
 ghost use Rattle.mt_file.specs.Puts.{PutsRecord};
 
 use crate::step::{Plan, Step};
-use mt_base::{Mode, PageNo, RecordName, RelNo, TouchedBytes};
+use mt_base::{PageNo, RecordName, RelNo, TouchedBytes};
 use mt_slots::{empty, insert};
 use mt_space::pages::{MAP, RECORDS};
 use mt_space::{Changes, Pages, first_free, kind_byte};
@@ -88,7 +88,7 @@ fn put_into<V: Pages>(
         (record { relation = relation; key = key.now; value = value.now }) result }
 {
     let Some(old) = views.page(page) else {
-        return Ok(Step::Need(page, Mode::Write));
+        return Ok(Step::Need(page));
     };
     let mut new = *old;
     let Some(insertion) = insert(&mut new, relation, key, value) else {
@@ -121,13 +121,13 @@ fn put_new<V: Pages>(
 {
     let map_page = PageNo::new(MAP);
     let Some(map) = views.page(map_page) else {
-        return Ok(Step::Need(map_page, Mode::Write));
+        return Ok(Step::Need(map_page));
     };
     let Some(page) = first_free(map, views.count()) else {
         return Ok(Step::Full);
     };
     let Some(old) = views.page(page) else {
-        return Ok(Step::Need(page, Mode::Write));
+        return Ok(Step::Need(page));
     };
     let new_map = with_kind(map, page, RECORDS);
     let (new, slot) = page_of_one(relation, key, value);

@@ -5,15 +5,15 @@ ghost use Rattle.mt_space.specs.Kinds.{kind};
 ghost use Rattle.mt_file.specs.File.{IsFile};
 ghost use Rattle.mt_file.specs.Plans.{IsFound};
 
-use mt_base::{Mode, PageNo, RecordName};
+use mt_base::{PageNo, RecordName};
 use mt_slots::{RecordView, get};
 use mt_space::Pages;
 
 /// What a reading of a name finds.
 #[derive(Clone, Copy, Debug)]
 pub enum Lookup<'a> {
-    /// This page has to be at hand first, locked in this mode.
-    Need(PageNo, Mode),
+    /// This page has to be at hand first, locked to be read at least.
+    Need(PageNo),
     /// The record, lent from its page.
     Record(RecordView<'a>),
     /// The name holds nothing.
@@ -29,7 +29,7 @@ pub fn plan_read<V: Pages>(views: &V, name: RecordName) -> Lookup<'_>
         IsFound (V.at_hand views.now) pages name.page name.slot result }
 {
     let Some(page) = views.page(name.page) else {
-        return Lookup::Need(name.page, Mode::Read);
+        return Lookup::Need(name.page);
     };
     match get(page, name.slot) {
         Some(view) => Lookup::Record(view),

@@ -7,7 +7,7 @@ ghost use Rattle.mt_file.specs.Plans.{IsRemoval, IsShortPlan, IfDone, IsFew, IsS
 
 use crate::insertion::with_kind;
 use crate::step::{Plan, Step};
-use mt_base::{Mode, PageNo, RecordName};
+use mt_base::{PageNo, RecordName};
 use mt_slots::{live, remove};
 use mt_space::pages::{FREE, MAP};
 use mt_space::{Changes, Pages, kind_byte};
@@ -30,7 +30,7 @@ pub fn plan_remove<V: Pages>(alloc: Global, views: &V, name: RecordName) -> Resu
     ensures there { IfOk result (IsSeen (V.at_hand views.now) []) }
 {
     let Some(old) = views.page(name.page) else {
-        return Ok(Step::Need(name.page, Mode::Write));
+        return Ok(Step::Need(name.page));
     };
     let mut new = *old;
     let touched = remove(&mut new, name.slot);
@@ -41,7 +41,7 @@ pub fn plan_remove<V: Pages>(alloc: Global, views: &V, name: RecordName) -> Resu
     }
     let map_page = PageNo::new(MAP);
     let Some(map) = views.page(map_page) else {
-        return Ok(Step::Need(map_page, Mode::Write));
+        return Ok(Step::Need(map_page));
     };
     let new_map = with_kind(map, name.page, FREE);
     changes.note(map_page, map, &new_map, kind_byte(name.page))?;

@@ -11,7 +11,7 @@ ghost use Rattle.mt_file.specs.Puts.{MovesRecord, WritesWhole};
 
 use crate::insertion::{page_of_one, put};
 use crate::step::{Plan, Step};
-use mt_base::{Mode, PageNo, RecordName, RelNo, TouchedBytes};
+use mt_base::{PageNo, RecordName, RelNo, TouchedBytes};
 use mt_slots::{get, live, remove, replace};
 use mt_space::{Changes, Pages};
 use std::alloc::{AllocError, Global};
@@ -47,7 +47,7 @@ pub fn plan_replace<V: Pages>(
     ensures there { IfOk result (IsSeen (V.at_hand views.now) []) }
 {
     let Some(old) = views.page(name.page) else {
-        return Ok(Step::Need(name.page, Mode::Write));
+        return Ok(Step::Need(name.page));
     };
     let mut changes = Changes::new(alloc);
     if has_value(old, name.slot, value) {

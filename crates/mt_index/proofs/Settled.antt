@@ -382,7 +382,7 @@ all_settled total pages homes done kinds marked outcome p two =
     let member = first_each (nodes pages) (IsMember pages homes b) b m.chain m.linked some m.each in
     (outcome b (below b member.kind) member.kind).bucket member.home p refl
 
--- ---- what an answer tells
+-- ---- what follows from an answer
 
 pub none_follows : {A : Type 0} (B : ℕ → Type 0) (o : Option ℕ) → o ≡ None → MatchOption o A B → A
 none_follows {A} B o none outcome = subst (λ (x : Option ℕ). MatchOption x A B) none outcome

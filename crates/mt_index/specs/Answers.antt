@@ -45,8 +45,9 @@ pub record Asks (at_hand : ℕ → Option (List ℕ)) (total : ℕ) (Role : Page
 
 -- ---- a find
 
+-- the page that it needs, which it needs for read
 abbrev pub FindNeeds : Find → (ℕ → Mode → Type 0) → Type 0
-FindNeeds (find.Need p mode) P = P p mode
+FindNeeds (find.Need p) P = P p Read
 FindNeeds _ P = Unit {0}
 
 abbrev pub IfFound : Find → (RecordName → Type 0) → Type 0
@@ -99,7 +100,7 @@ HeldNeeds _ P = Unit {0}
 
 -- what a find comes to: a page that is needed, the name under the key, or that there is none
 abbrev pub FindsName : (ℕ → Option (List ℕ)) → ℕ → ℕ → List ℕ → Find → Type 0
-FindsName at_hand total r k (find.Need p mode) = Asks at_hand total (IsInBucket k Read) p mode
+FindsName at_hand total r k (find.Need p) = Asks at_hand total (IsInBucket k Read) p Read
 FindsName at_hand total r k (find.Found name) = InMaps at_hand total (λ pages m. m r k ≡ Some name)
 FindsName at_hand total r k find.Missing = InMaps at_hand total (λ pages m. m r k ≡ None)
 FindsName at_hand total r k find.Endless = InMaps at_hand total (λ pages m. ⊥)

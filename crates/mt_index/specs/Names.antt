@@ -22,8 +22,9 @@ use Rattle.mt_index.specs.declared.record_names.Gathering.{Gathering}
 abbrev pub IsInIndex : PageBytes → ℕ → Mode → Type 0
 IsInIndex pages p mode = ((p ≡ 1) ⊎ (kind pages p ≡ 2)) × (mode ≡ Read)
 
+-- the page that it needs, which it needs for read
 abbrev pub NamesNeed : Names → (ℕ → Mode → Type 0) → Type 0
-NamesNeed (answer.Need p mode) P = P p mode
+NamesNeed (answer.Need p) P = P p Read
 NamesNeed _ P = Unit {0}
 
 abbrev pub IfNamed : Names → Type 0 → Type 0

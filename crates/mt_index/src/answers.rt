@@ -1,4 +1,4 @@
-// What the plans of the index answer: a page that they need and in which mode, what they found, or what changes.
+// What the plans of the index answer: a page that they need, what they found, or what changes.
 // `Held`, `Spot` and `Gathered` are answers within this crate. And how far the search for a key has come.
 use mt_base::{Mode, PageNo, RecordName};
 use mt_space::Changes;
@@ -6,8 +6,8 @@ use mt_space::Changes;
 /// What a find answers.
 #[derive(Clone, Copy, Debug)]
 pub enum Find {
-    /// This page is needed first, in this mode.
-    Need(PageNo, Mode),
+    /// This page is needed first, to be read at least.
+    Need(PageNo),
     /// The name of the record under the key.
     Found(RecordName),
     /// There is no record under the key.
@@ -65,8 +65,8 @@ pub enum Add {
 /// What the gathering of a relation's names answers.
 #[derive(Clone, Copy, Debug)]
 pub enum Names {
-    /// This page is needed first, in this mode.
-    Need(PageNo, Mode),
+    /// This page is needed first, for read.
+    Need(PageNo),
     /// All names of the relation's records are gathered.
     Named,
     /// The pages are no index: a chain comes back to itself.

@@ -33,7 +33,7 @@ pub fn plan_find<V: Pages>(views: &V, relation: RelNo, key: &[u8], search: &mut 
     match begun {
         Search::Start => {
             let Some(directory) = views.page(PageNo::new(DIRECTORY)) else {
-                return Find::Need(PageNo::new(DIRECTORY), Mode::Read);
+                return Find::Need(PageNo::new(DIRECTORY));
             };
             find_from(views, pointer(directory, hash(key)), relation, key, search)
         }
@@ -58,9 +58,9 @@ fn find_from<V: Pages>(
     ensures searched { IsSearched (V.at_hand views.now) (V.total views.now) relation key.now search.new }
 {
     match &holder_from(views, from, relation, key, Mode::Read) {
-        Held::Need(page, mode) => {
+        Held::Need(page, _) => {
             *search = Search::At(*page);
-            Find::Need(*page, *mode)
+            Find::Need(*page)
         }
         Held::In(_, name) => {
             *search = Search::Found(*name);

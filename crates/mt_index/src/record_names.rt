@@ -9,7 +9,7 @@ ghost use Rattle.mt_index.specs.Pages.{state_of};
 
 use crate::answers::{Gathered, Names};
 use crate::directory::{MAX_DEPTH, depth, pointer_of};
-use mt_base::{Mode, PageNo, RecordName, RelNo};
+use mt_base::{PageNo, RecordName, RelNo};
 use mt_bucket::{count, name_in, next};
 use mt_space::Pages;
 use mt_space::pages::DIRECTORY;
@@ -74,13 +74,13 @@ pub fn plan_names<V: Pages>(
         (λ pages m. ⊥))) }
 {
     let Some(directory) = views.page(PageNo::new(DIRECTORY)) else {
-        return Ok(Names::Need(PageNo::new(DIRECTORY), Mode::Read));
+        return Ok(Names::Need(PageNo::new(DIRECTORY)));
     };
     for pointer in gathering.pointer..1usize << depth(directory) {
         let bucket = pointer_of(directory, pointer);
         match gather_bucket(views, bucket, pointer, relation, &mut gathering.names)? {
             Gathered::Whole => gathering.pointer = pointer + 1,
-            Gathered::Need(page) => return Ok(Names::Need(page, Mode::Read)),
+            Gathered::Need(page) => return Ok(Names::Need(page)),
             Gathered::Endless => return Ok(Names::Endless),
         }
     }

@@ -1,4 +1,4 @@
-// The map of free pages: claims, and pages that are taken and put back.
+// The free pages by a map: claims on them, and another map that is followed.
 use mt_base::Refusal;
 use mt_space::Space;
 use std::test::Fail;
@@ -18,51 +18,31 @@ fn three_claims(space: &mut Space) -> [Result<(), Refusal>; 3] {
     [space.claim(13), space.claim(12), space.claim(1)]
 }
 
-/// Takes two pages, puts the first back and takes again: which pages these are, and how many were free and reserved
-/// after the first two.
-fn three_takes(space: &mut Space) -> [u16; 5] {
-    if space.reserved() < 3 {
-        return [0; 5];
-    }
-    let first = space.take();
-    let second = space.take();
-    let (free, reserved) = (space.free(), space.reserved());
-    space.put_back(first);
-    let again = space.take();
-    [first.get(), second.get(), free, reserved, again.get()]
-}
-
-/// Gives the last nine pages back, and follows a map: how many are reserved, and then free.
+/// Gives the twelve pages back, and follows a map: how many are reserved, and then free.
 fn follows(space: &mut Space, map: &[u8; 4096]) -> [u16; 2] {
-    if space.reserved() != 9 {
+    if space.reserved() != 12 {
         return [0; 2];
     }
-    space.give_back(9);
+    space.give_back(12);
     let reserved = space.reserved();
     space.follow(map);
     [reserved, space.free()]
 }
 
-/// The number of the one page that is claimed and taken.
-fn takes_one(space: &mut Space) -> Result<u16, Refusal> {
-    space.claim(1)?;
-    Ok(space.take().get())
-}
-
 #[test]
-fn pages_are_reserved_and_taken(rt: HostRuntime) -> Result<(), Fail> {
+fn pages_are_reserved(rt: HostRuntime) -> Result<(), Fail> {
     let mut map = first_map();
     let mut space = Space::of(rt.alloc(), &map, 16)?;
     let free = space.free();
     let claims = three_claims(&mut space);
-    let takes = three_takes(&mut space);
+    let claimed = [space.free(), space.reserved()];
     map[4] = 3;
     let follows = follows(&mut space, &map);
-    let taken = takes_one(&mut space);
+    let again = [space.claim(12), space.claim(11)];
     drop(space);
     assert!(rt; free == 12 && claims == [Err(Refusal::NoRoom), Ok(()), Err(Refusal::NoRoom)]);
-    assert!(rt; takes == [4, 5, 10, 10, 4]);
+    assert!(rt; claimed == [12, 12]);
     assert!(rt; follows == [0, 11]);
-    assert!(rt; taken == Ok(5));
+    assert!(rt; again == [Err(Refusal::NoRoom), Ok(())]);
     Ok(())
 }

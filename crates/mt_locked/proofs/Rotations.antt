@@ -22,7 +22,7 @@ use Rattle.mt_txn.specs.Seen.{KernelSeen, seen_of}
 use Rattle.mt_txn.specs.Shown.{Restarts, is_failed}
 use Rattle.mt_txn.specs.Turned.{HasNobody}
 use Rattle.mt_txn.specs.declared.kernel.Kernel.{Kernel}
-use Rattle.mt_locked.specs.Standings.{LeavesBook, kernel_in}
+use Rattle.mt_locked.specs.Standings.{LeavesBook, kernel_in, left_in}
 use Rattle.mt_locked.specs.Turns.{IsLeftAfter, IsLostByFault, IsOneTurn, IsRotation, IsTooEarly}
 use Rattle.mt_locked.specs.Seen.{is_failed_in}
 use Rattle.std.proofs.Math.Dec.{eqb-suc-zero}
@@ -44,9 +44,9 @@ not_both o did early = let wrong : ◌≡◌ {A = Result Bool Refusal} (Ok true)
 
 module _ {D : Type 0} (g : Ghosts D) where
   -- what has not been turned over, and is refused or too early
-  same_lost : (s : Standing D g) → IsLostByFault g s s
+  same_lost : (s : Standing D g) → IsLostByFault g (kernel_in s) (left_in s) (left_in s)
   same_lost (Stands k) = tt
-  same_lost (Ended device) = tt
+  same_lost (Ended device) = refl
 
   pub not_turned : (commits frames : ℕ) (s : Standing D g) (outcome : Result Bool Refusal) → IfErr outcome IsTurnFault → (outcome ≡ Ok true → ⊥) → (outcome ≡ Ok false → IsTooEarly commits s) → (kernel_in s ≡ None → IsErr outcome)
       → (is_failed_in (kernel_in s) ≡ false → IsTooEarly commits s → outcome ≡ Ok false)

@@ -32,14 +32,14 @@ use Rattle.mt_txn.specs.Causes.{IsRefusedAtOnce}
 use Rattle.mt_txn.specs.Events.{HasCalled, HasForced}
 use Rattle.mt_txn.specs.Restarted.{all_commits, FindsCommits}
 use Rattle.mt_txn.specs.Seen.{KernelSeen, ShowsSeen, seen_of}
-use Rattle.mt_txn.specs.Shown.{FailsForGood, Shows, StaysRestarting, HidesNoFault, is_failed}
+use Rattle.mt_txn.specs.Shown.{FailsForGood, HidesNoFault, Shows, StaysRestarting, is_failed}
 use Rattle.mt_txn.specs.declared.answers.KernelForced.{KernelForced}
 use Rattle.mt_txn.specs.declared.kernel.Kernel.{Kernel}
 use Rattle.mt_locked.specs.Asked.{CallsTo, IsFaultless, ReportsEachFault}
 use Rattle.mt_locked.specs.Began.{BeganOn}
-use Rattle.mt_locked.specs.Seen.{IsAskedOf, LockedSeen}
+use Rattle.mt_locked.specs.Seen.{IsAskedOf, LockedSeen, SameBeside}
 use Rattle.mt_locked.specs.declared.locked.Due.{Due}
-use Rattle.mt_locked.specs.Standings.{HasBook, IsDeviceSeen, KeepsHistory, LeavesBook, book_in, kernel_in, seen_in}
+use Rattle.mt_locked.specs.Standings.{HasBook, IsDeviceSeen, KeepsHistory, LeavesBook, book_in, kernel_in, left_in, seen_in}
 use Rattle.mt_locked.proofs.Books.{dones-length, grown, none_behind}
 use Rattle.mt_locked.proofs.Idle.{not_true}
 use Rattle.mt_locked.proofs.Keeping.{Goes, forced_began, forced_grows, legal_book, same_book, still_began}
@@ -150,10 +150,15 @@ module _ {D : Type 0} {g : Ghosts D} where
       let was : None ≡ old.kernel = sym none ∙ ap (λ (l : LockedSeen D). l.kernel) there in
       subst (λ (o : Option (KernelSeen D)). IsAskedOf o r (kernel_in s) Did) was (refused, none)
 
+  -- what a call of the kernel that stood left beside it
+  pub beside_on : {holding : ℕ} {due : Due} (s : Standing D g) (k n : Kernel D g) (v : View) (old : LockedSeen D) → s ≡ Stands k → seen_in s v holding due ≡ old → SameBeside old (seen_in (Stands n) v holding due)
+  beside_on {holding} {due} s k n v old is there =
+      subst (λ (l : LockedSeen D). SameBeside l (seen_in (Stands n) v holding due)) there ((refl, refl, refl), sym (ap (λ (x : Standing D g). left_in x) is))
+
   -- the device of what stands
-  pub device_seen : {holding : ℕ} {due : Due} (s : Standing D g) (v : View) (old : LockedSeen D) (device : D) → device ≡ device_at s → seen_in s v holding due ≡ old → IsDeviceSeen old.kernel device
-  device_seen (Stands k) v old device is there = subst (λ (o : Option (KernelSeen D)). IsDeviceSeen o device) (ap (λ (l : LockedSeen D). l.kernel) there) is
-  device_seen (Ended alone) v old device is there = subst (λ (o : Option (KernelSeen D)). IsDeviceSeen o device) (ap (λ (l : LockedSeen D). l.kernel) there) tt
+  pub device_seen : {holding : ℕ} {due : Due} (s : Standing D g) (v : View) (old : LockedSeen D) (device : D) → device ≡ device_at s → seen_in s v holding due ≡ old → IsDeviceSeen old device
+  device_seen (Stands k) v old device is there = subst (λ (l : LockedSeen D). IsDeviceSeen l device) there is
+  device_seen (Ended alone) v old device is there = subst (λ (l : LockedSeen D). IsDeviceSeen l device) there (ap (λ (d : D). Some d) (sym is))
 
   -- ---- what a crash leaves
 

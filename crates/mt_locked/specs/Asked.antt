@@ -1,15 +1,16 @@
 -- What a call did to the kernel under the lock: what was answered, and what stays of it. k before, n after the call.
-use Rattle.std.specs.Prelude.{ℕ, ◌≡◌, ◌+◌, ◌*◌, ◌≤◌, true, false, IfOk, None, OnOk, Option, Some, Result, Ok, Err, filter, length}
+use Rattle.std.specs.Prelude.{ℕ, ◌≡◌, ◌+◌, ◌*◌, ◌≤◌, true, false, IfOk, None, OnOk, Option, Some, Result, Ok, Err, filter, is_some, length}
 use Rattle.mt_base.specs.declared.refusal.Refusal.{Refusal}
 use Rattle.mt_base.specs.declared.refusal.Refusal.TheVariants.{DeviceFailed, NoMemory}
 use Rattle.mt_core.specs.Consistent.{OnlyOperations}
+use Rattle.mt_core.specs.Runs.{state_in}
 use Rattle.mt_core.specs.Seen.{core_device, core_last, core_pool, core_store}
 use Rattle.mt_core.specs.Work.{CallRuns, DrawsNumber}
 use Rattle.mt_core.specs.declared.calls.Called.{Called}
 use Rattle.mt_core.specs.declared.calls.Called.TheVariants as call
 use Rattle.mt_disk.specs.declared.device.Device.{Ghosts}
 use Rattle.mt_live.specs.Machine.{State, begun, called}
-use Rattle.mt_live.specs.Undoing.{is_counted}
+use Rattle.mt_live.specs.Undoing.{after_first, is_counted, last_effect}
 use Rattle.mt_live.specs.declared.transactions.TxnState.TheVariants.{Aborting, Returning}
 use Rattle.mt_model.specs.Model.{Base}
 use Rattle.mt_model.specs.declared.operations.Op.{Op}
@@ -17,7 +18,7 @@ use Rattle.mt_pool.specs.Reads.{ReadsOnce}
 use Rattle.mt_pool.specs.Views.{pages}
 use Rattle.mt_pool.specs.declared.flushes.Flushed.{Flushed}
 use Rattle.mt_txn.specs.Answered.{AnswersAbort, AnswersAbortStep, AnswersBack, AnswersBackStep, AnswersBegin, AnswersCall, AnswersCommit, AnswersFlush, AnswersForce, AnswersSave, AnswersStep}
-use Rattle.mt_txn.specs.Causes.{IsSavepoint}
+use Rattle.mt_txn.specs.Causes.{IsSavepoint, is_busy}
 use Rattle.mt_txn.specs.Effects.{BeginsUndoing, FlushesPage, KeepsAtForce, LeavesAbort, LeavesReturn, LeavesStep, LogsCommit, MovesAbort, MovesReturn, MovesStep}
 use Rattle.mt_txn.specs.Seen.{KernelSeen, ShowsSeen, has_failed_in}
 use Rattle.mt_txn.specs.declared.answers.AbortStepped.{AbortStepped}
@@ -128,6 +129,10 @@ module _ {D : Type 0} (g : Ghosts D) where
     pub moves : MovesReturn k t result n
     pub leaves : LeavesReturn k t result n
     pub reads : ReadsOnce g (core_device k.core) (core_device n.core)
+    -- if nothing of it is under way, it is refused memory only if an operation is left to undo
+    pub needed : (base : Base) (s : State) (first : ℕ) → ShowsSeen g base s k
+        → state_in k.core.live.members t ≡ Some (Returning first) → is_busy k.core t ≡ false
+        → result ≡ Err NoMemory → is_some (last_effect t (after_first t first s.standing)) ≡ true
     pub faults : ReportsEachFault k result n
 
   -- for want of memory nothing is done

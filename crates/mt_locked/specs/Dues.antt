@@ -1,12 +1,12 @@
 -- Who holds new transactions back, and what who rotates is to do.
-use Rattle.std.specs.Prelude.{ℕ, ◌+◌, ◌-◌, Bool, true, min}
+use Rattle.std.specs.Prelude.{ℕ, ◌+◌, ◌-◌, ◌^◌, Bool, true, min}
 use Rattle.mt_locked.specs.Seen.{LockedSeen}
 use Rattle.mt_locked.specs.declared.locked.Due.{Due}
 use Rattle.mt_locked.specs.declared.locked.Due.TheVariants.{Nothing, Turn}
 
 -- one more holds new transactions back, of as many as 32 bits count; or one fewer
 abbrev pub with_one_holding : {D : Type 0} → LockedSeen D → LockedSeen D
-with_one_holding l = record l { holding = min (l.holding + 1) 4294967295 }
+with_one_holding l = record l { holding = min (l.holding + 1) (2 ^ 32 - 1) }
 
 abbrev pub with_one_fewer : {D : Type 0} → LockedSeen D → LockedSeen D
 with_one_fewer l = record l { holding = l.holding - 1 }

@@ -17,10 +17,11 @@ pub record PassSeen : Type 0 where
   pub number : ℕ
   pub seen : List Entry
 
--- The kernel, if one stands; the durable book; the history at the mark; and how many passes it has. So many hold new
--- transactions back, and that is due for who rotates.
+-- The kernel, or else the device that a rotation left; the durable book; the history at the mark; and how many passes
+-- it has. So many hold new transactions back, and that is due for who rotates.
 pub record LockedSeen (D : Type 0) : Type 0 where
   pub kernel : Option (KernelSeen D)
+  pub left : Option D
   pub book : List Committed
   pub list : List Entry
   pub pass_count : ℕ
@@ -28,9 +29,13 @@ pub record LockedSeen (D : Type 0) : Type 0 where
   pub due : Due
 
 -- the history, the passes and who holds new transactions back are as before
-abbrev pub SameBeside : {D : Type 0} → LockedSeen D → LockedSeen D → Type 0
-SameBeside old new =
+abbrev pub SameAround : {D : Type 0} → LockedSeen D → LockedSeen D → Type 0
+SameAround old new =
     (new.list ≡ old.list) × (new.pass_count ≡ old.pass_count) × (new.holding ≡ old.holding)
+
+-- and so is the device that is left, if no kernel stands
+abbrev pub SameBeside : {D : Type 0} → LockedSeen D → LockedSeen D → Type 0
+SameBeside old new = SameAround old new × (new.left ≡ old.left)
 
 -- The kernel was asked, and did this. If none stands, the call is refused with 2.
 abbrev pub IsAskedOf : {D T : Type 0} → Option (KernelSeen D) → Result T Refusal → Option (KernelSeen D)

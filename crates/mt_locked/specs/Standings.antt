@@ -45,10 +45,16 @@ abbrev pub kernel_in : {D : Type 0} → {g : Ghosts D} → Standing D g → Opti
 kernel_in (Stands k) = Some (seen_of k)
 kernel_in (Ended device) = None
 
+-- the device that is left, if none stands
+abbrev pub left_in : {D : Type 0} → {g : Ghosts D} → Standing D g → Option D
+left_in (Stands k) = None
+left_in (Ended device) = Some device
+
 -- what contracts see of it, beside what its end of the mark knows, with who holds back and what is due
 abbrev pub seen_in : {D : Type 0} → {g : Ghosts D} → Standing D g → View → ℕ → Due → LockedSeen D
 seen_in standing v holding due = record {
   kernel = kernel_in standing;
+  left = left_in standing;
   book = book_in standing (dones v.list);
   list = v.list;
   pass_count = v.made - 1;
@@ -56,7 +62,10 @@ seen_in standing v holding due = record {
   due = due;
 }
 
--- it is the device of the kernel that is seen, if one stands
-abbrev pub IsDeviceSeen : {D : Type 0} → Option (KernelSeen D) → D → Type 0
-IsDeviceSeen None device = ⊤
-IsDeviceSeen (Some k) device = device ≡ core_device k.core
+-- it is the device of the kernel that is seen, or else the one that is left
+abbrev pub IsDeviceOf : {D : Type 0} → Option (KernelSeen D) → Option D → D → Type 0
+IsDeviceOf None left device = left ≡ Some device
+IsDeviceOf (Some k) left device = device ≡ core_device k.core
+
+abbrev pub IsDeviceSeen : {D : Type 0} → LockedSeen D → D → Type 0
+IsDeviceSeen l device = IsDeviceOf l.kernel l.left device

@@ -10,10 +10,11 @@ use Rattle.mt_model.specs.declared.operations.Op.TheVariants.{Read}
 use Rattle.mt_model.specs.declared.operations.Reply.{Reply}
 use Rattle.mt_model.specs.declared.operations.Reply.TheVariants.{Missing}
 
--- The pass with which it was begun, what it would be in the book, and those of its calls that count. Calls that were
--- taken back do not count, and neither do the inverses that took them back.
+-- The pass with which it was begun, its number in the kernel, what it would be in the book, and those of its calls that
+-- count. Calls that were taken back do not count, and neither do the inverses that took them back.
 pub record TxnSeen : Type 0 where
   pub pass : ℕ
+  pub number : ℕ
   pub done : Committed
   pub standing : List Call
 
@@ -39,12 +40,19 @@ abbrev pub open_calls : TxnSeen → OpenCalls
 open_calls t = record { all = t.done.calls; counted = t.standing }
 
 abbrev pub with_calls : TxnSeen → OpenCalls → TxnSeen
-with_calls t calls =
-    record { pass = t.pass; done = record { session = t.done.session; calls = calls.all }; standing = calls.counted }
+with_calls t calls = record t {
+  done = record { session = t.done.session; calls = calls.all };
+  standing = calls.counted;
+}
 
 -- the token of a transaction that has just begun
-abbrev pub fresh : ℕ → ℕ → TxnSeen
-fresh pass session = record { pass = pass; done = record { session = session; calls = [] }; standing = [] }
+abbrev pub fresh : ℕ → ℕ → ℕ → TxnSeen
+fresh pass number session = record {
+  pass = pass;
+  number = number;
+  done = record { session = session; calls = [] };
+  standing = [];
+}
 
 -- the token after a call and its reply
 abbrev pub with_call : TxnSeen → Op → Reply → TxnSeen

@@ -17,7 +17,7 @@ use Rattle.mt_restart.specs.TurnFaults.{IsTurnFault}
 use Rattle.mt_restart.specs.declared.standing.Standing.{Standing}
 use Rattle.mt_restart.specs.declared.standing.Standing.TheVariants.{Stands, Ended}
 use Rattle.mt_locked.specs.Seen.{LockedSeen, is_failed_in}
-use Rattle.mt_locked.specs.Standings.{KeepsHistory, book_in, kernel_in}
+use Rattle.mt_locked.specs.Standings.{KeepsHistory, book_in, kernel_in, left_in}
 use Rattle.mt_txn.specs.Seen.{KernelSeen, seen_of}
 use Rattle.mt_txn.specs.Shown.{Shows, is_failed, kernel_device, kernel_frames, kernel_log}
 use Rattle.mt_txn.specs.declared.kernel.Kernel.{Kernel}
@@ -97,10 +97,11 @@ abbrev pub IsLeftAfter : {D : Type 0} → Ghosts D → Refusal → Option (Kerne
 IsLeftAfter g DeviceFailed old left = is_failed_in left ≡ true
 IsLeftAfter g why old left = (is_failed_in left ≡ false) × GoesOnAs g old left
 
--- A kernel of which no more than the device is left ended as that failed.
-abbrev pub IsLostByFault : {D : Type 0} → (g : Ghosts D) → Standing D g → Standing D g → Type 0
-IsLostByFault g (Stands k) (Ended device) = g.faults (kernel_device k) < g.faults device
-IsLostByFault g old new = ⊤
+-- A kernel of which no more than a device is left ended as that failed. A device that was left before stays.
+abbrev pub IsLostByFault : {D : Type 0} → Ghosts D → Option (KernelSeen D) → Option D → Option D → Type 0
+IsLostByFault g None was left = left ≡ was
+IsLostByFault g (Some k) was None = ⊤
+IsLostByFault g (Some k) was (Some device) = g.faults (core_device k.core) < g.faults device
 
 -- What a rotation to so many frames makes of what stands under a history of so many commits, and what it answers. That
 -- history and the book are kept.
@@ -117,7 +118,7 @@ pub record IsRotation {D : Type 0} (g : Ghosts D) (commits frames : ℕ) (old ne
   pub waits : is_failed_in (kernel_in old) ≡ false → IsTooEarly commits old → (outcome ≡ Ok false) × (new ≡ old)
   -- if no more than the device is left, it is refused
   pub gone : kernel_in new ≡ None → IsErr outcome
-  pub lost : IsLostByFault g old new
+  pub lost : IsLostByFault g (kernel_in old) (left_in old) (left_in new)
   pub refused : IfErr outcome (λ why. IsLeftAfter g why (kernel_in old) (kernel_in new))
   -- if the device has failed before, nothing is done
   pub failed : is_failed_in (kernel_in old) ≡ true → (outcome ≡ Err DeviceFailed) × (new ≡ old)

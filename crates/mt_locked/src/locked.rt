@@ -10,10 +10,10 @@ ghost use Rattle.mt_locked.specs.Standings.{IsDeviceSeen, LeavesBook};
 ghost use Rattle.mt_locked.specs.Refusals.{IsRoomRefusal};
 ghost use Rattle.mt_restart.specs.TurnFaults.{IsTurnFault};
 ghost use Rattle.mt_locked.specs.Rooms.{GoesOnFrom, MakesRoom};
-ghost use Rattle.mt_locked.specs.Seen.{PassSeen, Entered, CannotEnter, IsAsked, IsToForce, SameBeside, is_failed_in, under_way_in};
+ghost use Rattle.mt_locked.specs.Seen.{PassSeen, Entered, CannotEnter, IsAsked, IsToForce, SameAround, SameBeside, is_failed_in, under_way_in};
 ghost use Rattle.mt_locked.specs.Dues.{due_with, once_settled, settled, with_one_fewer, with_one_holding};
 ghost use Rattle.mt_locked.specs.Tokens.{entry_of};
-ghost use Rattle.mt_locked.specs.Turns.{IsHalfUsed, IsLeftAfter, IsTooEarlyIn, IsUseOn, IsUseSeen, TurnsLogOver};
+ghost use Rattle.mt_locked.specs.Turns.{IsHalfUsed, IsLeftAfter, IsLostByFault, IsTooEarlyIn, IsUseOn, IsUseSeen, TurnsLogOver};
 ghost use Rattle.mt_txn.specs.Seen.{seen_of};
 ghost use Rattle.mt_txn.specs.Shown.{is_failed};
 ghost use Rattle.mt_txn.specs.Words.{kernel_book};
@@ -90,7 +90,7 @@ impl<D: Device, J: Naming> Locked<D, J> {
         ensures book { result.book ≡ kernel_book kernel }
         ensures list { result.list ≡ end.view.list }
         ensures passes { result.pass_count ≡ end.view.made - 1 }
-        ensures kernel { result.kernel ≡ Some (seen_of kernel) }
+        ensures kernel { (result.kernel ≡ Some (seen_of kernel)) × (result.left ≡ None) }
         ensures none { (result.holding ≡ 0) × (result.due ≡ Due.Nothing) }
     {
         Locked {
@@ -563,10 +563,11 @@ impl<D: Device + Drop, J: Naming> Locked<D, J> {
         ensures gone { self.new.kernel ≡ None → IsErr result }
         // After 1 and 11 the kernel goes on as it was. After 2 none does.
         ensures refused { IfErr result (λ why. IsLeftAfter ⟦<D as Device>⟧ why self.old.kernel self.new.kernel) }
+        ensures lost { IsLostByFault ⟦<D as Device>⟧ self.old.kernel self.old.left self.new.left }
         ensures failed { is_failed_in self.old.kernel ≡ true
             → (result ≡ Err Refusal.DeviceFailed) × (self.new.kernel ≡ self.old.kernel) }
         ensures book { self.new.book ≡ self.old.book }
-        ensures beside { SameBeside self.old self.new }
+        ensures beside { SameAround self.old self.new }
         ensures due { result ≢ Ok false → self.new.due ≡ settled self.old.due }
     {
         let entered = self.end.check();
@@ -581,7 +582,7 @@ impl<D: Device + Drop, J: Naming> Locked<D, J> {
     /// leaves of the device, a restart finds what the book leads to, or the book and commits that were under way.
     pub fn into_device(self) -> D
         ensures leaves { LeavesBook D.Device J.base self.book result }
-        ensures device { IsDeviceSeen self.kernel result }
+        ensures device { IsDeviceSeen self result }
     {
         let Locked {
             standing,

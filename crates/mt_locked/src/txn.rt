@@ -14,7 +14,8 @@ use std::alloc::Global;
 use std::marker::{Model, PhantomData};
 
 /// A transaction's token: what it has done so far, and which of that counts. It is spent by a commit or an abort
-/// alone, so none is lost. Contracts see the entry that it would be in the history, with the calls that count.
+/// alone, so none is lost. Contracts see its number and the entry that it would be in the history, with the calls that
+/// count.
 pub struct Txn<J: Naming> {
     pub(crate) number: TxnNo,
     pub(crate) entry: Entry,
@@ -30,6 +31,7 @@ impl<J: Naming> Model for Txn<J> {
 
     ghost view = { λ t. record {
       pass = t.entry.pass;
+      number = t.number;
       done = t.entry.done;
       standing = calls_at t.entry.done.calls t.standing.items;
     } };
@@ -61,7 +63,9 @@ impl<J: Naming> Txn<J> {
     }
 
     /// The number that the kernel gave it.
-    pub fn number(&self) -> TxnNo {
+    pub fn number(&self) -> TxnNo
+        ensures { result ≡ self.now.number }
+    {
         self.number
     }
 
@@ -98,7 +102,7 @@ pub fn give_token<J: Naming>(
     number: TxnNo,
     session: u32,
 ) -> Txn<J>
-    ensures token { result ≡ fresh pass.old.number session }
+    ensures token { result ≡ fresh pass.old.number number session }
     ensures pass { pass.new ≡ pass.old }
 {
     pass.is_busy = true;

@@ -14,8 +14,8 @@ IsLength c at end (Some n) = Has c (at + 1) (to_be_bytes w32 n) × (at + 5 + n <
 IsLength c at end None = (n : ℕ) → n < 2 ^ 32 → Has c (at + 1) (to_be_bytes w32 n) → end ≤ at + 5 + n
 
 -- whether the gate at this place is open
-abbrev pub TellsGate : List ℕ → ℕ → Bool → Type 0
-TellsGate c at is_open = IsTrue is_open ↔ (slice_index c at ≡ OPEN_GATE)
+abbrev pub ReadsGate : List ℕ → ℕ → Bool → Type 0
+ReadsGate c at is_open = IsTrue is_open ↔ (slice_index c at ≡ OPEN_GATE)
 
 -- what is read of the device is this, and nothing on it changes
 pub record Reads {D T F : Type 0} (g : Ghosts D) (IsThis : T → Type 0) (d e : D) (r : Result T F) : Type 0 where

@@ -1,7 +1,7 @@
 // What a scan reads of the device: a gate, a length, a body.
 ghost use Rattle.std.specs.Prelude.{◌≡◌, ◌+◌, ◌<◌, ◌≤◌, length};
 ghost use Rattle.std.specs.Int.{w32, to_be_bytes};
-ghost use Rattle.mt_log.specs.Fetch.{IsLength, Reads, ReadsInto, TellsGate};
+ghost use Rattle.mt_log.specs.Fetch.{IsLength, Reads, ReadsInto, ReadsGate};
 
 use mt_base::Refusal;
 use mt_base::limits::BATCH_HEAD_BYTES;
@@ -11,7 +11,7 @@ use mt_frame::{CLOSED_GATE, OPEN_GATE};
 // Whether an open gate stands at the place.
 pub(crate) fn gate_is_open<D: Device>(device: &mut D, at: u64) -> Result<bool, DeviceFault>
     requires { at < length (D.seen device.old) }
-    ensures { Reads D.Device (TellsGate (D.seen device.old) at)
+    ensures { Reads D.Device (ReadsGate (D.seen device.old) at)
         device.old device.new result }
 {
     let mut gate = [CLOSED_GATE];

@@ -145,6 +145,7 @@ pub fn new(
         × (r.0.view.base ≡ about.now.base.value) × (r.0.view.book ≡ about.now.book.value.items)
         × IsConfirmed r.0.view) }
     ensures count { IfOk result (λ r. vec_len r.1 ≡ count) }
+    ensures made { IfOk result (λ r. r.0.view.made ≡ count + 1) }
     ensures seats { IfOk result (λ r. (k : ℕ) (d : Held) → k < count → IsNewSeat r.0 k (slice_index_or r.1.items k d)) }
 {
     let (word, place) = Word::of_words(alloc, &[from], about)?;

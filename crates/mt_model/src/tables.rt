@@ -49,6 +49,16 @@ impl Base {
         })
     }
 
+    /// The base with these rows in place of its own. It takes no memory.
+    pub fn with_rows(mut self, rows: Rows) -> Base
+        ensures rows { rows_of result ≡ rows }
+        ensures counters { counters_of result ≡ counters_of self }
+        ensures relations { relations_of result ≡ relations_of self }
+    {
+        self.rows = rows;
+        self
+    }
+
     /// How many relations there are; they are numbered from 0.
     pub fn relations(&self) -> u16
         ensures { result ≡ relations_of self.now }

@@ -17,7 +17,7 @@ use Rattle.mt_op.specs.Moves.{Rests}
 use Rattle.mt_op.specs.Operations.{world, IsRight, Goes, Steps, GivesBack, HasBudget, IsCause}
 use Rattle.mt_op.specs.Records.{KeepsRecords}
 use Rattle.mt_op.specs.Work.{IsGoing, ComesTo, Works}
-use Rattle.mt_op.specs.Faults.{TellsFaults}
+use Rattle.mt_op.specs.Faults.{ReportsFaults}
 use Rattle.mt_op.specs.Holds.{AsksNothing}
 use Rattle.mt_op.specs.Stepping.{GoesAhead}
 use Rattle.mt_op.specs.declared.answers.Stepped.{Stepped}
@@ -100,7 +100,7 @@ module _ {D : Type 0} (g : Ghosts D) (o m : Operations D) (s : OpScope)
 
   -- nothing but what is in frames has changed
   pub idle_ahead : (r : Result Stepped Refusal) → IsIdle r → s.stage ≡ Writing → HasBudget s → (r ≡ Ok stepped.Flush → IsFull o.store.pool × (m ≡ o)) → IfErr r IsCause
-      → TellsFaults (g.faults o.store.device) (g.faults m.store.device) r → GoesAhead g o m s s r
+      → ReportsFaults (g.faults o.store.device) (g.faults m.store.device) r → GoesAhead g o m s s r
   idle_ahead r idle writing budget full why outcome = record {
     steps = λ opening relations counters ok k few some.
         (right opening relations counters ok, idle_steps relations counters (world g opening o) (world g opening m) s s r idle (rests_goes_as relations counters (world g opening o) (world g opening m) s (rests opening) k));

@@ -16,8 +16,8 @@ use Rattle.mt_pool.specs.Reads.{ReadsOnce}
 use Rattle.mt_pool.proofs.Reading.{reads_nothing}
 use Rattle.mt_op.specs.Moves.{Rests}
 use Rattle.mt_op.specs.Operations.{world, IsRight, HasBudget, IsCause, claimed}
-use Rattle.mt_op.specs.Records.{TellsDropped, dropped_with}
-use Rattle.mt_op.specs.Faults.{TellsFaults}
+use Rattle.mt_op.specs.Records.{ReportsDropped, dropped_with}
+use Rattle.mt_op.specs.Faults.{ReportsFaults}
 use Rattle.mt_op.specs.Stepping.{PutsOneBack, TakesStepBack}
 use Rattle.mt_op.specs.declared.answers.TakenBack.{TakenBack}
 use Rattle.mt_op.specs.declared.answers.TakenBack.TheVariants as taken
@@ -44,11 +44,11 @@ none_more r none is = subst TakesNone is none
 none_clear : (r : Result TakenBack Refusal) → TakesNone r → r ≡ Ok taken.Clear → ⊥
 none_clear r none is = subst TakesNone is none
 
-none_tells : (s : OpScope) (old new : List Record) (r : Result TakenBack Refusal) → TakesNone r → new ≡ old → TellsDropped s old new r
-none_tells s old new (Ok taken.Flush) none same = same
-none_tells s old new (Ok taken.More) none same = absurd none
-none_tells s old new (Ok taken.Clear) none same = absurd none
-none_tells s old new (Err why) none same = same
+none_reports : (s : OpScope) (old new : List Record) (r : Result TakenBack Refusal) → TakesNone r → new ≡ old → ReportsDropped s old new r
+none_reports s old new (Ok taken.Flush) none same = same
+none_reports s old new (Ok taken.More) none same = absurd none
+none_reports s old new (Ok taken.Clear) none same = absurd none
+none_reports s old new (Err why) none same = same
 
 none_same : (s : OpScope) (r : Result TakenBack Refusal) → OnErr r (s ≡ s)
 none_same s (Ok x) = tt
@@ -94,7 +94,7 @@ module _ {D : Type 0} (g : Ghosts D) (o m : Operations D) (s : OpScope)
   same_claims = ap (λ (x : SpaceMap). reserved_of x.space) map
 
   -- nothing but what is in frames has changed
-  pub takes_none : (r : Result TakenBack Refusal) → TakesNone r → HasBudget s → (r ≡ Ok taken.Flush → IsFull o.store.pool × (m ≡ o)) → IfErr r IsCause → TellsFaults (g.faults o.store.device) (g.faults m.store.device) r
+  pub takes_none : (r : Result TakenBack Refusal) → TakesNone r → HasBudget s → (r ≡ Ok taken.Flush → IsFull o.store.pool × (m ≡ o)) → IfErr r IsCause → ReportsFaults (g.faults o.store.device) (g.faults m.store.device) r
       → TakesStepBack g o m s s r
   takes_none r none budget full why outcome = record {
     goes = λ opening relations counters ok k. (right opening relations counters ok, rests_goes_as relations counters (world g opening o) (world g opening m) s (rests opening) k);
@@ -106,7 +106,7 @@ module _ {D : Type 0} (g : Ghosts D) (o m : Operations D) (s : OpScope)
     area = ap (λ (l : Log). area_size l) log;
     durable = ap (λ (l : Log). durable l) log;
     claimed = same_claims;
-    records = none_tells s (appended o.store.log) (appended m.store.log) r none (ap (λ (l : Log). appended l) log);
+    records = none_reports s (appended o.store.log) (appended m.store.log) r none (ap (λ (l : Log). appended l) log);
     locks = locks;
     budget = budget;
     err = none_same s r;
@@ -132,7 +132,7 @@ module _ {D : Type 0} (g : Ghosts D) (o m : Operations D) (s : OpScope)
     area = b.area ∙ ap (λ (l : Log). area_size l) log;
     durable = b.durable ∙ ap (λ (l : Log). durable l) log;
     claimed = ap (λ (x : SpaceMap). reserved_of x.space) b.map ∙ same_claims;
-    records = subst (λ (l : Log). TellsDropped s (appended l) (appended n.store.log) r) log b.records;
+    records = subst (λ (l : Log). ReportsDropped s (appended l) (appended n.store.log) r) log b.records;
     locks = b.locks ∙ locks;
     budget = b.budget;
     err = b.err;

@@ -24,7 +24,7 @@ use Rattle.mt_op.specs.Operations.{world, IsRight, Goes, GoesOn, GivesBack, HasB
 use Rattle.mt_op.specs.Holds.{IsNext, KeepsLocks, KeepsScope}
 use Rattle.mt_op.specs.Records.{KeepsRecords}
 use Rattle.mt_op.specs.Work.{Works}
-use Rattle.mt_op.specs.Faults.{TellsFaults}
+use Rattle.mt_op.specs.Faults.{ReportsFaults}
 use Rattle.mt_op.specs.Stepping.{GoesAhead, KeepsPlan, LocksPage, MakesStep, PlansOn, TakesLock}
 use Rattle.mt_op.specs.declared.answers.Stepped.{Stepped}
 use Rattle.mt_op.specs.declared.answers.Stepped.TheVariants as stepped
@@ -76,7 +76,7 @@ module _ {D : Type 0} (g : Ghosts D) (o m : Operations D) (s : OpScope)
     (log : m.store.log ≡ o.store.log) (map : m.map ≡ o.map) (locks : m.locks ≡ o.locks) (rooms : m.rooms ≡ o.rooms) where
   -- nothing but what is in frames has changed
   pub idle_locks : (r : Result Stepped Refusal) → IsIdle r → (r ≡ Ok stepped.Flush → IsFull o.store.pool × (m ≡ o)) → IfErr r IsCause
-      → TellsFaults (g.faults o.store.device) (g.faults m.store.device) r → LocksPage g o m s s r
+      → ReportsFaults (g.faults o.store.device) (g.faults m.store.device) r → LocksPage g o m s s r
   idle_locks r idle full why outcome = record {
     goes = λ opening relations counters ok k.
         (right opening relations counters ok, idle_goes_on relations counters (world g opening o) (world g opening m) s s r idle (rests_goes_as relations counters (world g opening o) (world g opening m) s (rests opening) k));

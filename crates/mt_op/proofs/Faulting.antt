@@ -1,13 +1,13 @@
--- Faults of the device, and the refusal that tells of them.
+-- Faults of the device, and the refusal that reports them.
 use Rattle.std.proofs.Common.{◌≡◌, ℕ, ap, ◌∙◌, subst, arith}
 use Rattle.std.specs.Prelude.{◌<◌, Result, Ok, Err, IsOk, IsErr, IfErr, is_ok, is_err}
 use Rattle.mt_base.specs.declared.refusal.Refusal.{Refusal}
 use Rattle.mt_base.specs.declared.refusal.Refusal.TheVariants as refusal
 use Rattle.mt_disk.specs.Disk.{HasCause}
-use Rattle.mt_op.specs.Faults.{TellsFaults}
+use Rattle.mt_op.specs.Faults.{ReportsFaults}
 
 -- where only memory is refused the device did not fail
-pub no_fault : {T : Type 0} (before now : ℕ) (r : Result T Refusal) → IfErr r (λ why. why ≡ refusal.NoMemory) → now ≡ before → TellsFaults before now r
+pub no_fault : {T : Type 0} (before now : ℕ) (r : Result T Refusal) → IfErr r (λ why. why ≡ refusal.NoMemory) → now ≡ before → ReportsFaults before now r
 no_fault before now r only same = record { later = omega arith; failed = λ is. absurd (never r only is); quiet = λ other. same }
   where
     never : {T : Type 0} (r : Result T Refusal) → IfErr r (λ why. why ≡ refusal.NoMemory) → r ≡ Err refusal.DeviceFailed → ⊥
@@ -15,14 +15,14 @@ no_fault before now r only same = record { later = omega arith; failed = λ is. 
     never (Err why) only is = cc
 
 -- nor where something is answered
-pub no_fault_ok : {T : Type 0} (before now : ℕ) (x : T) → now ≡ before → TellsFaults before now (Ok x)
+pub no_fault_ok : {T : Type 0} (before now : ℕ) (x : T) → now ≡ before → ReportsFaults before now (Ok x)
 no_fault_ok before now x same = record { later = omega arith; failed = λ is. absurd cc; quiet = λ other. same }
 
 -- an answer says what the one said that it was made of
-pub reported_ok : {T U : Type 0} (before now : ℕ) (r : Result T Refusal) (x : T) (y : U) → r ≡ Ok x → TellsFaults before now r → TellsFaults before now (Ok y)
+pub reported_ok : {T U : Type 0} (before now : ℕ) (r : Result T Refusal) (x : T) (y : U) → r ≡ Ok x → ReportsFaults before now r → ReportsFaults before now (Ok y)
 reported_ok before now r x y is f = no_fault_ok before now y (f.quiet (λ e. absurd cc))
 
-pub reported_err : {T U : Type 0} (before now : ℕ) (r : Result T Refusal) (q : Result U Refusal) (why : Refusal) → r ≡ Err why → q ≡ Err why → TellsFaults before now r → TellsFaults before now q
+pub reported_err : {T U : Type 0} (before now : ℕ) (r : Result T Refusal) (q : Result U Refusal) (why : Refusal) → r ≡ Err why → q ≡ Err why → ReportsFaults before now r → ReportsFaults before now q
 reported_err before now r q why is same f = record {
   later = f.later;
   failed = λ e. f.failed (is ∙ ap Err (err_is q why same e));
@@ -33,11 +33,11 @@ reported_err before now r q why is same f = record {
     err_is x why is e = cc
 
 -- a call behind one in which the device did not fail
-pub reported_behind : {T : Type 0} (before m now : ℕ) (r : Result T Refusal) → m ≡ before → TellsFaults m now r → TellsFaults before now r
-reported_behind before m now r same f = subst (λ (n : ℕ). TellsFaults n now r) same f
+pub reported_behind : {T : Type 0} (before m now : ℕ) (r : Result T Refusal) → m ≡ before → ReportsFaults m now r → ReportsFaults before now r
+reported_behind before m now r same f = subst (λ (n : ℕ). ReportsFaults n now r) same f
 
 -- the device failed in it
-pub fault_reported : {T U V : Type 0} (before now : ℕ) (r : Result T U) (why : U) (q : Result V Refusal) → HasCause before now r → r ≡ Err why → q ≡ Err refusal.DeviceFailed → TellsFaults before now q
+pub fault_reported : {T U V : Type 0} (before now : ℕ) (r : Result T U) (why : U) (q : Result V Refusal) → HasCause before now r → r ≡ Err why → q ≡ Err refusal.DeviceFailed → ReportsFaults before now q
 fault_reported before now r why q f is outcome = record { later = f.later; failed = λ e. f.failed (ap is_err is); quiet = λ other. absurd (other outcome) }
 
 -- it did not

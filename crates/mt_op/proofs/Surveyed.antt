@@ -1,14 +1,12 @@
 -- What the reads of a survey leave, and what they find.
-use Rattle.std.proofs.Common.{◌≡◌, ◌<◌, ◌≤◌, ℕ, List, [], get_or, Some, refl, sym, ◌∙◌, ap, subst, append-nil, arith}
+use Rattle.std.proofs.Common.{◌≡◌, ◌<◌, ◌≤◌, ℕ, List, [], get_or, refl, sym, ◌∙◌, ap, subst, append-nil, arith}
 use Rattle.std.proofs.Props.{props}
 use Rattle.std.proofs.lemmas.Int.{ints}
 use mathlib.Core.Logic.{∥∥₁_elim, ∥∥₁_map}
-use Rattle.mt_base.specs.declared.limits.TheConstants.{MAX_VALUE_BYTES}
 use Rattle.mt_disk.specs.declared.device.Device.{Ghosts}
 use Rattle.mt_disk.specs.Disk.{LeavesTheSame}
 use Rattle.mt_disk.proofs.Frame.{leaves_more, runs_both, started}
-use Rattle.mt_file.proofs.Filed.{record_kind, record_records}
-use Rattle.mt_file.specs.File.{record_in}
+use Rattle.mt_file.proofs.Filed.{record_kind}
 use Rattle.mt_model.specs.Model.{Base}
 use Rattle.mt_file.proofs.Shaped.{shaped_of}
 use Rattle.mt_log.specs.Words.{appended, area_end, area_start, durable}
@@ -25,13 +23,14 @@ use Rattle.mt_pool.proofs.Steady.{IsSteady, steady}
 use Rattle.mt_pool.specs.Kept.{Explains, HasOpening}
 use Rattle.mt_pool.specs.Views.{pages, view}
 use Rattle.mt_pool.specs.declared.pool.Pool.{Pool}
-use Rattle.mt_slots.specs.Page.{IsPage, Row}
+use Rattle.mt_rows.specs.Rows.{AreKeysOnce}
+use Rattle.mt_rows.specs.declared.rows.Row.{Row}
+use Rattle.mt_slots.specs.Page.{IsShaped}
 use Rattle.mt_space.specs.Changes.{PageBytes}
 use Rattle.mt_space.specs.Kinds.{kind}
-use Rattle.mt_steps.proofs.Listed.{all_listed}
 use Rattle.mt_counters.specs.Counters.{AreCounters, count_in}
 use Rattle.mt_steps.specs.Held.{Holds}
-use Rattle.mt_steps.specs.Listed.{HasListed, IsSame}
+use Rattle.mt_steps.specs.Listed.{AreInside, HasListed, IsSame}
 use Rattle.mt_steps.specs.Plans.{IsGood}
 
 -- a crash leaves the same after two runs of reads
@@ -42,8 +41,12 @@ module _ {D : Type 0} (g : Ghosts D) where
   pub idle_opening : (relations : ℕ) (o : Operations D) → IsIdle g relations o → HasOpening g o.store
   idle_opening relations o idle = ∥∥₁_map idle (λ (opening, counters, right, free). (opening, right.kept))
 
-  pub idle_steady : (relations : ℕ) (o : Operations D) → IsIdle g relations o → IsSteady g o.store
-  idle_steady relations o idle = steady g o.store (idle_opening relations o idle)
+  -- none is under way, in whatever schema
+  abbrev pub AreIdle : Operations D → Type 0
+  AreIdle o = ∥ ((relations : ℕ) × IsIdle g relations o) ∥₁
+
+  pub idle_steady : (o : Operations D) → AreIdle o → IsSteady g o.store
+  idle_steady o idle = steady g o.store (∥∥₁_elim idle (hlevel props) (λ (relations, one). idle_opening relations o one))
 
   -- the bytes that a page shows are those that are held
   pub idle_page : (opening : PageBytes) (relations counters : ℕ) (o : Operations D) (p : ℕ) → IsRight g opening relations counters o → o.locks ≡ [] → p < pages o.store.pool
@@ -70,6 +73,9 @@ module _ {D : Type 0} (g : Ghosts D) where
 
     pub read_idle : (relations : ℕ) (o n : Operations D) → OnlyReads g o n → IsIdle g relations o → IsIdle g relations n
     read_idle relations o n reads idle = ∥∥₁_map idle (λ (opening, counters, right, free). (opening, counters, read_right opening relations counters o n reads right, reads.locks ∙ free))
+
+    pub read_idle_any : (o n : Operations D) → OnlyReads g o n → AreIdle o → AreIdle n
+    read_idle_any o n reads idle = ∥∥₁_map idle (λ (relations, one). (relations, read_idle relations o n reads one))
 
     pub reads_both : (o m n : Operations D) → OnlyReads g o m → OnlyReads g m n → OnlyReads g o n
     reads_both o m n first second = record {
@@ -110,7 +116,7 @@ module _ {D : Type 0} (g : Ghosts D) where
       let w = world g opening o in
       let last : 2 < pages o.store.pool = right.sound.good.rows.index.within 2 (λ none. let wrong : 1 ≡ 0 = sym ((right.sound.good.rows.map 2).fixed (omega arith)) ∙ none in cc) in omega arith)
 
-  -- the counters page tells of the schema
+  -- the counters page has the schema
   pub counters_page : (relations : ℕ) (o : Operations D) (bytes : List ℕ) → ((opening : PageBytes) (counters : ℕ) → IsRight g opening relations counters o → bytes ≡ held_in (world g opening o) 2) → IsIdle g relations o
       → (get_or bytes 0 0 ≡ relations) × AreCounters (get_or bytes 0 0) (get_or bytes 1 0) bytes
   counters_page relations o bytes is idle = (
@@ -122,37 +128,31 @@ module _ {D : Type 0} (g : Ghosts D) where
 
 -- ---- pages of records
 
--- a page of records, of a schema
-pub records_page : (relations counters total : ℕ) (pages : PageBytes) (p : ℕ) → IsGood relations counters total pages → kind pages p ≡ 3 → IsPage relations MAX_VALUE_BYTES (pages p)
-records_page relations counters total pages p good records = record {
-  shaped = good.rows.file.each p records;
-  within = λ i row there. good.rows.within p i row (record_records pages p i records ∙ there);
-}
-
--- and it is one, whoever is under way
-pub records_page_of : {D : Type 0} (g : Ghosts D) (relations : ℕ) (o : Operations D) (p : ℕ) (bytes : List ℕ) → ((opening : PageBytes) (counters : ℕ) → IsRight g opening relations counters o → bytes ≡ held_in (world g opening o) p)
-    → get_or o.map.kinds.value p 0 ≡ 3 → IsIdle g relations o → IsPage relations MAX_VALUE_BYTES bytes
-records_page_of g relations o p bytes is records idle = record {
-  shaped = shaped_of bytes (∥∥₁_map idle (λ (opening, counters, right, free). (page_of opening counters right).shaped));
-  within = λ i row there. ∥∥₁_elim idle (hlevel props) (λ (opening, counters, right, free). (page_of opening counters right).within i row there);
-}
-  where
-    page_of : (opening : PageBytes) (counters : ℕ) → IsRight g opening relations counters o → IsPage relations MAX_VALUE_BYTES bytes
-    page_of opening counters right = subst (IsPage relations MAX_VALUE_BYTES) (sym (is opening counters right))
-        (records_page relations counters (pages o.store.pool) (held_in (world g opening o)) p right.sound.good (kind_of g opening relations counters o p p right refl ∙ records))
+-- the bytes of a page of records have the shape of one, whoever is under way
+pub shaped_page : {D : Type 0} (g : Ghosts D) (o : Operations D) (p : ℕ) (bytes : List ℕ) → ((opening : PageBytes) (relations counters : ℕ) → IsRight g opening relations counters o → bytes ≡ held_in (world g opening o) p)
+    → get_or o.map.kinds.value p 0 ≡ 3 → AreIdle g o → IsShaped bytes
+shaped_page g o p bytes is records idle = shaped_of bytes (∥∥₁_elim idle (hlevel props) (λ (relations, one). ∥∥₁_map one (λ (opening, counters, right, free).
+    subst IsShaped (sym (is opening relations counters right)) (right.sound.good.rows.file.each p (kind_of g opening relations counters o p p right refl ∙ records)))))
 
 -- ---- what was listed
 
+-- of good pages each record stands in one of them
+pub records_inside : (relations counters total : ℕ) (pages : PageBytes) → IsGood relations counters total pages → AreInside total pages
+records_inside relations counters total pages good q s x there =
+    good.rows.index.within q (λ free. let wrong : 3 ≡ 0 = sym (record_kind pages q s _ there) ∙ free in cc)
+
+-- no key stands twice in what was listed, whoever is under way
+pub keys_listed : {D : Type 0} (g : Ghosts D) (o : Operations D) (p : ℕ) (rows : List Row) → ((opening : PageBytes) (relations counters : ℕ) → IsRight g opening relations counters o → HasListed (held_in (world g opening o)) p rows)
+    → AreIdle g o → AreKeysOnce rows
+keys_listed g o p rows listed idle = ∥∥₁_elim idle (hlevel props) (λ (relations, one). ∥∥₁_elim one (hlevel props) (λ (opening, counters, right, free). (listed opening relations counters right).once))
+
 -- the base that was listed from good pages, all of them, has the rows and counters of the one that they hold
 pub same_base : (relations counters total : ℕ) (pages : PageBytes) (held b none : Base) (bytes : List ℕ) → IsGood relations counters total pages → Holds pages held → bytes ≡ pages 2
-    → ((c : ℕ) → c < get_or bytes 1 0 → none.counts c ≡ count_in bytes c) → b.counts ≡ none.counts → HasListed pages total b → IsSame counters b held
-same_base relations counters total pages held b none bytes good holds same counted kept listed = record {
-  rows = all_listed pages total b held inside holds.rows listed;
+    → ((c : ℕ) → c < get_or bytes 1 0 → none.counts c ≡ count_in bytes c) → b.counts ≡ none.counts → ((r : ℕ) (k : List ℕ) → b.rows r k ≡ held.rows r k) → IsSame counters b held
+same_base relations counters total pages held b none bytes good holds same counted kept rows = record {
+  rows = rows;
   counts = λ c lt.
       let outcome : get_or (pages 2) 1 0 ≡ counters = good.counts.counters_reported in
       let here : c < get_or bytes 1 0 = subst (λ (xs : List ℕ). c < get_or xs 1 0) (sym same) (omega (arith, outcome)) in
       ap (λ f. f c) kept ∙ counted c here ∙ ap (λ (xs : List ℕ). count_in xs c) same ∙ sym (holds.counts c (omega (arith, outcome)));
 }
-  where
-    inside : (q s : ℕ) (row : Row) → record_in pages q s ≡ Some row → q < total
-    inside q s row there = good.rows.index.within q (λ free. let wrong : 3 ≡ 0 = sym (record_kind pages q s row there) ∙ free in cc)

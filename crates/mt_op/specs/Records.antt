@@ -48,8 +48,8 @@ dropped_with txn number zero = []
 dropped_with txn number (suc standing) = OpDropped txn number ∷ []
 
 -- Nothing is appended but that record, with the last page.
-abbrev pub TellsDropped : OpScope → List Record → List Record → Result TakenBack Refusal → Type 0
-TellsDropped s old new (Ok taken.Clear) = new ≡ old ++ dropped_with s.txn s.number s.standing
-TellsDropped s old new (Ok taken.More) = new ≡ old
-TellsDropped s old new (Ok taken.Flush) = new ≡ old
-TellsDropped s old new (Err why) = new ≡ old
+abbrev pub ReportsDropped : OpScope → List Record → List Record → Result TakenBack Refusal → Type 0
+ReportsDropped s old new (Ok taken.Clear) = new ≡ old ++ dropped_with s.txn s.number s.standing
+ReportsDropped s old new (Ok taken.More) = new ≡ old
+ReportsDropped s old new (Ok taken.Flush) = new ≡ old
+ReportsDropped s old new (Err why) = new ≡ old

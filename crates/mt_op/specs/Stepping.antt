@@ -26,9 +26,9 @@ use Rattle.mt_op.specs.Operations.{world, IsRight, Goes, GoesOn, Steps, GivesBac
 use Rattle.mt_op.specs.Holds.{IsAnew, IsNext, AsksNothing, KeepsLocks, KeepsLocksOn, KeepsScope, KeepsScopeOn, IsHeld}
 use Rattle.mt_op.specs.Moves.{Leaves, Notes, PutsBack, Rests}
 use Rattle.mt_op.specs.Room.{HasFollowed, HasRooms}
-use Rattle.mt_op.specs.Records.{KeepsRecords, TellsDropped}
+use Rattle.mt_op.specs.Records.{KeepsRecords, ReportsDropped}
 use Rattle.mt_op.specs.Work.{Works, WorksOn, ComesTo}
-use Rattle.mt_op.specs.Faults.{TellsFaults}
+use Rattle.mt_op.specs.Faults.{ReportsFaults}
 use Rattle.mt_op.specs.declared.answers.Stepped.{Stepped}
 use Rattle.mt_op.specs.declared.answers.Stepped.TheVariants as stepped
 use Rattle.mt_op.specs.declared.answers.TakenBack.{TakenBack}
@@ -62,7 +62,7 @@ pub record MakesStep {D : Type 0} (g : Ghosts D) (o n : Operations D) (s t : OpS
   -- if the plan is made, a page more is written then
   pub went : s.stage ≡ Writing → r ≡ Ok stepped.Went → t.written ≡ s.written + 1
   pub why : IfErr r IsCause
-  pub faults : TellsFaults (g.faults o.store.device) (g.faults n.store.device) r
+  pub faults : ReportsFaults (g.faults o.store.device) (g.faults n.store.device) r
 
 -- A step by which an operation is taken back: a page is put back; or none is left to be put back; or nothing has
 -- changed.
@@ -82,14 +82,14 @@ pub record TakesStepBack {D : Type 0} (g : Ghosts D) (o n : Operations D) (s t :
   pub area : area_size n.store.log ≡ area_size o.store.log
   pub durable : durable n.store.log ≡ durable o.store.log
   pub claimed : claimed n ≡ claimed o
-  pub records : TellsDropped s (appended o.store.log) (appended n.store.log) r
+  pub records : ReportsDropped s (appended o.store.log) (appended n.store.log) r
   pub locks : n.locks ≡ o.locks
   pub budget : HasBudget t
   pub err : OnErr r (t ≡ s)
   pub flush : r ≡ Ok taken.Flush → t ≡ s
   pub full : r ≡ Ok taken.Flush → IsFull o.store.pool × (n ≡ o)
   pub why : IfErr r IsCause
-  pub faults : TellsFaults (g.faults o.store.device) (g.faults n.store.device) r
+  pub faults : ReportsFaults (g.faults o.store.device) (g.faults n.store.device) r
 
 -- a step of an operation that writes, or ends
 pub record GoesAhead {D : Type 0} (g : Ghosts D) (o n : Operations D) (s t : OpScope)
@@ -117,7 +117,7 @@ pub record GoesAhead {D : Type 0} (g : Ghosts D) (o n : Operations D) (s t : OpS
   pub err : OnErr r (t ≡ s)
   pub flush : r ≡ Ok stepped.Flush → t ≡ s
   pub why : IfErr r IsCause
-  pub faults : TellsFaults (g.faults o.store.device) (g.faults n.store.device) r
+  pub faults : ReportsFaults (g.faults o.store.device) (g.faults n.store.device) r
 
 -- a page is put back that is in a frame
 pub record PutsOneBack {D : Type 0} (g : Ghosts D) (o n : Operations D)
@@ -134,7 +134,7 @@ pub record PutsOneBack {D : Type 0} (g : Ghosts D) (o n : Operations D)
   pub area : area_size n.store.log ≡ area_size o.store.log
   pub durable : durable n.store.log ≡ durable o.store.log
   pub map : n.map ≡ o.map
-  pub records : TellsDropped s (appended o.store.log) (appended n.store.log) r
+  pub records : ReportsDropped s (appended o.store.log) (appended n.store.log) r
   pub locks : n.locks ≡ o.locks
   pub budget : HasBudget t
   pub err : OnErr r (t ≡ s)
@@ -158,7 +158,7 @@ pub record LocksPage {D : Type 0} (g : Ghosts D) (o n : Operations D) (s t : OpS
   pub locks : KeepsLocks s.number (IsNext o.rooms o.locks s) o.locks n.locks r
   pub scope : KeepsScope s t r
   pub why : IfErr r IsCause
-  pub faults : TellsFaults (g.faults o.store.device) (g.faults n.store.device) r
+  pub faults : ReportsFaults (g.faults o.store.device) (g.faults n.store.device) r
 
 -- a page that is in a frame is locked, and looked at if it is new; or it is not to be had
 pub record TakesLock {D : Type 0} (g : Ghosts D) (o n : Operations D)
@@ -216,7 +216,7 @@ pub record PlansOn {D : Type 0} (g : Ghosts D) (o n : Operations D) (s t : OpSco
   pub locks : KeepsLocksOn s.number (IsNext o.rooms o.locks s) o.locks n.locks r
   pub scope : KeepsScopeOn s t r
   pub why : IfErr r IsCause
-  pub faults : TellsFaults (g.faults o.store.device) (g.faults n.store.device) r
+  pub faults : ReportsFaults (g.faults o.store.device) (g.faults n.store.device) r
 
 -- a page comes into a frame, or every frame holds a page that is yet to be flushed
 pub record BringsPage {D : Type 0} (g : Ghosts D) (o n : Operations D) (page : ℕ)

@@ -4,7 +4,6 @@ ghost use Rattle.std.specs.Prelude.{◌≡◌, ◌⊎◌, ◌<◌, ◌≤◌, �
 ghost use Rattle.mt_base.specs.declared.limits.TheConstants.{MAX_RELATIONS, PAGE_BYTES};
 ghost use Rattle.mt_disk.specs.Disk.{LeavesTheSame};
 ghost use Rattle.mt_model.specs.Model.{Base as ModelBase};
-ghost use Rattle.mt_model.specs.Views.{base_of, counters_of, relations_of};
 ghost use Rattle.mt_pool.specs.Views.{pages};
 ghost use Rattle.mt_space.specs.Changes.{PageBytes};
 ghost use Rattle.mt_steps.specs.Held.{Holds};
@@ -18,9 +17,10 @@ use mt_base::{PageNo, Refusal};
 use mt_disk::Device;
 use mt_index::depth;
 use mt_model::Base;
+use mt_rows::Row;
 use mt_space::Pages;
 use mt_space::pages::{COUNTERS, DIRECTORY, RECORDS};
-use mt_steps::{base_without_rows, list_rows};
+use mt_steps::{base_of_rows, base_without_rows, list_rows};
 use std::alloc::Global;
 
 /// What the pages held come to.
@@ -58,18 +58,14 @@ impl<D: Device> Operations<D> {
         }
     }
 
-    // Lists the records of a page in a base, if it is a page of records.
-    fn list_page(&mut self, alloc: Global, base: &mut Base, page: PageNo) -> Result<(), Refusal>
-        requires idle { IsIdle D.Device (relations_of base.old) self.old }
+    // Lists the records of a page as rows, if it is a page of records.
+    fn list_page(&mut self, alloc: Global, rows: &mut Vec<Row>, page: PageNo) -> Result<(), Refusal>
+        requires idle { ∥ ((relations : ℕ) × IsIdle D.Device relations self.old) ∥₁ }
         requires inside { page < pages self.old.store.pool }
-        ensures listed { (opening : PageBytes) (relations counters : ℕ) (held : ModelBase)
+        ensures listed { (opening : PageBytes) (relations counters : ℕ)
             → IsRight D.Device opening relations counters self.old
-            → Holds (held_in (world D.Device opening self.old)) held
-            → HasListed (held_in (world D.Device opening self.old)) page (base_of base.old)
-            → OnOk result (HasListed (held_in (world D.Device opening self.old)) (page + 1) (base_of base.new)) }
-        ensures counts { OnOk result ((base_of base.new).counts ≡ (base_of base.old).counts) }
-        ensures relations { relations_of base.new ≡ relations_of base.old }
-        ensures counters { length (counters_of base.new) ≡ length (counters_of base.old) }
+            → HasListed (held_in (world D.Device opening self.old)) page rows.old.items
+            → OnOk result (HasListed (held_in (world D.Device opening self.old)) (page + 1) rows.new.items) }
         ensures read { OnlyReads D.Device self.old self.new }
         ensures crash { LeavesTheSame (D.may_leave self.old.store.device) (D.may_leave self.new.store.device) }
         ensures once { D.moment self.new.store.device ≤ D.moment self.old.store.device + 1 }
@@ -82,21 +78,17 @@ impl<D: Device> Operations<D> {
             return Ok(());
         }
         let bytes = self.held_page(page)?;
-        list_rows(alloc, base, &bytes)
+        list_rows(alloc, rows, &bytes)?;
+        Ok(())
     }
 
-    // Lists the records of all pages.
-    fn list_pages(&mut self, alloc: Global, base: &mut Base) -> Result<(), Refusal>
-        requires idle { IsIdle D.Device (relations_of base.old) self.old }
-        ensures listed { (opening : PageBytes) (relations counters : ℕ) (held : ModelBase)
+    // The records of all pages as rows, page by page.
+    fn list_pages(&mut self, alloc: Global) -> Result<Vec<Row>, Refusal>
+        requires idle { ∥ ((relations : ℕ) × IsIdle D.Device relations self.old) ∥₁ }
+        ensures listed { (opening : PageBytes) (relations counters : ℕ)
             → IsRight D.Device opening relations counters self.old
-            → Holds (held_in (world D.Device opening self.old)) held
-            → HasListed (held_in (world D.Device opening self.old)) 0 (base_of base.old)
-            → OnOk result (HasListed (held_in (world D.Device opening self.old)) (pages self.old.store.pool)
-            (base_of base.new)) }
-        ensures counts { OnOk result ((base_of base.new).counts ≡ (base_of base.old).counts) }
-        ensures relations { relations_of base.new ≡ relations_of base.old }
-        ensures counters { length (counters_of base.new) ≡ length (counters_of base.old) }
+            → IfOk result (λ rows. HasListed (held_in (world D.Device opening self.old))
+            (pages self.old.store.pool) rows.items) }
         ensures read { OnlyReads D.Device self.old self.new }
         ensures crash { LeavesTheSame (D.may_leave self.old.store.device) (D.may_leave self.new.store.device) }
         ensures calls { D.moment self.new.store.device
@@ -106,10 +98,11 @@ impl<D: Device> Operations<D> {
         ensures cause { IfErr result (λ why. (why ≡ Refusal.NoMemory) ⊎ (why ≡ Refusal.DeviceFailed)
             × (D.faults self.old.store.device < D.faults self.new.store.device)) }
     {
+        let mut rows = Vec::new(alloc);
         for number in 0..self.store.pool.count() {
-            self.list_page(alloc, base, PageNo::new(number))?;
+            self.list_page(alloc, &mut rows, PageNo::new(number))?;
         }
-        Ok(())
+        Ok(rows)
     }
 
     /// Answers what the pages held come to, by their bytes, if no operation is under way. Each page of records is
@@ -137,12 +130,12 @@ impl<D: Device> Operations<D> {
             × (D.faults self.old.store.device < D.faults self.new.store.device)) }
     {
         let depth = depth(&self.held_page(PageNo::new(DIRECTORY))?);
-        let mut base = base_without_rows(alloc, &self.held_page(PageNo::new(COUNTERS))?)?;
-        self.list_pages(alloc, &mut base)?;
+        let base = base_without_rows(alloc, &self.held_page(PageNo::new(COUNTERS))?)?;
+        let rows = self.list_pages(alloc)?;
         Ok(Survey {
             depth,
             free: self.map.space.free(),
-            base,
+            base: base_of_rows(base, rows),
         })
     }
 }

@@ -19,6 +19,6 @@ pub data IsAtFault (format : Format) (items : List (List ℕ)) (relations p : �
 -- page by the schema of page 2.
 pub data IsFaulty (format : Format) (items : List (List ℕ)) (p : ℕ) : Type 0 where
   map_broken : p ≡ 0 → (IsMap (length items) (bytes_of items) → ⊥) → IsFaulty format items p
-  tells_none : p ≡ 2 → ((relations counters : ℕ) → HasSchema items relations counters → ⊥) → IsFaulty format items p
+  has_no_schema : p ≡ 2 → ((relations counters : ℕ) → HasSchema items relations counters → ⊥) → IsFaulty format items p
   breaks : (relations counters : ℕ) → HasSchema items relations counters → IsAtFault format items relations p
       → IsFaulty format items p

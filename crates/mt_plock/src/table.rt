@@ -1,6 +1,6 @@
 // Which operation has which page locked.
 ghost use Rattle.std.specs.Prelude.{◌≡◌, ◌≢◌, ◌↔◌, [], ℕ, IsTrue, false, Some, MatchOption, IfOk, IfErr, OnErr, All, Contains};
-ghost use Rattle.mt_plock.specs.Holding.{lock_of, is_in_way, lesser_of, IsLeastHolder, IsAnswered, AreTogether};
+ghost use Rattle.mt_plock.specs.Holding.{lock_of, is_in_way, lesser_of, IsLeastHolder, IsAnswered};
 ghost use Rattle.mt_plock.specs.Releasing.{IsLastAt, GivesBack, GivesBackEach, locks_of, locks_without};
 
 use crate::{Asked, PageGuard, PageLock};
@@ -65,15 +65,6 @@ impl PageLocks {
         PageLocks {
             locks: Vec::new(alloc),
         }
-    }
-
-    /// The locks that are held, in order of grant, lent. Those of different operations on one page
-    /// agree.
-    pub fn locks(&self) -> &[PageLock]
-        ensures locks { result.now ≡ self.now }
-        ensures together { AreTogether result.now }
-    {
-        self.locks.as_slice()
     }
 
     // The smallest operation that holds a lock in the way.

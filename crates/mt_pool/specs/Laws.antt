@@ -99,7 +99,7 @@ abbrev pub AppendKeepsTied : Type 0
 AppendKeepsTied = (pool : Pool) (seen : List ℕ) (opening : ℕ → List ℕ) (appended : List Carried)
     → IsTied pool seen opening appended → IsTied pool seen opening (appended ++ None ∷ [])
 
--- a fetch, a flush, an eviction: the views stay, and so does what is waited for
+-- a fetch, a flush: the views stay, and so does what is waited for
 abbrev pub SameViewsKeepTied : Type 0
 SameViewsKeepTied =
     (pool new : Pool) (seen seen2 : List ℕ) (opening : ℕ → List ℕ) (appended : List Carried)

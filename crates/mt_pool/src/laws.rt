@@ -36,7 +36,7 @@ pub fn a_flush_says_all_of_the_pool()
 
 /// Laws: what the pool knows of the log is right when an area without records begins. It stays right with a change
 /// and its record, and with a record without an image. It stays right with whatever leaves the views and what is
-/// waited for. That is a fetch, a flush step, an eviction or a write outside of the slots.
+/// waited for. That is a fetch, a flush step or a write outside of the slots.
 pub fn the_pool_knows_the_log()
     ensures begin { BeginsTied }
     ensures change { ChangeKeepsTied }

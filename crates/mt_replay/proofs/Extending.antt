@@ -19,7 +19,7 @@ use Rattle.mt_steps.specs.Plans.{IsGood}
 use Rattle.mt_steps.proofs.Extending.{good_grows, holds_more}
 use Rattle.mt_replay.specs.Extension.{CanExtend, ExtendsSchema}
 use Rattle.mt_pool.specs.Images.{slot}
-use Rattle.mt_replay.specs.Marking.{MarksLost, TellsLost}
+use Rattle.mt_replay.specs.Marking.{MarksLost, FindsLost}
 use Rattle.mt_replay.specs.Memory.{AreFirst, AreGood}
 use Rattle.mt_replay.specs.Stands.{ShowsBase}
 
@@ -83,7 +83,7 @@ module _ (n : ℕ) (starts : List (ℤ × ℤ × ℤ)) (old new : List (List ℕ
   }
 
   -- the marks of the pages, of which one is looked at again
-  pub marks_more : (imaged lost : List Bool) (c : List ℕ) (found : Bool) → 3 ≤ length old → MarksLost old imaged c lost → TellsLost (get_or new 2 []) (get_or imaged 2 false) (slot 8192 c 2) found → MarksLost new imaged c (set lost 2 found)
+  pub marks_more : (imaged lost : List Bool) (c : List ℕ) (found : Bool) → 3 ≤ length old → MarksLost old imaged c lost → FindsLost (get_or new 2 []) (get_or imaged 2 false) (slot 8192 c 2) found → MarksLost new imaged c (set lost 2 found)
   marks_more imaged lost c found some marks here = record {
     size = length-set lost 2 found ∙ marks.size ∙ sym many;
     other = λ p lt is. elim (cases_eq p 2) [

@@ -51,7 +51,7 @@ three_pages items good = ∥∥₁_elim good (hlevel props) (λ (f, relations, c
 pub all_there : (items : List (List ℕ)) (p : ℕ) → (slice_get items p ≡ None) × (p < length items) → ⊥
 all_there items p e = let there = slice_get-get_or items p [] e.1 in let none = e.0 in cc
 
--- the relations are as many as page 2 tells
+-- the relations are as many as page 2 says
 reported_is : (items : List (List ℕ)) (relations counters : ℕ) (f : PageBytes) → AreFirst items f → IsGood relations counters (length items) f → get_or (get_or items 2 []) 0 0 ≡ relations
 reported_is items relations counters f first good = ap (λ (page : List ℕ). get_or page 0 0) (first 2 (two_inside relations counters (length items) f good)) ∙ good.counts.relations_reported
 
@@ -181,7 +181,7 @@ module _ (items : List (List ℕ)) (d : LoggedOp) (good : AreGood items) (fine :
       (λ (tight : IsTight room f (record_bytes (undo_of d))). room_takes (length items) (record_bytes (undo_of d)) f room (roomy f first) tight)
       (in_memory (λ r c pages o. (free_pages (length items) pages < own_needs o false) ⊎ IsTight room pages (record_bytes o)) of op is full relations counters f first g)
 
--- what page 2 tells is the schema
+-- what page 2 says is the schema
 module _ (items : List (List ℕ)) (page : List ℕ) (outcome : SchemaSizes) (is_page : page ≡ get_or items 2 page)
     (schema : (relations counters : ℕ) → AreCounters relations counters page → (outcome.relations ≡ relations) × (outcome.counters ≡ counters)) where
   reported_schema : (relations counters : ℕ) (f : PageBytes) → AreFirst items f → IsGood relations counters (length items) f → (outcome.relations ≡ relations) × (outcome.counters ≡ counters)

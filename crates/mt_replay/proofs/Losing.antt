@@ -14,10 +14,10 @@ use Rattle.mt_frame.specs.declared.records.LoggedOp.{LoggedOp}
 use Rattle.mt_frame.specs.declared.records.Record.{Record}
 use Rattle.mt_frame.specs.declared.records.Record.TheVariants.{Page, OpEnd, OpDropped, Commit, AbortEnd}
 use Rattle.mt_log.specs.declared.batch.Batch.{Batch}
-use Rattle.mt_replay.specs.Recorded.{Recorded, Finished, nothing, plus_record, tell, losers, others, is_but, without}
-use Rattle.mt_replay.specs.Losers.{finished_of, all_finished, HasEnded, HasRecorded, Tells}
+use Rattle.mt_replay.specs.Recorded.{Recorded, Finished, nothing, plus_record, plus_records, losers, others, is_but, without}
+use Rattle.mt_replay.specs.Losers.{finished_of, all_finished, HasEnded, HasRecorded, PassesRecords}
 use Rattle.mt_replay.specs.declared.losers.Loser.{Loser}
-use Rattle.mt_replay.specs.declared.losers.Telling.{Telling}
+use Rattle.mt_replay.specs.declared.losers.LoserPass.{LoserPass}
 use Rattle.mt_replay.proofs.Imaged.{record_at}
 use Rattle.mt_replay.proofs.Walking.{filter_all, filter_alike, filter_both, same_sides}
 
@@ -102,16 +102,16 @@ step s (Commit txn) rs = step_left s txn rs
 step s (AbortEnd txn) rs = step_left s txn rs
 
 -- what was live before the records and survives them, and their own losers
-tell_live : (s : Recorded) (rs : List Record) → (tell s rs).live ≡ filter (survives rs) s.live ++ losers rs
-tell_live s [] = sym (append-nil (filter (survives []) s.live) ∙ filter_all s.live)
-tell_live s (r ∷ rs) =
-    tell_live (plus_record s r) rs
+records_live : (s : Recorded) (rs : List Record) → (plus_records s rs).live ≡ filter (survives rs) s.live ++ losers rs
+records_live s [] = sym (append-nil (filter (survives []) s.live) ∙ filter_all s.live)
+records_live s (r ∷ rs) =
+    records_live (plus_record s r) rs
     ∙ ap (λ (fs : List Finished). fs ++ losers rs) (step s r rs)
     ∙ append_assoc (filter (survives (r ∷ rs)) s.live) (own r rs) (losers rs)
-    ∙ ap (λ (fs : List Finished). filter (survives (r ∷ rs)) s.live ++ fs) (sym (tell_live (plus_record nothing r) rs))
+    ∙ ap (λ (fs : List Finished). filter (survives (r ∷ rs)) s.live ++ fs) (sym (records_live (plus_record nothing r) rs))
 
 pub losers_next : (r : Record) (rs : List Record) → losers (r ∷ rs) ≡ own r rs ++ losers rs
-losers_next r rs = tell_live (plus_record nothing r) rs
+losers_next r rs = records_live (plus_record nothing r) rs
 
 -- ---- lists of losers
 
@@ -126,8 +126,8 @@ all_reverse P (l ∷ list) all = subst (AllByRecursion P) (sym (reverse-append (
 -- ---- one record before those that were read
 
 -- an end of its own, whose transaction has ended behind it, or which is undone there
-pub tells_over : (batch : Batch) (txn op : ℕ) (done : LoggedOp) (x : Telling) → (contains nat_cmp x.ended txn || contains pair_cmp x.undone (txn, op)) ≡ true → Tells batch (OpEnd txn op 0 done ∷ []) x x
-tells_over batch txn op done x over = record {
+pub passes_over : (batch : Batch) (txn op : ℕ) (done : LoggedOp) (x : LoserPass) → (contains nat_cmp x.ended txn || contains pair_cmp x.undone (txn, op)) ≡ true → PassesRecords batch (OpEnd txn op 0 done ∷ []) x x
+passes_over batch txn op done x over = record {
   outcome = λ behind h. record {
     losers = h.losers ∙ sym (losers_next (OpEnd txn op 0 done) behind
         ∙ ap (λ (b : Bool). cond (not b) (record { txn = txn; op = op; done = done } ∷ []) [] ++ losers behind) ((λ i. sym (h.ended txn) i || sym (h.undone txn op) i) ∙ over));
@@ -138,11 +138,11 @@ tells_over batch txn op done x over = record {
 }
 
 -- another: a loser
-pub tells_loser : (batch : Batch) (l : Loser) (old new : Telling) → batch.place ≡ l.place → Contains batch.records.items (OpEnd l.txn l.op 0 l.done) → IsOperation l.done
+pub passes_loser : (batch : Batch) (l : Loser) (old new : LoserPass) → batch.place ≡ l.place → Contains batch.records.items (OpEnd l.txn l.op 0 l.done) → IsOperation l.done
     → (contains nat_cmp old.ended l.txn || contains pair_cmp old.undone (l.txn, l.op)) ≡ false
     → new.losers.items ≡ old.losers.items ++ l ∷ [] → new.ended ≡ old.ended → new.undone ≡ old.undone
-    → Tells batch (OpEnd l.txn l.op 0 l.done ∷ []) old new
-tells_loser batch l old new place among grammar alone is same_ended same_undone = record {
+    → PassesRecords batch (OpEnd l.txn l.op 0 l.done ∷ []) old new
+passes_loser batch l old new place among grammar alone is same_ended same_undone = record {
   outcome = λ behind h. record {
     losers = ap (λ (ls : List Loser). all_finished (reverse ls)) is ∙ ap all_finished (reverse-append old.losers.items (l ∷ [])) ∙ ap (λ (fs : List Finished). finished_of l ∷ fs) h.losers
         ∙ sym (losers_next (OpEnd l.txn l.op 0 l.done) behind
@@ -154,11 +154,11 @@ tells_loser batch l old new place among grammar alone is same_ended same_undone 
 }
 
 -- the end of an inverse
-pub tells_inverse : (batch : Batch) (txn op undoes : ℕ) (done : LoggedOp) (old new : Telling) → undoes ≢ 0
+pub passes_inverse : (batch : Batch) (txn op undoes : ℕ) (done : LoggedOp) (old new : LoserPass) → undoes ≢ 0
     → new.losers.items ≡ old.losers.items → new.ended ≡ old.ended
     → ((t o : ℕ) → contains pair_cmp new.undone (t, o) ≡ (contains pair_cmp old.undone (t, o) || ((txn == t) && (undoes == o))))
-    → Tells batch (OpEnd txn op undoes done ∷ []) old new
-tells_inverse batch txn op undoes done old new some same same_ended noted = record {
+    → PassesRecords batch (OpEnd txn op undoes done ∷ []) old new
+passes_inverse batch txn op undoes done old new some same same_ended noted = record {
   outcome = λ behind h. record {
     losers = ap (λ (ls : List Loser). all_finished (reverse ls)) same ∙ h.losers
         ∙ sym (losers_next (OpEnd txn op undoes done) behind
@@ -173,12 +173,12 @@ tells_inverse batch txn op undoes done old new some same same_ended noted = reco
 }
 
 -- the end of a transaction
-pub tells_ended : (batch : Batch) (r : Record) (txn : ℕ) (old new : Telling)
+pub passes_ended : (batch : Batch) (r : Record) (txn : ℕ) (old new : LoserPass)
     → ((rs : List Record) → own r rs ≡ []) → ((t : ℕ) → ends_txn t r ≡ (txn == t)) → ((t o : ℕ) → undoes_op t o r ≡ false)
     → new.losers.items ≡ old.losers.items → new.undone ≡ old.undone
     → ((t : ℕ) → contains nat_cmp new.ended t ≡ (contains nat_cmp old.ended t || (txn == t)))
-    → Tells batch (r ∷ []) old new
-tells_ended batch r txn old new gone ends undoes same same_undone noted = record {
+    → PassesRecords batch (r ∷ []) old new
+passes_ended batch r txn old new gone ends undoes same same_undone noted = record {
   outcome = λ behind h. record {
     losers = ap (λ (ls : List Loser). all_finished (reverse ls)) same ∙ h.losers ∙ sym (losers_next r behind ∙ ap (λ (fs : List Finished). fs ++ losers behind) (gone behind));
     ended = λ t.
@@ -190,8 +190,8 @@ tells_ended batch r txn old new gone ends undoes same same_undone noted = record
 }
 
 -- another record, which ends nothing
-pub tells_same : (batch : Batch) (r : Record) (x : Telling) → ((rs : List Record) → own r rs ≡ []) → ((t : ℕ) → ends_txn t r ≡ false) → ((t o : ℕ) → undoes_op t o r ≡ false) → Tells batch (r ∷ []) x x
-tells_same batch r x gone ends undoes = record {
+pub passes_same : (batch : Batch) (r : Record) (x : LoserPass) → ((rs : List Record) → own r rs ≡ []) → ((t : ℕ) → ends_txn t r ≡ false) → ((t o : ℕ) → undoes_op t o r ≡ false) → PassesRecords batch (r ∷ []) x x
+passes_same batch r x gone ends undoes = record {
   outcome = λ behind h. record {
     losers = h.losers ∙ sym (losers_next r behind ∙ ap (λ (fs : List Finished). fs ++ losers behind) (gone behind));
     ended = λ t. h.ended t ∙ sym (ap (λ (a : Bool). a || some_record (ends_txn t) behind) (ends t));
@@ -202,11 +202,11 @@ tells_same batch r x gone ends undoes = record {
 
 -- ---- one before the other
 
-pub tells_none : (batch : Batch) (x : Telling) → Tells batch [] x x
-tells_none batch x = record { outcome = λ behind h. h; ended = λ batches there all. all }
+pub passes_none : (batch : Batch) (x : LoserPass) → PassesRecords batch [] x x
+passes_none batch x = record { outcome = λ behind h. h; ended = λ batches there all. all }
 
-pub tells_then : (batch : Batch) (rs : List Record) (i : ℕ) (r : Record) (old mid new : Telling) → i < length rs → r ≡ get_or rs i r → Tells batch (drop (i + 1) rs) old mid → Tells batch (r ∷ []) mid new → Tells batch (drop i rs) old new
-tells_then batch rs i r old mid new lt is first second = record {
+pub passes_then : (batch : Batch) (rs : List Record) (i : ℕ) (r : Record) (old mid new : LoserPass) → i < length rs → r ≡ get_or rs i r → PassesRecords batch (drop (i + 1) rs) old mid → PassesRecords batch (r ∷ []) mid new → PassesRecords batch (drop i rs) old new
+passes_then batch rs i r old mid new lt is first second = record {
   outcome = λ behind h. subst (λ (qs : List Record). HasRecorded new (qs ++ behind)) (sym (record_at rs i r lt is)) (second.outcome (drop (i + 1) rs ++ behind) (first.outcome behind h));
   ended = λ batches there all. second.ended batches there (first.ended batches there all);
 }

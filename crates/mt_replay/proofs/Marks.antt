@@ -4,7 +4,7 @@ use Rattle.mt_frame.specs.declared.records.Record.{Record}
 use Rattle.mt_pool.specs.Images.{GivesPages, has_image, page_in, slot}
 use Rattle.mt_pool.specs.Kept.{carried}
 use Rattle.mt_space.specs.Changes.{PageBytes}
-use Rattle.mt_replay.specs.Marking.{MarksImaged, MarksLost, TellsLost}
+use Rattle.mt_replay.specs.Marking.{MarksImaged, MarksLost, FindsLost}
 use Rattle.mt_replay.specs.Reads.{AreOfSlots}
 use Rattle.mt_replay.proofs.Imaged.{none_in}
 
@@ -12,7 +12,7 @@ use Rattle.mt_replay.proofs.Imaged.{none_in}
 
 -- what was found of each, by the slots that were read, is so of the slots on the device
 pub lost_of : (pages slots : List (List ℕ)) (imaged lost : List Bool) (c : List ℕ) (n : ℕ) → n ≡ length pages → length lost ≡ n
-    → ((p : ℕ) → p < n → TellsLost (get_or pages p []) (get_or imaged p false) (get_or slots p []) (get_or lost p false))
+    → ((p : ℕ) → p < n → FindsLost (get_or pages p []) (get_or imaged p false) (get_or slots p []) (get_or lost p false))
     → AreOfSlots (length pages) imaged c slots → MarksLost pages imaged c lost
 lost_of pages slots imaged lost c n all size each read = record {
   size = size ∙ all;

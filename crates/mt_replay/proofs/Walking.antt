@@ -9,7 +9,7 @@ use Rattle.mt_log.specs.Holds.{AreRecords, AreBatches}
 use Rattle.mt_log.specs.declared.batch.Batch.{Batch}
 use Rattle.mt_steps.specs.Repeated.{Repeated, repeated, repeat}
 use Rattle.mt_steps.proofs.Repeating.{repeat_more}
-use Rattle.mt_replay.specs.Recorded.{Recorded, plus_record, tell}
+use Rattle.mt_replay.specs.Recorded.{Recorded, plus_record, plus_records}
 
 pub map_filter : {A B : Type 0} (f : A → B) (p : A → Bool) (q : B → Bool) → ((x : A) → p x ≡ q (f x)) → (xs : List A) → map f (filter p xs) ≡ filter q (map f xs)
 map_filter f p q same [] = refl
@@ -48,12 +48,9 @@ same_sides a b = elim (cases_eq a b) [
 pub repeat_at : (x : Repeated) (rs : List Record) (i : ℕ) (r : Record) → i < length rs → r ≡ get_or rs i r → repeat x (take (i + 1) rs) ≡ repeated (repeat x (take i rs)) r
 repeat_at x rs i r lt is = ap (repeat x) (take_more rs i r lt) ∙ repeat_more x (take i rs) (get_or rs i r ∷ []) ∙ ap (repeated (repeat x (take i rs))) (sym is)
 
-pub tell_more : (x : Recorded) (xs ys : List Record) → tell x (xs ++ ys) ≡ tell (tell x xs) ys
-tell_more x [] ys = refl
-tell_more x (r ∷ rs) ys = tell_more (plus_record x r) rs ys
-
-pub tell_at : (x : Recorded) (rs : List Record) (i : ℕ) (r : Record) → i < length rs → r ≡ get_or rs i r → tell x (take (i + 1) rs) ≡ plus_record (tell x (take i rs)) r
-tell_at x rs i r lt is = ap (tell x) (take_more rs i r lt) ∙ tell_more x (take i rs) (get_or rs i r ∷ []) ∙ ap (plus_record (tell x (take i rs))) (sym is)
+pub plus_more : (x : Recorded) (xs ys : List Record) → plus_records x (xs ++ ys) ≡ plus_records (plus_records x xs) ys
+plus_more x [] ys = refl
+plus_more x (r ∷ rs) ys = plus_more (plus_record x r) rs ys
 
 joined_append : (xs ys : List (List Record)) → joined (xs ++ ys) ≡ joined xs ++ joined ys
 joined_append [] ys = refl
@@ -72,9 +69,6 @@ joined_more bs i b lt is =
 
 pub repeat_batch : (x : Repeated) (bs : List Batch) (i : ℕ) (b : Batch) → i < length bs → b ≡ get_or bs i b → repeat x (joined (records_of (take (i + 1) bs))) ≡ repeat (repeat x (joined (records_of (take i bs)))) b.records.items
 repeat_batch x bs i b lt is = ap (repeat x) (joined_more bs i b lt is) ∙ repeat_more x (joined (records_of (take i bs))) b.records.items
-
-pub tell_batch : (x : Recorded) (bs : List Batch) (i : ℕ) (b : Batch) → i < length bs → b ≡ get_or bs i b → tell x (joined (records_of (take (i + 1) bs))) ≡ tell (tell x (joined (records_of (take i bs)))) b.records.items
-tell_batch x bs i b lt is = ap (tell x) (joined_more bs i b lt is) ∙ tell_more x (joined (records_of (take i bs))) b.records.items
 
 pub joined_at : (bs : List Batch) (i : ℕ) (b : Batch) → i < length bs → b ≡ get_or bs i b → joined (records_of (drop i bs)) ≡ b.records.items ++ joined (records_of (drop (i + 1) bs))
 joined_at bs i b lt is = ap (λ (cs : List Batch). joined (records_of cs)) (drop_more bs i b lt ∙ ap (λ (c : Batch). c ∷ drop (i + 1) bs) (sym is))

@@ -17,7 +17,7 @@ use Rattle.mt_replay.specs.Memory.{AreFirst, ChangesFew}
 use Rattle.mt_replay.specs.Undoing.{UndoesAll, Finds}
 use Rattle.mt_replay.specs.Recorded.{Finished, losers}
 use Rattle.mt_replay.specs.declared.losers.Loser.{Loser}
-use Rattle.mt_replay.specs.declared.losers.Telling.{Telling}
+use Rattle.mt_replay.specs.declared.losers.LoserPass.{LoserPass}
 
 abbrev pub finished_of : Loser → Finished
 finished_of l = record { txn = l.txn; op = l.op; done = l.done }
@@ -39,13 +39,13 @@ pub record HasEnded (batches : List Batch) (l : Loser) : Type 0 where
 
 -- what these records say: the losers, the latest end first, the transactions that end, and the operations that
 -- inverses name
-pub record HasRecorded (x : Telling) (records : List Record) : Type 0 where
+pub record HasRecorded (x : LoserPass) (records : List Record) : Type 0 where
   pub losers : all_finished (reverse x.losers.items) ≡ losers records
   pub ended : (t : ℕ) → contains nat_cmp x.ended t ≡ some_record (ends_txn t) records
   pub undone : (t o : ℕ) → contains pair_cmp x.undone (t, o) ≡ some_record (undoes_op t o) records
 
--- these records of a batch are reported too, before those after them
-pub record Tells (batch : Batch) (records : List Record) (old new : Telling) : Type 0 where
+-- these records of a batch are passed too, before those after them
+pub record PassesRecords (batch : Batch) (records : List Record) (old new : LoserPass) : Type 0 where
   pub outcome : (behind : List Record) → HasRecorded old behind → HasRecorded new (records ++ behind)
   pub ended : (batches : List Batch) → Contains batches batch → AllByRecursion (HasEnded batches) old.losers.items
       → AllByRecursion (HasEnded batches) new.losers.items

@@ -9,7 +9,7 @@ use Rattle.mt_pool.specs.Kept.{carried}
 use Rattle.mt_replay.specs.Stands.{HasArea}
 
 -- What is reported of a page is whether it has no image and other bytes than its slot.
-pub record TellsLost (bytes : List ℕ) (imaged : Bool) (in_slot : List ℕ) (outcome : Bool) : Type 0 where
+pub record FindsLost (bytes : List ℕ) (imaged : Bool) (in_slot : List ℕ) (outcome : Bool) : Type 0 where
   pub other : outcome ≡ true → (imaged ≡ false) × (in_slot ≢ bytes)
   pub kept : outcome ≡ false → imaged ≡ false → in_slot ≡ bytes
 

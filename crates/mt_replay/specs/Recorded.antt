@@ -106,16 +106,16 @@ plus_record s (Commit txn) =
     record { live = others txn s.live; ends = others txn s.ends; books = s.books ++ its txn s.ends ∷ [] }
 plus_record s (AbortEnd txn) = record { live = others txn s.live; ends = others txn s.ends; books = s.books }
 
-abbrev pub tell : Recorded → List Record → Recorded
-tell s [] = s
-tell s (r ∷ rs) = tell (plus_record s r) rs
+abbrev pub plus_records : Recorded → List Record → Recorded
+plus_records s [] = s
+plus_records s (r ∷ rs) = plus_records (plus_record s r) rs
 
-abbrev pub tells : List Record → Recorded
-tells rs = tell nothing rs
+abbrev pub recorded_in : List Record → Recorded
+recorded_in rs = plus_records nothing rs
 
 -- the losers: what stands of transactions that have not ended
 abbrev pub losers : List Record → List Finished
-losers rs = (tells rs).live
+losers rs = (recorded_in rs).live
 
 abbrev pub run_all : Base → List (List Finished) → Base
 run_all b [] = b
@@ -123,4 +123,4 @@ run_all b (fs ∷ rest) = run_all (run b (calls_of fs)) rest
 
 -- the base that the records represent: what has committed, one transaction after the other
 abbrev pub stands_for : Base → List Record → Base
-stands_for b rs = run_all b (tells rs).books
+stands_for b rs = run_all b (recorded_in rs).books

@@ -10,7 +10,7 @@ ghost use Rattle.mt_frame.specs.declared.records.Record.TheVariants.{OpEnd};
 ghost use Rattle.mt_log.specs.Batch.{joined};
 ghost use Rattle.mt_log.specs.Found.{records_of};
 ghost use Rattle.mt_replay.specs.Recorded.{losers};
-ghost use Rattle.mt_replay.specs.Losers.{all_finished, AreOfGrammar, HasEnded, HasRecorded, Tells};
+ghost use Rattle.mt_replay.specs.Losers.{all_finished, AreOfGrammar, HasEnded, HasRecorded, PassesRecords};
 
 use mt_area_rules::note_operation;
 use mt_base::{OpNo, Refusal, TxnNo};
@@ -33,11 +33,11 @@ pub struct Loser {
     pub done: LoggedOp,
 }
 
-/// What the records from an index on say: the losers among them, the latest end first, and the transactions that end
-/// there. It has the operations, each after its transaction, that a finished inverse names. Each record costs a
-/// look-up or two in ordered sets.
+/// A pass over the records from the last one on: what those that it has passed say. It has the losers among them, the
+/// latest end first, and the transactions that end there. It has the operations, each after its transaction, that a
+/// finished inverse names. Each record costs a look-up or two in ordered sets.
 #[derive(Drop)]
-pub(crate) struct Telling {
+pub(crate) struct LoserPass {
     pub(crate) losers: Vec<Loser>,
     pub(crate) ended: BTreeSet<u64>,
     pub(crate) undone: BTreeSet<(u64, u64)>,
@@ -53,13 +53,13 @@ fn note_end(set: &mut BTreeSet<u64>, txn: TxnNo) -> Result<(), AllocError>
     }
 }
 
-impl Telling {
+impl LoserPass {
     // What is known after the last record: nothing.
-    fn new(alloc: Global) -> Telling
+    fn new(alloc: Global) -> LoserPass
         ensures outcome { HasRecorded result [] }
         ensures none { result.losers.items ≡ [] }
     {
-        Telling {
+        LoserPass {
             losers: Vec::new(alloc),
             ended: BTreeSet::new(alloc),
             undone: BTreeSet::new(alloc),
@@ -74,7 +74,7 @@ impl Telling {
     }
 
     // The end of an operation that is no inverse.
-    fn tell_end(
+    fn pass_end(
         &mut self,
         batch: &Batch,
         txn: TxnNo,
@@ -83,7 +83,7 @@ impl Telling {
     ) -> Result<(), Refusal>
         requires among { Contains batch.now.records.items (OpEnd txn op 0 done.now) }
         requires grammar { IsOperation done.now }
-        ensures tells { OnOk result (Tells batch.now (OpEnd txn op 0 done.now ∷ []) self.old self.new) }
+        ensures passes { OnOk result (PassesRecords batch.now (OpEnd txn op 0 done.now ∷ []) self.old self.new) }
         ensures only_memory { IfErr result (λ why. why ≡ Refusal.NoMemory) }
     {
         if self.is_over(txn, op) {
@@ -98,11 +98,11 @@ impl Telling {
         Ok(())
     }
 
-    // The record of a batch before those that are known.
-    fn tell_one(&mut self, batch: &Batch, entry: &Record) -> Result<(), Refusal>
+    // The record of a batch before those that are passed.
+    fn pass_one(&mut self, batch: &Batch, entry: &Record) -> Result<(), Refusal>
         requires among { Contains batch.now.records.items entry.now }
         requires grammar { IsRecord entry.now }
-        ensures tells { OnOk result (Tells batch.now (entry.now ∷ []) self.old self.new) }
+        ensures passes { OnOk result (PassesRecords batch.now (entry.now ∷ []) self.old self.new) }
         ensures only_memory { IfErr result (λ why. why ≡ Refusal.NoMemory) }
     {
         match entry {
@@ -113,7 +113,7 @@ impl Telling {
                 done,
             } => {
                 if *undoes == 0 {
-                    return self.tell_end(batch, *txn, *op, done);
+                    return self.pass_end(batch, *txn, *op, done);
                 }
                 note_operation(&mut self.undone, txn.get(), *undoes)?;
                 Ok(())
@@ -131,15 +131,15 @@ impl Telling {
     }
 
     // The records of a batch, from its last one on.
-    fn tell_batch(&mut self, batch: &Batch) -> Result<(), Refusal>
+    fn pass_batch(&mut self, batch: &Batch) -> Result<(), Refusal>
         requires { AllByRecursion IsRecord batch.now.records.items }
-        ensures tells { OnOk result (Tells batch.now batch.now.records.items self.old self.new) }
+        ensures passes { OnOk result (PassesRecords batch.now batch.now.records.items self.old self.new) }
         ensures only_memory { IfErr result (λ why. why ≡ Refusal.NoMemory) }
     {
         let mut i = batch.records.len();
         while i > 0 {
             i -= 1;
-            self.tell_one(batch, &batch.records[i])?;
+            self.pass_one(batch, &batch.records[i])?;
         }
         Ok(())
     }
@@ -148,7 +148,7 @@ impl Telling {
     fn into_losers(self) -> Vec<Loser>
         ensures { result.items ≡ reverse self.losers.items }
     {
-        let Telling {
+        let LoserPass {
             mut losers,
             ended: _,
             undone: _,
@@ -170,11 +170,11 @@ pub fn losers_of(alloc: Global, batches: &[Batch]) -> Result<Vec<Loser>, Refusal
     ensures ended { IfOk result (λ list. AllByRecursion (HasEnded batches.now) list.items) }
     ensures only_memory { IfErr result (λ why. why ≡ Refusal.NoMemory) }
 {
-    let mut telling = Telling::new(alloc);
+    let mut pass = LoserPass::new(alloc);
     let mut i = batches.len();
     while i > 0 {
         i -= 1;
-        telling.tell_batch(&batches[i])?;
+        pass.pass_batch(&batches[i])?;
     }
-    Ok(telling.into_losers())
+    Ok(pass.into_losers())
 }

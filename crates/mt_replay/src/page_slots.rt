@@ -2,7 +2,7 @@
 // afterwards. `pages_held` reads them. The device is only read.
 ghost use Rattle.std.specs.Prelude.{◌≡◌, ◌+◌, ◌*◌, ◌^◌, ◌<◌, ◌≤◌, ℕ, List, length, IfOk};
 ghost use Rattle.mt_base.specs.declared.limits.TheConstants.{MASTER_BYTES, PAGE_BYTES};
-ghost use Rattle.mt_replay.specs.Marking.{MarksLost, TellsLost};
+ghost use Rattle.mt_replay.specs.Marking.{MarksLost, FindsLost};
 ghost use Rattle.mt_space.specs.PageLists.{AreWhole};
 ghost use Rattle.mt_replay.specs.Reads.{AreOfSlots, FillsPages};
 
@@ -37,7 +37,7 @@ pub(crate) fn read_slots<D: Device>(
 
 // Whether a page without an image has other bytes than its slot.
 pub(crate) fn is_lost(found: &[u8; 4096], page: &[u8; 4096], imaged: bool) -> bool
-    ensures { TellsLost page.now imaged found.now result }
+    ensures { FindsLost page.now imaged found.now result }
 {
     !imaged && found.as_slice() != page.as_slice()
 }

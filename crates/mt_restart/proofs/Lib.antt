@@ -11,7 +11,6 @@ mod Renewed
 mod Restarting
 mod Again
 mod Based
-mod Listing
 mod Surveying
 mod Opened
 pub mod EarlyCauses

@@ -22,7 +22,7 @@ use Rattle.mt_replay.specs.Recoverable.{IsOf, IsRecoverable, all_pages, inverse_
 use Rattle.mt_replay.specs.Stands.{CanReplay, CanRestart, HaveFirstValues, IsReadAs, ShowsBase}
 use Rattle.mt_base.specs.declared.format.Format.{Format}
 use Rattle.mt_base.specs.declared.format.Format.TheVariants.{One, Two}
-use Rattle.mt_replay.specs.Recorded.{Finished, Recorded, nothing, calls_in, calls_of, run_all, stands_for, tells}
+use Rattle.mt_replay.specs.Recorded.{Finished, Recorded, nothing, calls_in, calls_of, run_all, stands_for, recorded_in}
 use Rattle.mt_space.specs.Changes.{PageBytes}
 use Rattle.mt_steps.specs.Held.{Holds}
 use Rattle.mt_steps.specs.Plans.{IsGood, free_pages}
@@ -51,7 +51,7 @@ are_images n rs only = All-from_recursion (λ (r : Record). txn_of r ≡ 0) rs (
 -- ---- a restart over images
 
 module _ (relations counters total bytes : ℕ) (pages : PageBytes) (b : Base) (images : List Record) (each : AllByRecursion IsRecord images) (alone : AreImages images) where
-  outcome : tells images ≡ nothing
+  outcome : recorded_in images ≡ nothing
   outcome = (images_end_nothing images each alone).outcome nothing
 
   no_calls : calls_in images ≡ []

@@ -1,16 +1,16 @@
 -- What an inspection reports of the bytes of a device.
-use Rattle.std.specs.Prelude.{◌≡◌, ℕ, List, length}
+use Rattle.std.specs.Prelude.{ℕ, List, length}
 use Rattle.mt_base.specs.Limits.{IsRelationCount}
 use Rattle.mt_frame.specs.declared.slots.MasterSlot.{MasterSlot}
 use Rattle.mt_space.specs.PageLists.{bytes_of}
 use Rattle.mt_model.specs.Model.{Base, IsBase}
-use Rattle.mt_model.specs.Views.{base_of, counters_of, relations_of}
-use Rattle.mt_model.specs.declared.tables.Base as code
+use Rattle.mt_model.specs.Views.{base_of}
 use Rattle.mt_op.specs.Surveyed.{IsSurvey}
 use Rattle.mt_op.specs.declared.survey.Survey.{Survey}
 use Rattle.mt_replay.specs.Refused.{IsReplayed}
+use Rattle.mt_replay.specs.Stands.{CanRestart}
 use Rattle.mt_steps.specs.Held.{Holds}
-use Rattle.mt_steps.specs.Listed.{HasListed, IsSame}
+use Rattle.mt_steps.specs.Listed.{IsSame}
 use Rattle.mt_steps.specs.Plans.{IsGood}
 
 -- The pages that a restart in memory makes of the bytes are good and hold the base, and the survey is of them.
@@ -46,6 +46,12 @@ pub record IsSound (c : List ℕ) : Type 0 where
   pub bounds : IsBase held
   pub holds : Holds (bytes_of items) held
 
+-- Of any bytes that are opened. If they represent a base, it is of that one.
+pub record ReportsRestored (c : List ℕ) (survey : Survey) : Type 0 where
+  pub inspected : IsInspected c survey
+  pub stood_for : (relations counters : ℕ) (b : Base) → CanRestart relations counters c b
+      → Surveys relations counters b c survey
+
 -- ---- the pages in memory
 
 -- it is the survey of these pages, of whatever schema they are good and whatever base they hold
@@ -53,11 +59,3 @@ abbrev pub IsOfPages : List (List ℕ) → Survey → Type 0
 IsOfPages items survey = (relations counters : ℕ) (held : Base)
     → IsGood relations counters (length items) (bytes_of items) → Holds (bytes_of items) held
     → IsSurvey relations counters (length items) (bytes_of items) held survey
-
--- the records of the pages from p on, up to q, are listed as rows; the counters and the number of relations stay
-pub record Lists (items : List (List ℕ)) (p q : ℕ) (old new : code.Base) : Type 0 where
-  pub listed : (held : Base) → Holds (bytes_of items) held → HasListed (bytes_of items) p (base_of old)
-      → HasListed (bytes_of items) q (base_of new)
-  pub counts : (base_of new).counts ≡ (base_of old).counts
-  pub relations : relations_of new ≡ relations_of old
-  pub counters : length (counters_of new) ≡ length (counters_of old)

@@ -9,22 +9,22 @@ ghost use Rattle.mt_disk.specs.Disk.{LeavesOnly, LeavesTheSame};
 ghost use Rattle.mt_space.specs.PageLists.{bytes_of};
 ghost use Rattle.mt_log.specs.Masters.{IsUnformatted};
 ghost use Rattle.mt_model.specs.Model.{Base as ModelBase};
-ghost use Rattle.mt_model.specs.Views.{relations_of};
 ghost use Rattle.mt_page_rules.specs.Checks.{AreChecked};
 ghost use Rattle.mt_replay.specs.Refused.{BreaksFormat, IsCause};
 ghost use Rattle.mt_replay.specs.Stands.{CanReplay};
-ghost use Rattle.mt_steps.specs.Plans.{IsGood, free_pages};
-ghost use Rattle.mt_restart.specs.Inspected.{IsInspected, IsOfPages, Lists, Surveys};
+ghost use Rattle.mt_steps.specs.Listed.{HasListed};
+ghost use Rattle.mt_steps.specs.Plans.{free_pages};
+ghost use Rattle.mt_restart.specs.Inspected.{IsInspected, IsOfPages, Surveys};
 
 use mt_base::Refusal;
 use mt_disk::Device;
 use mt_index::depth;
-use mt_model::Base;
 use mt_replay::{Restored, only_own_pages_matter, replay};
+use mt_rows::Row;
 use mt_space::pages::{COUNTERS, DIRECTORY, FREE, MAP, RECORDS};
-use mt_steps::{base_without_rows, list_rows};
+use mt_steps::{base_of_rows, base_without_rows, list_rows};
 use mt_txn::Survey;
-use std::alloc::Global;
+use std::alloc::{AllocError, Global};
 
 // How many pages the space map has as free.
 fn free_count(pages: &[[u8; 4096]]) -> u16
@@ -39,53 +39,52 @@ fn free_count(pages: &[[u8; 4096]]) -> u16
         .count() as u16
 }
 
-// Lists the records of a page in a base, if it is a page of records.
+// Lists the records of a page as rows, if it is a page of records.
 fn list_page(
     alloc: Global,
-    base: &mut Base,
+    rows: &mut Vec<Row>,
     pages: &[[u8; 4096]],
     page: usize,
-) -> Result<(), Refusal>
-    requires good { (counters : ℕ) × IsGood (relations_of base.old) counters (length pages.now) (bytes_of pages.now) }
+) -> Result<(), AllocError>
+    requires checked { AreChecked pages.now }
     requires few { length pages.now ≤ MAX_PAGES }
     requires inside { page < length pages.now }
-    ensures listed { OnOk result (Lists pages.now page (page + 1) base.old base.new) }
-    ensures only_memory { IfErr result (λ why. why ≡ Refusal.NoMemory) }
+    ensures listed { HasListed (bytes_of pages.now) page rows.old.items
+        → OnOk result (HasListed (bytes_of pages.now) (page + 1) rows.new.items) }
 {
     if pages[usize::from(MAP)][page] != RECORDS {
         return Ok(());
     }
-    list_rows(alloc, base, &pages[page])
+    list_rows(alloc, rows, &pages[page])
 }
 
-// Lists the records of all pages.
-fn list_pages(alloc: Global, base: &mut Base, pages: &[[u8; 4096]]) -> Result<(), Refusal>
-    requires good { (counters : ℕ) × IsGood (relations_of base.old) counters (length pages.now) (bytes_of pages.now) }
+// The records of all pages as rows, page by page.
+fn list_pages(alloc: Global, pages: &[[u8; 4096]]) -> Result<Vec<Row>, AllocError>
+    requires checked { AreChecked pages.now }
     requires few { length pages.now ≤ MAX_PAGES }
-    ensures listed { OnOk result (Lists pages.now 0 (length pages.now) base.old base.new) }
-    ensures only_memory { IfErr result (λ why. why ≡ Refusal.NoMemory) }
+    ensures listed { IfOk result (λ rows. HasListed (bytes_of pages.now) (length pages.now) rows.items) }
 {
+    let mut rows = Vec::new(alloc);
     for number in 0..pages.len() {
-        list_page(alloc, base, pages, number)?;
+        list_page(alloc, &mut rows, pages, number)?;
     }
-    Ok(())
+    Ok(rows)
 }
 
-// The survey of pages in memory that break no rule. `opened_with_base` asks for one of those of a recovery. mt_op has
+// The survey of pages in memory that break no rule. `open_with_survey` asks for one of those of a recovery. mt_op has
 // a survey of its own. It reads each page from its frame or the device, and so has a fault to report; here all pages
 // are at hand.
-pub(crate) fn survey_of(alloc: Global, restored: &Restored) -> Result<Survey, Refusal>
+pub(crate) fn survey_of(alloc: Global, restored: &Restored) -> Result<Survey, AllocError>
     requires { AreChecked restored.now.pages.items }
     ensures surveyed { IfOk result (IsOfPages restored.now.pages.items) }
-    ensures only_memory { IfErr result (λ why. why ≡ Refusal.NoMemory) }
 {
     let pages = restored.pages.as_slice();
-    let mut base = base_without_rows(alloc, &pages[usize::from(COUNTERS)])?;
-    list_pages(alloc, &mut base, pages)?;
+    let base = base_without_rows(alloc, &pages[usize::from(COUNTERS)])?;
+    let rows = list_pages(alloc, pages)?;
     Ok(Survey {
         depth: depth(&pages[usize::from(DIRECTORY)]),
         free: free_count(pages),
-        base,
+        base: base_of_rows(base, rows),
     })
 }
 
@@ -125,5 +124,5 @@ pub fn inspect<D: Device>(alloc: Global, device: &mut D) -> Result<Survey, Refus
 {
     only_own_pages_matter();
     let replayed = replay(alloc, device)?;
-    survey_of(alloc, &replayed.restored)
+    Ok(survey_of(alloc, &replayed.restored)?)
 }

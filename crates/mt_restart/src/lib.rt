@@ -1,5 +1,5 @@
 //! Kernels over devices that were used before, and what such a device represents. [`open`] recovers a device,
-//! whatever a crash left of it, [`open_with_base`] also lists its base, and [`rotate`] turns the log of a kernel over.
+//! whatever a crash left of it, [`open_with_survey`] also surveys it, and [`rotate`] turns the log of a kernel over.
 //! All make the same recovery.
 //! [`inspect`], [`report`] and [`check`] only read.
 //!
@@ -15,20 +15,20 @@ mod inspection;
 mod log_report;
 mod migration;
 mod opened_kernel;
-mod opened_with_base;
 mod recovery;
 mod report_figures;
 mod restart_writes;
 mod rotation;
 mod slot_writes;
 mod standing;
+mod surveyed_kernel;
 
 pub use inspection::inspect;
 pub use log_report::{check, report};
 pub use migration::migrate;
 pub use mt_format::{Schema, format, fresh};
 pub use opened_kernel::open;
-pub use opened_with_base::open_with_base;
 pub use report_figures::Report;
 pub use rotation::rotate;
 pub use standing::Standing;
+pub use surveyed_kernel::open_with_survey;

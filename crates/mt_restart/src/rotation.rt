@@ -2,7 +2,7 @@
 // with the same book goes on over the other area. mt_locked, mt_alone and mt_world call it.
 ghost use Rattle.std.specs.Prelude.{◌≡◌, false, IfErr, IsOk, OnOk};
 ghost use Rattle.mt_model.specs.Model.{Base};
-ghost use Rattle.mt_txn.specs.Shown.{Restarts, HidesNoFault, is_failed};
+ghost use Rattle.mt_txn.specs.Shown.{HidesNoFault, Restarts, is_failed};
 ghost use Rattle.mt_txn.specs.Turned.{HasNobody, IsForced};
 ghost use Rattle.mt_txn.specs.Words.{FindsUntil};
 ghost use Rattle.mt_restart.specs.Rotated.{IsForcedOut, IsKeptCause, Keeps, Rotates};

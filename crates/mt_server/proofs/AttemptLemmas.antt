@@ -49,7 +49,7 @@ module _ (b : Base) (session : ℕ) where
   begun_at booked txn pass lines was own mine = record {
     end = within booked (open_calls txn) pass;
     pass_is = refl;
-    at = (refl, λ i. token_of (own i) (mine i) (open_calls txn));
+    at = (refl, λ i. token_of (own i) txn.number (mine i) (open_calls txn));
     served = none_served (within booked (open_calls txn) pass) was;
   }
 
@@ -209,7 +209,7 @@ module _ (b : Base) (session : ℕ) where
   unheard start lines was now new s is same = subst (λ (x : Halt). Running b session start lines was now new (Err x)) (sym is) (inl same)
 
   -- with the token that the begin gave
-  pub run_fresh : (booked : List (ℕ × List Call)) (pass at : PassSeen) (txn : TxnSeen) (lines : List Line) (was mid now : List ℕ) (new : PassSeen) (result : Result Progress Halt) → at ≡ pass → txn ≡ fresh pass.number session → mid ≡ was ++ transcript_text (Begun ∷ [])
+  pub run_fresh : (booked : List (ℕ × List Call)) (pass at : PassSeen) (txn : TxnSeen) (lines : List Line) (was mid now : List ℕ) (new : PassSeen) (result : Result Progress Halt) → at ≡ pass → txn ≡ fresh pass.number txn.number session → mid ≡ was ++ transcript_text (Begun ∷ [])
       → Running b txn.done.session (within booked (open_calls txn) at) lines mid now new result → Running b session (between booked pass) (line.Begin ∷ lines) was now new (and_begin result)
   run_fresh booked pass at txn lines was mid now new result same token text runs =
       run_behind booked pass lines was mid now new result text (subst (λ (x : TxnSeen × PassSeen). Running b x.0.done.session (within booked (open_calls x.0) x.1) lines mid now new result) (λ i. (token i, same i)) runs)

@@ -38,8 +38,8 @@ stops_behind pass new was now s same stops = subst (λ (x : PassSeen). IsStopped
 
 module _ (b : Base) (txn : TxnSeen) (pass : PassSeen) (own : txn.pass ≡ pass.number) where
   -- the token, as a pass of the same number holds it
-  token_is : (t : TxnSeen) (new : PassSeen) → t.pass ≡ pass.number → new ≡ pass → t ≡ token_of new.number t.done.session (open_calls t)
-  token_is t new mine same = ap (λ (n : ℕ). token_of n t.done.session (open_calls t)) (mine ∙ ap (λ (x : PassSeen). x.number) (sym same))
+  token_is : (t : TxnSeen) (new : PassSeen) → t.pass ≡ pass.number → new ≡ pass → t ≡ token_of new.number t.number t.done.session (open_calls t)
+  token_is t new mine same = ap (λ (n : ℕ). token_of n t.number t.done.session (open_calls t)) (mine ∙ ap (λ (x : PassSeen). x.number) (sym same))
 
   -- after the answer the transaction goes on with this token
   goes_on : (l : Line) (answer : Answer) (t : TxnSeen) (was now : List ℕ) (new : PassSeen) (r : Result (Option TxnSeen) Halt) → t.pass ≡ txn.pass → t.done.session ≡ txn.done.session
@@ -48,8 +48,8 @@ module _ (b : Base) (txn : TxnSeen) (pass : PassSeen) (own : txn.pass ≡ pass.n
       → Reporting t pass was now new answer r → Turning b txn pass l was now new r
   goes_on l answer t was now new (Ok token) mine same_session hears grows (same, stays, text) = λ booked.
       let end : Place = within booked (open_calls t) new in
-      let is : t ≡ token_of new.number txn.done.session (open_calls t) =
-      token_is t new (mine ∙ own) stays ∙ ap (λ (n : ℕ). token_of new.number n (open_calls t)) same_session in
+      let is : t ≡ token_of new.number t.number txn.done.session (open_calls t) =
+      token_is t new (mine ∙ own) stays ∙ ap (λ (n : ℕ). token_of new.number t.number n (open_calls t)) same_session in
       record {
         end = end;
         pass_is = refl;

@@ -26,7 +26,7 @@ pub data AreReportedOf (scripts : List (List Line)) (book : List Committed) : Li
       → AreReportedOf scripts book outcome count → IsReportedOf scripts book t booked
       → AreReportedOf scripts book (outcome ++ t ∷ []) (count + length booked)
 
--- as far as the pass has seen, and they report of each commit of its own
+-- They report just the commits that the pass has seen to be its own.
 abbrev pub AreHeard : List (List Line) → PassSeen → List Reported → Type 0
 AreHeard scripts pass outcome = AreReportedOf scripts (dones pass.seen) outcome (own pass.number pass.seen)
 

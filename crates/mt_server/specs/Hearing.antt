@@ -66,15 +66,19 @@ pub record HasServed (b : Base) (session : ℕ) (start : Place) (lines : List Li
 -- ---- a line
 
 -- the token of a transaction with these calls
-abbrev pub token_of : ℕ → ℕ → OpenCalls → TxnSeen
-token_of pass session calls =
-    record { pass = pass; done = record { session = session; calls = calls.all }; standing = calls.counted }
+abbrev pub token_of : ℕ → ℕ → ℕ → OpenCalls → TxnSeen
+token_of pass number session calls = record {
+  pass = pass;
+  number = number;
+  done = record { session = session; calls = calls.all };
+  standing = calls.counted;
+}
 
 -- this is the token of the transaction that is open, if one is
 abbrev pub IsAt : ℕ → Option TxnSeen → Place → Type 0
 IsAt session None p = p.heard.under_way ≡ None
 IsAt session (Some t) p =
-    (p.heard.under_way ≡ Some (open_calls t)) × (t ≡ token_of p.pass.number session (open_calls t))
+    (p.heard.under_way ≡ Some (open_calls t)) × (t ≡ token_of p.pass.number t.number session (open_calls t))
 
 -- while a transaction is open, nothing more is seen
 abbrev pub Waits : Option TxnSeen → PassSeen → PassSeen → Type 0

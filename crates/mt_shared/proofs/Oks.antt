@@ -2,9 +2,9 @@
 use Rattle.std.proofs.Common.{Result, Ok, Err}
 use Rattle.std.specs.Prelude.{IfOk, OnOk}
 
-pub three_ok : {T E : Type 0} (P Q S R : T → Type 0) (r : Result T E) → IfOk r P → IfOk r Q → IfOk r S → ((x : T) → P x → Q x → S x → R x) → IfOk r R
-three_ok P Q S R (Ok x) p q s go = go x p q s
-three_ok P Q S R (Err why) p q s go = tt
+pub four_ok : {T E : Type 0} (P Q S U R : T → Type 0) (r : Result T E) → IfOk r P → IfOk r Q → IfOk r S → IfOk r U → ((x : T) → P x → Q x → S x → U x → R x) → IfOk r R
+four_ok P Q S U R (Ok x) p q s u go = go x p q s u
+four_ok P Q S U R (Err why) p q s u go = tt
 
 -- what holds in any case holds if it is no error
 pub given_ok : {T E P : Type 0} → (r : Result T E) → P → OnOk r P

@@ -1,5 +1,5 @@
 -- A device that is opened to be shared.
-use Rattle.std.specs.Prelude.{ℕ, ◌≡◌, false, List, All, length}
+use Rattle.std.specs.Prelude.{ℕ, ◌≡◌, ◌+◌, false, List, All, length}
 use Rattle.atomic_table.specs.Seated.{TableId}
 use Rattle.mt_base.specs.declared.refusal.Refusal.{Refusal}
 use Rattle.mt_disk.specs.declared.device.Device.{Ghosts}
@@ -51,7 +51,8 @@ pub record OpenedSeen (D : Type 0) : Type 0 where
   pub frames : ℕ
   pub count : ℕ
 
--- an end and so many seats of one mark, about a kernel that began on this base: its history is the book
+-- an end and so many seats, which are all seats of one mark, about a kernel that began on this base: its history is the
+-- book
 pub record IsMarked (base : Base) (book : List Committed) (count : ℕ) (end : Held) (seats : List Held) : Type 0 where
   pub base_is : end.view.base ≡ base
   pub confirmed : IsConfirmed end.view
@@ -59,3 +60,4 @@ pub record IsMarked (base : Base) (book : List Committed) (count : ℕ) (end : H
   pub book_is : end.view.book ≡ book
   pub seats_are : All (Beside end) seats
   pub many : length seats ≡ count
+  pub made : end.view.made ≡ count + 1

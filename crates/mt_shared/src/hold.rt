@@ -128,7 +128,7 @@ impl<'a, D: Device, G: Gate + Drop, J: Naming> Hold<'a, D, G, J> {
         session: u32,
     ) -> Result<Txn<J>, Refusal>
         ensures pass { pass.new ≡ pass.old }
-        ensures token { IfOk result (λ t. t ≡ fresh pass.old.number session) }
+        ensures token { IfOk result (λ t. t ≡ fresh pass.old.number t.number session) }
         ensures why { IfErr result IsBeginRefusal }
     {
         if pass.is_busy() {

@@ -27,7 +27,7 @@ use mt_frame::slots_are_read_back;
 use mt_locked::{Locked, Naming, Pass, passes_of};
 use mt_mark::{About, End, Seat};
 use mt_model::{Base, Committed};
-use mt_restart::open_with_base;
+use mt_restart::open_with_survey;
 use mt_txn::Kernel;
 use std::alloc::{AllocError, Global};
 use std::marker::Model;
@@ -42,7 +42,7 @@ pub struct Opened<D: Device> {
 }
 
 impl<D: Device> Model for Opened<D> {
-    ghost use Rattle.std.specs.Prelude.{◌≡◌, All, vec_len};
+    ghost use Rattle.std.specs.Prelude.{◌≡◌, ◌+◌, All, vec_len};
     ghost use Rattle.mt_mark.specs.Rule.{labelled, IsConfirmed};
     ghost use Rattle.mt_mark.specs.Held.{Held};
     ghost use Rattle.mt_locked.specs.Began.{BeganOn};
@@ -65,7 +65,7 @@ impl<D: Device> Model for Opened<D> {
 
     ghost invariant = { λ o. BeganOn o.end.view.base o.kernel × IsConfirmed o.end.view
         × (o.end.view.list ≡ labelled o.end.view.book) × (o.end.view.book ≡ kernel_book o.kernel)
-        × All (Beside o.end) o.seats.items };
+        × All (Beside o.end) o.seats.items × (o.end.view.made ≡ vec_len o.seats + 1) };
 }
 
 impl<D: Device> Opened<D> {
@@ -123,7 +123,7 @@ impl<D: Device + Drop> Opened<D> {
     /// Opens a device with so many pages in frames, 32 to 4096. It makes the mark of its kernel, with a seat for each
     /// of so many passes. The history is empty, and begins on the base that the bytes represented.
     ///
-    /// Refused as [`open_with_base`], and with 1 if the mark finds no memory. A refusal is 2 if and only if the device
+    /// Refused as [`open_with_survey`], and with 1 if the mark finds no memory. A refusal is 2 if and only if the device
     /// failed in this call. Bytes that are not formatted are refused with 3, unless it failed. The device is handed
     /// back, and represents what it did before, unless it failed.
     pub fn open(
@@ -162,11 +162,11 @@ impl<D: Device + Drop> Opened<D> {
             (λ gone. (gone.0 ≡ Refusal.DeviceFailed → ⊥) → D.faults gone.1 ≡ D.faults device) }
     {
         slots_are_read_back();
-        let (kernel, base) = match open_with_base(alloc, device, frames) {
+        let (kernel, survey) = match open_with_survey(alloc, device, frames) {
             Ok(opened) => opened,
             Err((why, device)) => return Err((why, device)),
         };
-        match Opened::new(alloc, kernel, &base, count) {
+        match Opened::new(alloc, kernel, &survey.base, count) {
             Ok(opened) => Ok(opened),
             Err(kernel) => Err((Refusal::NoMemory, kernel.into_device())),
         }

@@ -162,7 +162,7 @@ impl<D: Device, G: Gate + Drop, J: Naming> Shared<D, G, J> {
         session: u32,
     ) -> Result<Txn<J>, Refusal>
         ensures pass { pass.new ≡ pass.old }
-        ensures token { IfOk result (λ t. t ≡ fresh pass.old.number session) }
+        ensures token { IfOk result (λ t. t ≡ fresh pass.old.number t.number session) }
         ensures why { IfErr result IsBeginRefusal }
     {
         let mut hold = self.hold();

@@ -1,15 +1,11 @@
 -- Which pages of a device are free, and how many of them are reserved.
-use Rattle.std.specs.Prelude.{ℕ, ◌≡◌, ◌≤◌, ◌<◌, ◌+◌, ◌*◌, ◌==◌, Bool, true, false, List, length, map, take, count_by}
+use Rattle.std.specs.Prelude.{ℕ, ◌≡◌, ◌≤◌, ◌<◌, ◌==◌, Bool, true, false, List, length, map, take, count_by}
 use Rattle.std.proofs.Math.ListN.{get_or}
-use Rattle.mt_space.specs.declared.space.TheConstants.{GROUP_PAGES}
 use Rattle.mt_base.specs.declared.limits.TheConstants.{MAX_PAGES}
 
 -- of each page whether it is free, and how many free pages are reserved
 abbrev pub Room : Type 0
 Room = List Bool × ℕ
-
-abbrev pub is_free : Room → ℕ → Bool
-is_free s p = get_or s.0 p false
 
 abbrev pub reserved_of : Room → ℕ
 reserved_of s = s.1
@@ -31,25 +27,8 @@ pub record IsFirstFree (pages : List Bool) (page : ℕ) : Type 0 where
   pub free : get_or pages page false ≡ true
   pub first : (p : ℕ) → p < page → get_or pages p false ≡ false
 
--- none of the pages of a group of 64 is free
-abbrev pub HasNone : List Bool → ℕ → Type 0
-HasNone pages group =
-    (p : ℕ) → GROUP_PAGES * group ≤ p → p < GROUP_PAGES * group + GROUP_PAGES → get_or pages p false ≡ false
-
--- the first of them that is
-pub record IsFirstIn (pages : List Bool) (group page : ℕ) : Type 0 where
-  pub from : GROUP_PAGES * group ≤ page
-  pub to : page < GROUP_PAGES * group + GROUP_PAGES
-  pub within : page < length pages
-  pub free : get_or pages page false ≡ true
-  pub first : (p : ℕ) → GROUP_PAGES * group ≤ p → p < page → get_or pages p false ≡ false
-
--- What a space keeps: the number of free pages, of which those reserved are a part, and a flag for each
--- group of 64 pages, which is set if one of them is free.
-pub record IsKept (pages groups : List Bool) (free reserved : ℕ) : Type 0 where
+-- what a space keeps: the number of free pages, of which those reserved are a part
+pub record IsKept (pages : List Bool) (free reserved : ℕ) : Type 0 where
   pub few : length pages ≤ MAX_PAGES
-  pub grouped : length pages ≤ GROUP_PAGES * length groups
-  pub few_groups : length groups ≤ GROUP_PAGES
   pub counted : free ≡ free_in pages
-  pub covered : (group : ℕ) → get_or groups group false ≡ false → HasNone pages group
   pub room : reserved ≤ free

@@ -1,24 +1,20 @@
-// Which pages are free, and how many of them are claimed. It is kept beside the space map, and changes no page.
-ghost use Rattle.std.specs.Prelude.{◌≡◌, ◌==◌, map, ◌≤◌, ◌<◌, ◌+◌, ◌*◌, ◌-◌, ℕ, length, get_or, IfOk, IfErr, OnOk, OnErr, MatchOption, slice_set, true, false};
-ghost use Rattle.mt_space.specs.declared.space.TheConstants.{GROUP_PAGES};
+// Which pages are free, how many, and how many of them are claimed. It is kept beside the space map, and changes no
+// page.
+ghost use Rattle.std.specs.Prelude.{◌≡◌, ◌==◌, map, ◌≤◌, ◌<◌, ◌+◌, ◌-◌, length, IfOk, IfErr, OnOk, OnErr};
 ghost use Rattle.mt_base.specs.declared.limits.TheConstants.{MAX_PAGES, PAGE_BYTES};
 ghost use Rattle.mt_base.specs.declared.refusal.Refusal.{Refusal};
-ghost use Rattle.mt_space.specs.Rooms.{is_free, free_in, reserved_of, free_of, mapped, IsFirstFree, HasNone, IsFirstIn};
+ghost use Rattle.mt_space.specs.Rooms.{free_in, reserved_of, free_of, mapped};
 
 use crate::pages::FREE;
-use mt_base::{PageNo, Refusal};
+use mt_base::Refusal;
 use std::alloc::{AllocError, Global};
 use std::marker::Model;
-
-/// Pages of a group. Of each group it is known whether one of them is free.
-const GROUP_PAGES: usize = 64;
 
 /// The free pages of a device, and how many of them are reserved. Contracts see of each page whether it is
 /// free, and the number of those reserved, which is never more than the free ones.
 #[derive(Drop)]
 pub struct Space {
     pages: Vec<bool>,
-    groups: Vec<bool>,
     free: u16,
     reserved: u16,
 }
@@ -30,7 +26,7 @@ impl Model for Space {
 
     ghost view = { λ s. (s.pages.items, s.reserved) };
 
-    ghost invariant = { λ s. IsKept s.pages.items s.groups.items s.free s.reserved };
+    ghost invariant = { λ s. IsKept s.pages.items s.free s.reserved };
 }
 
 impl Space {
@@ -44,10 +40,8 @@ impl Space {
     {
         let pages = freedom(alloc, &map[..usize::from(pages)])?;
         let free = count_free(pages.as_slice());
-        let groups = vec![in alloc; true; pages.len() / GROUP_PAGES + 1]?;
         Ok(Space {
             pages,
-            groups,
             free,
             reserved: 0,
         })
@@ -79,37 +73,6 @@ impl Space {
         self.reserved -= pages;
     }
 
-    /// Takes the free page with the smallest number, for one reservation. Who takes a page writes it whole
-    /// in its new form, since the bytes of a free page are open.
-    pub fn take(&mut self) -> PageNo
-        requires { 0 < reserved_of self.old }
-        ensures first { IsFirstFree self.old.0 result }
-        ensures taken { self.new.0 ≡ slice_set self.old.0 result false }
-        ensures reserved { reserved_of self.new ≡ reserved_of self.old - 1 }
-    {
-        let page = first_free(self.pages.as_slice(), self.groups.as_slice());
-        self.pages[page] = false;
-        self.free -= 1;
-        self.reserved -= 1;
-        let group = page / GROUP_PAGES;
-        let more = first_in(self.pages.as_slice(), group).is_some();
-        self.groups[group] = more;
-        PageNo::new(page as u16)
-    }
-
-    /// Makes a page free that was taken. It is not reserved.
-    pub fn put_back(&mut self, page: PageNo)
-        requires within { page < length self.old.0 }
-        requires taken { is_free self.old page ≡ false }
-        ensures free { self.new.0 ≡ slice_set self.old.0 page true }
-        ensures reserved { reserved_of self.new ≡ reserved_of self.old }
-    {
-        let page = usize::from(page.get());
-        self.pages[page] = true;
-        self.groups[page / GROUP_PAGES] = true;
-        self.free += 1;
-    }
-
     /// Makes the pages free that are free by a map, a byte for each page, and no other. What is reserved stays
     /// reserved: so many pages are free by the map. It takes no memory.
     pub fn follow(&mut self, map: &[u8])
@@ -121,7 +84,6 @@ impl Space {
         let kinds = &map[..self.pages.len()];
         note_free(self.pages.as_mut_slice(), kinds);
         self.free = count_free(self.pages.as_slice());
-        note_groups(self.groups.as_mut_slice(), self.pages.as_slice());
     }
 
     /// How many pages are free, reserved or not.
@@ -161,20 +123,6 @@ fn note_free(pages: &mut [bool], kinds: &[u8])
     }
 }
 
-// Notes of each group whether one of its pages is free.
-fn note_groups(groups: &mut [bool], pages: &[bool])
-    requires few { length pages.now ≤ MAX_PAGES }
-    requires few_groups { length groups.old ≤ GROUP_PAGES }
-    requires grouped { length pages.now ≤ GROUP_PAGES * length groups.old }
-    ensures size { length groups.new ≡ length groups.old }
-    ensures covered { (group : ℕ) → get_or groups.new group false ≡ false → HasNone pages.now group }
-{
-    for group in 0..groups.len() {
-        let more = first_in(pages, group).is_some();
-        groups[group] = more;
-    }
-}
-
 // How many pages are free.
 fn count_free(pages: &[bool]) -> u16
     requires { length pages.now ≤ MAX_PAGES }
@@ -187,39 +135,4 @@ fn count_free(pages: &[bool]) -> u16
         }
     }
     free
-}
-
-// The free page with the smallest number.
-fn first_free(pages: &[bool], groups: &[bool]) -> usize
-    requires few { length pages.now ≤ MAX_PAGES }
-    requires few_groups { length groups.now ≤ GROUP_PAGES }
-    requires grouped { length pages.now ≤ GROUP_PAGES * length groups.now }
-    requires covered { (group : ℕ) → get_or groups.now group false ≡ false → HasNone pages.now group }
-    requires some { 0 < free_in pages.now }
-    ensures { IsFirstFree pages.now result }
-{
-    for group in 0..groups.len() {
-        if groups[group] {
-            if let Some(page) = first_in(pages, group) {
-                return page;
-            }
-        }
-    }
-    0
-}
-
-// The free page with the smallest number in a group.
-fn first_in(pages: &[bool], group: usize) -> Option<usize>
-    requires few { length pages.now ≤ MAX_PAGES }
-    requires group { group < 64 }
-    ensures { MatchOption result (HasNone pages.now group) (λ page. IsFirstIn pages.now group page) }
-{
-    let start = GROUP_PAGES * group;
-    let end = (start + GROUP_PAGES).min(pages.len());
-    for page in start..end {
-        if pages[page] {
-            return Some(page);
-        }
-    }
-    None
 }

@@ -45,9 +45,9 @@ bucket_inside total key pages m in_bucket p mode a = ⊎_elim
     (λ b. kind_inside total pages m p 2 a b.0 (omega arith))
 
 -- a page of a bucket that was looked for to read is asked for to write
-pub looks_to_write : (key : List ℕ) (total : ℕ) (pages : PageBytes) (m : Map) (p : ℕ) (mode asked : Mode) → AreMap total pages m → (p ≡ 1 → asked ≡ mode) → (p ≢ 1 → asked ≡ Write) → IsInBucket key Read pages p mode → IsInBucket key Write pages p asked
-looks_to_write key total pages m p mode asked a directory others role = ⊎_elim
-    (λ d. inl (d.0, directory d.0 ∙ d.1))
+pub looks_to_write : (key : List ℕ) (total : ℕ) (pages : PageBytes) (m : Map) (p : ℕ) (asked : Mode) → AreMap total pages m → (p ≡ 1 → asked ≡ Read) → (p ≢ 1 → asked ≡ Write) → IsInBucket key Read pages p Read → IsInBucket key Write pages p asked
+looks_to_write key total pages m p asked a directory others role = ⊎_elim
+    (λ d. inl (d.0, directory d.0))
     (λ b. inr (b.0, others (λ one. let here : kind pages p ≡ kind pages 1 = ap (λ (n : ℕ). kind pages n) one in let fixed = a.directory_fixed in let two = b.0 in absurd (omega (arith, here, fixed, two))), b.2))
     role
 
@@ -74,11 +74,11 @@ looked_inside None total pages m p a named is = ⊎_elim
 
 -- ---- what the plans of records ask for
 
-pub put_needs : (at_hand : ℕ → Option (List ℕ)) (room : Option ℕ) (total : ℕ) (pages : PageBytes) (m : Map) (row : Row) (q : ℕ) (mode : Mode) (answer : Step) → answer ≡ step.Need q mode → AreMap total pages m → IsNamed room pages
-    → IsPut at_hand room total [] pages row answer → (at_hand q ≡ None) × (q < total) × ((mode ≡ Write) × IsLooked room total pages q)
-put_needs at_hand room total pages m row q mode answer is a named outcome =
+pub put_needs : (at_hand : ℕ → Option (List ℕ)) (room : Option ℕ) (total : ℕ) (pages : PageBytes) (m : Map) (row : Row) (q : ℕ) (answer : Step) → answer ≡ step.Need q → AreMap total pages m → IsNamed room pages
+    → IsPut at_hand room total [] pages row answer → (at_hand q ≡ None) × (q < total) × IsLooked room total pages q
+put_needs at_hand room total pages m row q answer is a named outcome =
     let t = subst (λ (x : Step). IsPut at_hand room total [] pages row x) is outcome in
-    (t.0, looked_inside room total pages m q a named t.2, (t.1, t.2))
+    (t.0, looked_inside room total pages m q a named t.1, t.1)
 
 -- the page of the key's record
 pub stands_in : (relations total : ℕ) (pages : PageBytes) (m : Map) (n : RecordName) (r : ℕ) (k : List ℕ) (q : ℕ) → AreRows relations total pages m → m r k ≡ Some n → q ≡ n.page → (q < total) × HasStood pages q r k
@@ -88,32 +88,32 @@ stands_in relations total pages m n r k q rows is here =
       (n.slot, named.0, ap (λ (x : ℕ). record_in pages x n.slot) here ∙ named.1),
     )
 
-pub removal_needs : (at_hand : ℕ → Option (List ℕ)) (relations total : ℕ) (pages : PageBytes) (m : Map) (n : RecordName) (r : ℕ) (k v : List ℕ) (q : ℕ) (mode : Mode) (answer : Step) → answer ≡ step.Need q mode → AreRows relations total pages m → m r k ≡ Some n
-    → record_in pages n.page n.slot ≡ Some (record { relation = r; key = k; value = v }) → IsRemoval at_hand pages n.page n.slot answer → (at_hand q ≡ None) × (q < total) × IsForDelete r k pages q mode
-removal_needs at_hand relations total pages m n r k v q mode answer is rows named stood outcome =
+pub removal_needs : (at_hand : ℕ → Option (List ℕ)) (relations total : ℕ) (pages : PageBytes) (m : Map) (n : RecordName) (r : ℕ) (k v : List ℕ) (q : ℕ) (answer : Step) → answer ≡ step.Need q → AreRows relations total pages m → m r k ≡ Some n
+    → record_in pages n.page n.slot ≡ Some (record { relation = r; key = k; value = v }) → IsRemoval at_hand pages n.page n.slot answer → (at_hand q ≡ None) × (q < total) × IsForDelete r k pages q Write
+removal_needs at_hand relations total pages m n r k v q answer is rows named stood outcome =
     let t = subst (λ (x : Step). IsRemoval at_hand pages n.page n.slot x) is outcome in
-    ⊎_elim {C = (at_hand q ≡ None) × (q < total) × IsForDelete r k pages q mode}
-    (λ (here : q ≡ n.page). let own = stands_in relations total pages m n r k q rows named here in (t.0, own.0, inr (t.1, inl own.1)))
+    ⊎_elim {C = (at_hand q ≡ None) × (q < total) × IsForDelete r k pages q Write}
+    (λ (here : q ≡ n.page). let own = stands_in relations total pages m n r k q rows named here in (t.0, own.0, inr (refl, inl own.1)))
     (λ space. (
       t.0,
       subst (λ (x : ℕ). x < total) (sym space.0) (kind_inside total pages m 0 1 rows.index rows.index.space_fixed (omega arith)),
-      inr (t.1, inr (space.0, (n.page, n.slot, v, stood, space.1))),
+      inr (refl, inr (space.0, (n.page, n.slot, v, stood, space.1))),
     ))
-    t.2
+    t.1
 
-pub replacement_needs : (at_hand : ℕ → Option (List ℕ)) (room : Option ℕ) (relations total : ℕ) (pages : PageBytes) (m : Map) (n : RecordName) (r : ℕ) (k v w : List ℕ) (q : ℕ) (mode : Mode) (answer : Step) → answer ≡ step.Need q mode → AreRows relations total pages m
+pub replacement_needs : (at_hand : ℕ → Option (List ℕ)) (room : Option ℕ) (relations total : ℕ) (pages : PageBytes) (m : Map) (n : RecordName) (r : ℕ) (k v w : List ℕ) (q : ℕ) (answer : Step) → answer ≡ step.Need q → AreRows relations total pages m
     → IsNamed room pages → m r k ≡ Some n → record_in pages n.page n.slot ≡ Some (record { relation = r; key = k; value = v })
-    → IsReplacement at_hand room total pages n.page n.slot (record { relation = r; key = k; value = v }) (record { relation = r; key = k; value = w }) answer → (at_hand q ≡ None) × (q < total) × IsForUpdate room total r k w pages q mode
-replacement_needs at_hand room relations total pages m n r k v w q mode answer is rows room_named named stood outcome =
+    → IsReplacement at_hand room total pages n.page n.slot (record { relation = r; key = k; value = v }) (record { relation = r; key = k; value = w }) answer → (at_hand q ≡ None) × (q < total) × IsForUpdate room total r k w pages q Write
+replacement_needs at_hand room relations total pages m n r k v w q answer is rows room_named named stood outcome =
     let t = subst (λ (x : Step). IsReplacement at_hand room total pages n.page n.slot (record { relation = r; key = k; value = v }) (record { relation = r; key = k; value = w }) x) is outcome in
-    ⊎_elim {C = (at_hand q ≡ None) × (q < total) × IsForUpdate room total r k w pages q mode}
-    (λ (here : q ≡ n.page). let own = stands_in relations total pages m n r k q rows named here in (t.0, own.0, inl (t.1, own.1)))
+    ⊎_elim {C = (at_hand q ≡ None) × (q < total) × IsForUpdate room total r k w pages q Write}
+    (λ (here : q ≡ n.page). let own = stands_in relations total pages m n r k q rows named here in (t.0, own.0, inl (refl, own.1)))
     (λ away. (
       t.0,
       looked_inside room total pages m q rows.index room_named away.1,
-      inr (needs_place pages m n r k v w rows.named named stood away.0, inl (t.1, away.1)),
+      inr (needs_place pages m n r k v w rows.named named stood away.0, inl (refl, away.1)),
     ))
-    t.2
+    t.1
 
 -- ---- what the plans of the index ask for
 

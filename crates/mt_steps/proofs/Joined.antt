@@ -10,7 +10,7 @@ use Rattle.mt_space.specs.declared.changes.PageChange.{PageChange}
 use Rattle.mt_space.specs.Changes.{PageBytes, Agrees, after, IsUntouched, IsShort, AreShort}
 use Rattle.mt_space.proofs.Changing.{after_untouched}
 use Rattle.mt_overlay.specs.Overlays.{AreAtHand, names_page}
-use Rattle.mt_steps.specs.Tells.{IsJoined}
+use Rattle.mt_steps.specs.PlanAnswers.{IsJoined}
 use Rattle.mt_steps.proofs.Single.{Short-prop}
 
 -- no page of the second list is one of the first

@@ -16,7 +16,7 @@ pub mod Asking
 mod Promised
 mod Modest
 pub mod Formatting
-mod Telling
+mod Answered
 mod Undoing
 mod Crowding
 mod Naming

@@ -1,21 +1,32 @@
--- What a base has once the records of a page are listed.
-use Rattle.std.proofs.Common.{◌≡◌, ◌≢◌, ◌<◌, ◌≤◌, ◌+◌, ◌&&◌, ◌==◌, ℕ, ℤ, Bool, true, false, cond, List, [], ◌∷◌, ◌++◌, length, map, get_or, pos, Option, Some, None, Result, Ok, Err, IfOk, bytes_eq, refl, ap, sym, subst, ◌∙◌, ⊎_elim, length-append, arith}
+-- Which rows a list has once the records of pages are listed, and the base of them.
+use Rattle.std.proofs.Common.{◌≡◌, ◌≢◌, ◌⊎◌, inl, inr, ◌<◌, ◌≤◌, ◌+◌, ℕ, ℤ, List, [], ◌∷◌, ◌++◌, length, map, get_or, pos, Some, None, Equal, Result, Ok, Err, IfOk, refl, ap, sym, subst, ◌∙◌, ⊎_elim, length-append, arith}
+use Rattle.std.specs.Prelude.{Contains}
+use Rattle.std.specs.List.Sorted.{IsPermutation}
 use Rattle.std.proofs.lemmas.Bool.{cases_lt}
 use Rattle.std.proofs.lemmas.List.{get_or_append_left, get_or-map}
+use Rattle.std.proofs.lemmas.List.Elements.{All-contains_itself, Contains-append_left, Contains-push, Contains-push_cases}
+use Rattle.std.proofs.lemmas.List.Quantifiers.{all_pairs_push}
+use Rattle.std.proofs.lemmas.List.Sorted.{Contains-permutation, IsPermutation-sym}
+use Rattle.mt_base.specs.declared.numbers.RecordName.{RecordName}
 use Rattle.mt_file.proofs.Filed.{record_none, record_records}
 use Rattle.mt_file.specs.File.{record_in}
-use Rattle.mt_steps.proofs.Rows.{key_cases, key_same}
-use Rattle.mt_model.specs.Model.{Base, alter_row, base_after, inserted}
+use Rattle.mt_index.specs.Maps.{Map}
+use Rattle.mt_model.specs.Model.{Base}
 use Rattle.mt_model.specs.Tables.{count_at, no_count, started}
 use Rattle.mt_model.specs.declared.counters.Count.{Count}
-use Rattle.mt_model.specs.declared.operations.Op.TheVariants.{Insert}
+use Rattle.mt_rows.proofs.Altered.{equal_keys, row_of}
+use Rattle.mt_rows.proofs.Members.{looked_up}
+use Rattle.mt_rows.specs.Rows.{AreKeysOnce, IsOrdered, row_order, value_at}
+use Rattle.mt_rows.specs.declared.rows.Row.{Row}
 use Rattle.mt_slots.proofs.Pages.{slot_past}
-use Rattle.mt_slots.specs.Page.{Row, count, slot}
+use Rattle.mt_slots.specs.Page.{count, slot}
 use Rattle.mt_space.specs.Changes.{PageBytes}
 use Rattle.mt_space.specs.Kinds.{kind}
 use Rattle.mt_counters.specs.Counters.{count_in}
-use Rattle.mt_steps.specs.Held.{HoldsRows, IsThere}
-use Rattle.mt_steps.specs.Listed.{AreBounds, HasListed}
+use Rattle.mt_steps.proofs.RecordRows.{record_of}
+use Rattle.mt_steps.proofs.ScanRows.{same_row}
+use Rattle.mt_steps.specs.Held.{AreNamed, HoldsRows}
+use Rattle.mt_steps.specs.Listed.{AreBounds, AreInside, HasListed, IsRow}
 
 -- ---- counters
 
@@ -49,97 +60,133 @@ counted page n bounds counts same are c lt =
 
 -- ---- rows
 
--- the records of the pages before p are rows, and those of its first slots
-pub record HasListedTo (pages : PageBytes) (p i : ℕ) (b : Base) : Type 0 where
-  pub found : (r : ℕ) (k v : List ℕ) → b.rows r k ≡ Some v → IsThere pages r k v
-  pub before : (q s : ℕ) (row : Row) → q < p → record_in pages q s ≡ Some row → b.rows row.relation row.key ≡ Some row.value
-  pub here : (s : ℕ) (row : Row) → s < i → slot (pages p) s ≡ Some row → b.rows row.relation row.key ≡ Some row.value
+-- a record in a page before p, or in one of the first i slots of p
+abbrev pub IsBefore : ℕ → ℕ → ℕ → ℕ → Type 0
+IsBefore p i q s = (q < p) ⊎ ((q ≡ p) × (s < i))
 
-pub first_slot : (pages : PageBytes) (p : ℕ) (b : Base) → HasListed pages p b → HasListedTo pages p 0 b
-first_slot pages p b is = record { found = is.found; before = is.listed; here = λ s row lt. absurd (omega arith) }
+-- the rows are the records of the pages before p and those of its first slots, and no key stands twice
+pub record HasListedTo (pages : PageBytes) (p i : ℕ) (rows : List Row) : Type 0 where
+  pub found : (x : Row) → Contains rows x → (q : ℕ) × (s : ℕ) × IsBefore p i q s × IsRow pages q s x
+  pub listed : (q s : ℕ) (x : Row) → IsBefore p i q s → IsRow pages q s x → Contains rows x
+  pub once : AreKeysOnce rows
 
-pub last_slot : (pages : PageBytes) (p i : ℕ) (b : Base) → kind pages p ≡ 3 → count (pages p) ≤ i → HasListedTo pages p i b → HasListed pages (p + 1) b
-last_slot pages p i b records all is = record {
-  found = is.found;
-  listed = λ q s row lt there. ⊎_elim (λ (before : q < p). is.before q s row before there) (λ (own : p ≤ q). of_own s row (subst (λ (x : ℕ). record_in pages x s ≡ Some row) (omega arith) there)) (cases_lt q p);
-}
-  where
-    of_own : (s : ℕ) (row : Row) → record_in pages p s ≡ Some row → b.rows row.relation row.key ≡ Some row.value
-    of_own s row there =
-        let held : slot (pages p) s ≡ Some row = sym (record_records pages p s records) ∙ there in
-        ⊎_elim (λ (lt : s < i). is.here s row lt held) (λ (le : i ≤ s). absurd (let wrong : None ≡ Some row = sym (slot_past (pages p) s (omega arith)) ∙ held in cc)) (cases_lt s i)
-
-pub empty_slot : (pages : PageBytes) (p i : ℕ) (b : Base) → slot (pages p) i ≡ None → HasListedTo pages p i b → HasListedTo pages p (i + 1) b
-empty_slot pages p i b none is = record {
-  found = is.found;
-  before = is.before;
-  here = λ s row lt there. ⊎_elim (λ (less : s < i). is.here s row less there)
-      (λ (own : i ≤ s). absurd (let at' : s ≡ i = omega arith in let wrong : None ≡ Some row = sym none ∙ ap (slot (pages p)) (sym at') ∙ there in cc)) (cases_lt s i);
+pub first_slot : (pages : PageBytes) (p : ℕ) (rows : List Row) → HasListed pages p rows → HasListedTo pages p 0 rows
+first_slot pages p rows is = record {
+  found = λ x has. let (q, s, before, at') = is.found x has in (q, s, inl before, at');
+  listed = λ q s x before. is.listed q s x (⊎_elim (λ (lt : q < p). lt) (λ (none : (q ≡ p) × (s < 0)). absurd (let lt = none.1 in omega (arith, lt))) before);
+  once = is.once;
 }
 
--- an insert leaves what is under a key, and puts its value where none is
-under : (b : Base) (r : ℕ) (k v : List ℕ) (q : ℕ) (l w : List ℕ) → b.rows q l ≡ Some w → (alter_row b r k (inserted v)).rows q l ≡ Some w
-under b r k v q l w is = ap (λ (o : Option (List ℕ)). cond ((r == q) && bytes_eq k l) (inserted v o) o) is ∙ go ((r == q) && bytes_eq k l)
+-- a record that is there stands in one of the page's slots
+within_slots : (pages : PageBytes) (p s : ℕ) (x : Row) → kind pages p ≡ 3 → IsRow pages p s x → s < count (pages p)
+within_slots pages p s x records there = ⊎_elim (λ (lt : s < count (pages p)). lt)
+    (λ (past : count (pages p) ≤ s). absurd (let wrong : None ≡ Some (record_of x) = sym (slot_past (pages p) s past) ∙ sym (record_records pages p s records) ∙ there in cc))
+    (cases_lt s (count (pages p)))
+
+pub last_slot : (pages : PageBytes) (p i : ℕ) (rows : List Row) → kind pages p ≡ 3 → count (pages p) ≤ i → HasListedTo pages p i rows → HasListed pages (p + 1) rows
+last_slot pages p i rows records all is = record {
+  found = λ x has. let (q, s, before, at') = is.found x has in (q, s, ⊎_elim (λ (lt : q < p). omega arith) (λ (own : (q ≡ p) × (s < i)). let same = own.0 in omega (arith, same)) before, at');
+  listed = λ q s x lt there. is.listed q s x (⊎_elim (λ (less : q < p). inl less) (λ (own : p ≤ q). inr (of_own q s x (omega arith) there)) (cases_lt q p)) there;
+  once = is.once;
+}
   where
-    go : (c : Bool) → cond c (inserted v (Some w)) (Some w) ≡ Some w
-    go true = refl
-    go false = refl
+    of_own : (q s : ℕ) (x : Row) → q ≡ p → IsRow pages q s x → (q ≡ p) × (s < i)
+    of_own q s x same there =
+        let lt : s < count (pages p) = within_slots pages p s x records (subst (λ (n : ℕ). IsRow pages n s x) same there) in
+        (same, omega arith)
 
-own_value : (b : Base) (r : ℕ) (k v : List ℕ) → (o : Option (List ℕ)) → b.rows r k ≡ o → ((w : List ℕ) → o ≡ Some w → w ≡ v) → (alter_row b r k (inserted v)).rows r k ≡ Some v
-own_value b r k v None is same = ap (λ (o : Option (List ℕ)). cond ((r == r) && bytes_eq k k) (inserted v o) o) is ∙ ap (λ (c : Bool). cond c (Some v) None) (key_same r k r k refl refl)
-own_value b r k v (Some w) is same = under b r k v r k w is ∙ ap (λ (x : List ℕ). Some x) (same w refl)
+-- what stands before the next slot stands before this one or in it
+one_more : (p i q s : ℕ) → IsBefore p (i + 1) q s → IsBefore p i q s ⊎ ((q ≡ p) × (s ≡ i))
+one_more p i q s (inl lt) = inl (inl lt)
+one_more p i q s (inr own) =
+    let last = own.1 in
+    ⊎_elim (λ (less : s < i). inl (inr (own.0, less))) (λ (le : i ≤ s). inr (own.0, omega (arith, last))) (cases_lt s i)
 
-some_same : (a b : List ℕ) → Some a ≡ Some b → a ≡ b
-some_same a b e = ap (λ (x : Option (List ℕ)). elim x [ None ↦ a | Some y ↦ y ]) e
+still_before : (p i q s : ℕ) → IsBefore p i q s → IsBefore p (i + 1) q s
+still_before p i q s (inl lt) = inl lt
+still_before p i q s (inr own) = inr (own.0, let lt = own.1 in omega (arith, lt))
 
-pub full_slot : (pages : PageBytes) (p i : ℕ) (b new held : Base) (row : Row) → kind pages p ≡ 3 → slot (pages p) i ≡ Some row → HoldsRows pages held → new ≡ base_after b (Insert row.relation row.key row.value)
-    → HasListedTo pages p i b → HasListedTo pages p (i + 1) new
-full_slot pages p i b new held row records there holds same is = subst (HasListedTo pages p (i + 1)) (sym same) (record {
-  found = λ q l w has. ⊎_elim (λ (own : (row.relation ≡ q) × (row.key ≡ l)). of_own q l w own (b.rows q l) refl has)
-      (λ (other : ((row.relation == q) && bytes_eq row.key l) ≡ false). is.found q l w (sym (ap (λ (c : Bool). cond c (inserted row.value (b.rows q l)) (b.rows q l)) other) ∙ has)) (key_cases row.relation row.key q l);
-  before = λ q s x lt has. under b row.relation row.key row.value x.relation x.key x.value (is.before q s x lt has);
-  here = λ s x lt has. ⊎_elim (λ (less : s < i). under b row.relation row.key row.value x.relation x.key x.value (is.here s x less has))
-      (λ (last : i ≤ s). own_row x (let at' : i ≡ s = omega arith in sym there ∙ ap (slot (pages p)) at' ∙ has)) (cases_lt s i);
+pub empty_slot : (pages : PageBytes) (p i : ℕ) (rows : List Row) → kind pages p ≡ 3 → slot (pages p) i ≡ None → HasListedTo pages p i rows → HasListedTo pages p (i + 1) rows
+empty_slot pages p i rows records none is = record {
+  found = λ x has. let (q, s, before, at') = is.found x has in (q, s, still_before p i q s before, at');
+  listed = λ q s x before there. ⊎_elim (λ (old : IsBefore p i q s). is.listed q s x old there)
+      (λ (own : (q ≡ p) × (s ≡ i)). absurd (nothing q s x own there)) (one_more p i q s before);
+  once = is.once;
+}
+  where
+    nothing : (q s : ℕ) (x : Row) → (q ≡ p) × (s ≡ i) → IsRow pages q s x → ⊥
+    nothing q s x own there =
+        let here : record_in pages p i ≡ Some (record_of x) = subst (λ (n : ℕ × ℕ). record_in pages n.0 n.1 ≡ Some (record_of x)) (λ j. (own.0 j, own.1 j)) there in
+        let wrong : None ≡ Some (record_of x) = sym none ∙ sym (record_records pages p i records) ∙ here in cc
+
+-- records of one key have one place
+one_place : (pages : PageBytes) (m : Map) (q s p i : ℕ) (x y : Row) → AreNamed pages m → IsRow pages q s y → IsRow pages p i x → row_order y x ≡ Equal → (q ≡ p) × (s ≡ i)
+one_place pages m q s p i x y named at_y at_x same =
+    let keys = equal_keys y x.relation x.key same in
+    let first : m y.relation y.key ≡ Some (record { page = q; slot = s }) = named.named q s (record_of y) at_y in
+    let second : m x.relation x.key ≡ Some (record { page = p; slot = i }) = named.named p i (record_of x) at_x in
+    let places : Some (record { page = q; slot = s }) ≡ Some (record { page = p; slot = i }) =
+    sym first ∙ (ap (λ r. m r y.key) keys.0 ∙ (ap (λ k. m x.relation k) keys.1 ∙ second)) in
+    let one : record { page = q; slot = s } ≡ record { page = p; slot = i } = some_name places in
+    (ap (λ (n : RecordName). n.page) one, ap (λ (n : RecordName). n.slot) one)
+  where
+    some_name : {a b : RecordName} → Some a ≡ Some b → a ≡ b
+    some_name e = cc
+
+pub full_slot : (pages : PageBytes) (m : Map) (p i : ℕ) (rows new : List Row) (x : Row) → kind pages p ≡ 3 → slot (pages p) i ≡ Some (record_of x) → AreNamed pages m → new ≡ rows ++ x ∷ []
+    → HasListedTo pages p i rows → HasListedTo pages p (i + 1) new
+full_slot pages m p i rows new x records there named pushed is = subst (HasListedTo pages p (i + 1)) (sym pushed) (record {
+  found = λ y has. ⊎_elim (λ (old : Contains rows y). let (q, s, before, at') = is.found y old in (q, s, still_before p i q s before, at'))
+      (λ (own : x ≡ y). (p, i, inr (refl, omega arith), subst (IsRow pages p i) own here)) (Contains-push_cases rows x y has);
+  listed = λ q s y before at'. ⊎_elim (λ (old : IsBefore p i q s). Contains-append_left rows (x ∷ []) y (is.listed q s y old at'))
+      (λ (own : (q ≡ p) × (s ≡ i)). subst (Contains (rows ++ x ∷ [])) (own_row q s y own at') (Contains-push rows x)) (one_more p i q s before);
+  once = all_pairs_push (λ a b. row_order a b ≢ Equal) rows x is.once (λ k d lt same. other (get_or rows k d) (All-contains_itself rows k d lt) same);
 })
   where
-    record_is : IsThere pages row.relation row.key row.value
-    record_is = (p, i, record_records pages p i records ∙ there)
+    here : IsRow pages p i x
+    here = record_records pages p i records ∙ there
 
-    of_own : (q : ℕ) (l w : List ℕ) → (row.relation ≡ q) × (row.key ≡ l) → (o : Option (List ℕ)) → b.rows q l ≡ o → cond ((row.relation == q) && bytes_eq row.key l) (inserted row.value (b.rows q l)) (b.rows q l) ≡ Some w → IsThere pages q l w
-    of_own q l w own None none has =
-        let value : Some row.value ≡ Some w = sym (ap (λ (o : Option (List ℕ)). cond ((row.relation == q) && bytes_eq row.key l) (inserted row.value o) o) none ∙ ap (λ (c : Bool). cond c (Some row.value) None) (key_same row.relation row.key q l own.0 own.1)) ∙ has in
-        subst (λ (x : List ℕ). IsThere pages q l x) (some_same row.value w value) (subst (λ (x : ℕ × List ℕ). IsThere pages x.0 x.1 row.value) (λ j. (own.0 j, own.1 j)) record_is)
-    of_own q l w own (Some u) some has = is.found q l w (some ∙ sym (under b row.relation row.key row.value q l u some) ∙ has)
+    own_row : (q s : ℕ) (y : Row) → (q ≡ p) × (s ≡ i) → IsRow pages q s y → x ≡ y
+    own_row q s y own at' = same_row x y (sym here ∙ subst (λ (n : ℕ × ℕ). IsRow pages n.0 n.1 y) (λ j. (own.0 j, own.1 j)) at')
 
-    -- a key has one value
-    one : (w : List ℕ) → b.rows row.relation row.key ≡ Some w → w ≡ row.value
-    one w has = some_same w row.value (sym (holds.there row.relation row.key w (is.found row.relation row.key w has)) ∙ holds.there row.relation row.key row.value record_is)
-
-    own_row : (x : Row) → Some row ≡ Some x → (alter_row b row.relation row.key (inserted row.value)).rows x.relation x.key ≡ Some x.value
-    own_row x e = subst (λ (y : Row). (alter_row b row.relation row.key (inserted row.value)).rows y.relation y.key ≡ Some y.value) (let same : row ≡ x = cc in same)
-        (own_value b row.relation row.key row.value (b.rows row.relation row.key) refl one)
+    -- a row that is there already has another place, and so another key
+    other : (y : Row) → Contains rows y → row_order y x ≡ Equal → ⊥
+    other y has same =
+        let (q, s, before, at') = is.found y has in
+        let place = one_place pages m q s p i x y named at' here same in
+        let page = place.0 in let slot_is = place.1 in
+        ⊎_elim (λ (lt : q < p). absurd (omega (arith, page))) (λ (own : (q ≡ p) × (s < i)). absurd (let lt = own.1 in omega (arith, lt, slot_is))) before
 
 -- a page that has no records adds no row
-pub skip_page : (pages : PageBytes) (p : ℕ) (b : Base) → kind pages p ≢ 3 → HasListed pages p b → HasListed pages (p + 1) b
-skip_page pages p b other is = record {
-  found = is.found;
-  listed = λ q s row lt there. ⊎_elim (λ (before : q < p). is.listed q s row before there)
-      (λ (own : p ≤ q). absurd (let at' : q ≡ p = omega arith in let wrong : None ≡ Some row = sym (record_none pages p s other) ∙ ap (λ (x : ℕ). record_in pages x s) (sym at') ∙ there in cc)) (cases_lt q p);
+pub skip_page : (pages : PageBytes) (p : ℕ) (rows : List Row) → kind pages p ≢ 3 → HasListed pages p rows → HasListed pages (p + 1) rows
+skip_page pages p rows other is = record {
+  found = λ x has. let (q, s, before, at') = is.found x has in (q, s, omega (arith, before), at');
+  listed = λ q s x lt there. ⊎_elim (λ (before : q < p). is.listed q s x before there)
+      (λ (own : p ≤ q). absurd (let at' : q ≡ p = omega arith in let wrong : None ≡ Some (record_of x) = sym (record_none pages p s other) ∙ ap (λ (n : ℕ). record_in pages n s) (sym at') ∙ there in cc)) (cases_lt q p);
+  once = is.once;
 }
 
 -- ---- all pages
 
--- a base without rows has listed nothing
-pub nothing_listed : (pages : PageBytes) (b : Base) → ((r : ℕ) (k : List ℕ) → b.rows r k ≡ None) → HasListed pages 0 b
-nothing_listed pages b none = record { found = λ r k v has. absurd (let wrong : None ≡ Some v = sym (none r k) ∙ has in cc); listed = λ q s row lt there. absurd (omega arith) }
+-- of no page nothing is listed
+pub nothing_listed : (pages : PageBytes) (rows : List Row) → rows ≡ [] → HasListed pages 0 rows
+nothing_listed pages rows none = subst (HasListed pages 0) (sym none) (record {
+  found = λ x has. absurd (let lt = has.1 in omega (arith, lt));
+  listed = λ q s x lt there. absurd (omega arith);
+  once = λ i j d less within. absurd (omega (arith, within));
+})
 
--- with all pages listed it has the rows of the base that they hold
-pub all_listed : (pages : PageBytes) (total : ℕ) (b held : Base) → ((q s : ℕ) (row : Row) → record_in pages q s ≡ Some row → q < total) → HoldsRows pages held → HasListed pages total b → (r : ℕ) (k : List ℕ) → b.rows r k ≡ held.rows r k
-all_listed pages total b held inside holds is r k = go (b.rows r k) refl (held.rows r k) refl
+-- with all pages listed, the rows in order are those of the base that the pages hold
+pub all_listed : (pages : PageBytes) (total : ℕ) (rows sorted : List Row) (held : Base) → AreInside total pages → HoldsRows pages held → HasListed pages total rows
+    → IsPermutation rows sorted → IsOrdered sorted → (r : ℕ) (k : List ℕ) → value_at sorted r k ≡ held.rows r k
+all_listed pages total rows sorted held inside holds is moved ordered = looked_up sorted held.rows ordered some each
   where
-    go : (o : Option (List ℕ)) → b.rows r k ≡ o → (h : Option (List ℕ)) → held.rows r k ≡ h → b.rows r k ≡ held.rows r k
-    go (Some v) has h other = has ∙ sym (holds.there r k v (is.found r k v has))
-    go None none None other = none ∙ sym other
-    go None none (Some v) other =
-        let there = holds.found r k v other in
-        let wrong : None ≡ Some v = sym none ∙ is.listed there.0 there.1 (record { relation = r; key = k; value = v }) (inside there.0 there.1 _ there.2) there.2 in absurd cc
+    some : (r : ℕ) (k v : List ℕ) → held.rows r k ≡ Some v → Contains sorted (row_of r k v)
+    some r k v has =
+        let (q, s, there) = holds.found r k v has in
+        Contains-permutation rows sorted (row_of r k v) moved (is.listed q s (row_of r k v) (inside q s (row_of r k v) there) there)
+
+    each : (x : Row) → Contains sorted x → held.rows x.relation x.key ≡ Some x.value
+    each x has =
+        let (q, s, before, there) = is.found x (Contains-permutation sorted rows x (IsPermutation-sym rows sorted moved) has) in
+        holds.there x.relation x.key x.value (q, s, there)

@@ -21,7 +21,7 @@ use Rattle.mt_steps.specs.Held.{AreNamed, AreRows}
 use Rattle.mt_steps.specs.declared.act.Act.{Act}
 use Rattle.mt_steps.specs.Acts.{IsPlaced, IsTaken, IsKept, IsMoved, IfMade, InGood, InRoomy}
 use Rattle.mt_steps.specs.Plans.{HasStood, IsInto, NeedsPlace, NeedsEntry, TakesPages, IsGivenBack, InPages}
-use Rattle.mt_steps.specs.Tells.{TakesNone, TakesAlone}
+use Rattle.mt_steps.specs.PlanAnswers.{TakesNone, TakesAlone}
 use Rattle.mt_steps.proofs.Apart.{StaysFile, records_stay, add_stays}
 use Rattle.mt_steps.proofs.Crowding.{way_crowded, crowded_before}
 use Rattle.mt_steps.proofs.Entering.{made_weaker, free_chosen}

@@ -59,7 +59,7 @@ row_is r s k l v w relation key value = λ i. Some (record { relation = relation
 some_name : {x y : RecordName} → Some x ≡ Some y → x ≡ y
 some_name h = cc
 
-same_row : (x y : base.Row) → row_in x ≡ row_in y → x ≡ y
+pub same_row : (x y : base.Row) → row_in x ≡ row_in y → x ≡ y
 same_row x y is =
     let rows = some_row is in
     rows_equal x y (ap (λ (z : Row). z.relation) rows) (ap (λ (z : Row). z.key) rows) (ap (λ (z : Row). z.value) rows)

@@ -5,7 +5,7 @@ pub mod Plans
 pub mod Asks
 pub mod Repeated
 pub mod Logged
-pub mod Tells
+pub mod PlanAnswers
 pub mod Formatted
 pub mod Planners
 pub mod Scanned

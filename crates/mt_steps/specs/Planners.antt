@@ -12,7 +12,7 @@ use Rattle.mt_overlay.specs.Overlays.{AreAtHand}
 use Rattle.mt_slots.specs.Page.{Fits, row_length}
 use Rattle.mt_steps.specs.Plans.{IsModest, IsTight, TakesPages, free_pages}
 use Rattle.mt_base.specs.declared.limits.TheConstants.{MAX_VALUE_BYTES, MAX_WRITTEN_PAGES}
-use Rattle.mt_steps.specs.Tells.{TakesNone}
+use Rattle.mt_steps.specs.PlanAnswers.{TakesNone}
 use Rattle.mt_counters.specs.Counters.{AreCounters}
 
 -- the read of a row

@@ -7,11 +7,11 @@ ghost use Rattle.mt_model.specs.declared.operations.Op.TheVariants.{Delete};
 ghost use Rattle.mt_overlay.specs.Overlays.{AreAtHand};
 ghost use Rattle.mt_steps.specs.Acts.{HasGood, InGood, IsTaken};
 ghost use Rattle.mt_steps.specs.Asks.{IsForDelete};
-ghost use Rattle.mt_steps.specs.Tells.{Tells, IsWanted, IsDone, IsAny, TakesNone, HasTaken};
+ghost use Rattle.mt_steps.specs.PlanAnswers.{PlanAnswers, IsWanted, IsDone, IsAny, TakesNone, HasTaken};
 ghost use Rattle.mt_steps.specs.Planners.{PlansDelete};
 
 use crate::act::Act;
-use crate::joined_plan::{join, to_write};
+use crate::joined_plan::{join, mode_to_write};
 use mt_base::{Bytes, Mode, RecordName, RelNo};
 use mt_file::{Lookup, Step, plan_read, plan_remove};
 use mt_index::{Amend, Find, Search, plan_drop, plan_find};
@@ -38,7 +38,7 @@ pub(crate) fn delete<V: Pages>(
     ensures searched { IsSearched (V.at_hand views.now) (V.total views.now) relation key.now search.new }
 {
     match plan_find(views, relation, key, search) {
-        Find::Need(page, mode) => Ok(Act::Lock(page, to_write(page, mode))),
+        Find::Need(page) => Ok(Act::Lock(page, mode_to_write(page))),
         Find::Missing => Ok(Act::Made(Changes::new(alloc), Reply::Missing)),
         Find::Found(name) => delete_row(alloc, views, relation, key, &name),
         Find::Endless => Ok(Act::Broken),
@@ -57,17 +57,17 @@ fn delete_row<V: Pages>(
     requires good { ∥ ((relations : ℕ) × HasGood (V.at_hand views.now) relations (V.total views.now)) ∥₁ }
     requires short { length key.now ≤ MAX_KEY_BYTES }
     requires named { InMaps (V.at_hand views.now) (V.total views.now) (λ pages m. m relation key.now ≡ Some name.now) }
-    ensures { IfOk result (Tells (V.at_hand views.now) (V.total views.now)
+    ensures { IfOk result (PlanAnswers (V.at_hand views.now) (V.total views.now)
         (IsWanted (V.at_hand views.now) (V.total views.now) IsAny (IsForDelete relation key.now))
         (IsDone (V.at_hand views.now) (V.total views.now) 0 false (Delete relation key.now) TakesNone IsAny) ⊥) }
 {
     let old = match plan_read(views, *name) {
-        Lookup::Need(page, _) => return Ok(Act::Lock(page, Mode::Write)),
+        Lookup::Need(page) => return Ok(Act::Lock(page, Mode::Write)),
         Lookup::Record(row) => Bytes::copy_of(alloc, row.value)?,
         Lookup::Nothing => return Ok(Act::Broken),
     };
     let plan = match plan_remove(alloc, views, *name)? {
-        Step::Need(page, mode) => return Ok(Act::Lock(page, mode)),
+        Step::Need(page) => return Ok(Act::Lock(page, Mode::Write)),
         Step::Full => return Ok(Act::Broken),
         Step::Done(plan) => plan,
     };
@@ -92,7 +92,7 @@ fn drop_entry<V: Pages>(
     requires good { ∥ ((relations : ℕ) × HasGood (V.at_hand views.now) relations (V.total views.now)
         × InGood (V.at_hand views.now) relations (V.total views.now) (λ pages m. (m relation key.now ≡ Some name.now)
         × IsTaken pages first.list.items name.now (record { relation = relation; key = key.now; value = old }))) ∥₁ }
-    ensures { IfOk result (Tells (V.at_hand views.now) (V.total views.now)
+    ensures { IfOk result (PlanAnswers (V.at_hand views.now) (V.total views.now)
         (IsWanted (V.at_hand views.now) (V.total views.now)
         (HasTaken first.list.items name.now (record { relation = relation; key = key.now; value = old }))
         (IsInBucket key.now ToWrite))

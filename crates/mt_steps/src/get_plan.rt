@@ -6,7 +6,7 @@ ghost use Rattle.mt_steps.specs.Acts.{HasGood};
 ghost use Rattle.mt_steps.specs.Planners.{PlansGet};
 
 use crate::act::Act;
-use mt_base::{Bytes, RelNo};
+use mt_base::{Bytes, Mode, RelNo};
 use mt_file::{Lookup, plan_read};
 use mt_index::{Find, Search, plan_find};
 use mt_model::Reply;
@@ -30,13 +30,13 @@ pub(crate) fn get<V: Pages>(
     ensures searched { IsSearched (V.at_hand views.now) (V.total views.now) relation key.now search.new }
 {
     let name = match plan_find(views, relation, key, search) {
-        Find::Need(page, mode) => return Ok(Act::Lock(page, mode)),
+        Find::Need(page) => return Ok(Act::Lock(page, Mode::Read)),
         Find::Missing => return Ok(Act::Made(Changes::new(alloc), Reply::Missing)),
         Find::Found(name) => name,
         Find::Endless => return Ok(Act::Broken),
     };
     match plan_read(views, name) {
-        Lookup::Need(page, mode) => Ok(Act::Lock(page, mode)),
+        Lookup::Need(page) => Ok(Act::Lock(page, Mode::Read)),
         Lookup::Record(row) => {
             let value = Bytes::copy_of(alloc, row.value)?;
             Ok(Act::Made(Changes::new(alloc), Reply::Found(value)))

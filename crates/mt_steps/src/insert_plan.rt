@@ -10,14 +10,14 @@ ghost use Rattle.mt_overlay.specs.Overlays.{AreAtHand};
 ghost use Rattle.mt_steps.specs.Acts.{HasRoomy, InRoomy, IsPlaced};
 ghost use Rattle.mt_steps.specs.Asks.{IsForInsert};
 ghost use Rattle.mt_steps.specs.Plans.{free_pages, IsTight, TakesPages};
-ghost use Rattle.mt_steps.specs.Tells.{Tells, IsWanted, IsDone, HasRoom, TakesRow, TakesAlone, HasPlaced};
+ghost use Rattle.mt_steps.specs.PlanAnswers.{PlanAnswers, IsWanted, IsDone, HasRoom, TakesRow, TakesAlone, HasPlaced};
 ghost use Rattle.mt_index.specs.Maps.{Map};
 ghost use Rattle.mt_steps.specs.Held.{AreRows};
 ghost use Rattle.mt_steps.specs.Planners.{PlansInsert};
 
 use crate::act::Act;
-use crate::joined_plan::{join, to_write};
-use mt_base::{PageNo, RelNo};
+use crate::joined_plan::{join, mode_to_write};
+use mt_base::{Mode, PageNo, RelNo};
 use mt_file::{Plan, Step, plan_put};
 use mt_index::{Add, Find, Search, plan_add, plan_find};
 use mt_model::Reply;
@@ -49,7 +49,7 @@ pub(crate) fn insert<V: Pages>(
     ensures searched { IsSearched (V.at_hand views.now) (V.total views.now) relation key.now search.new }
 {
     match plan_find(views, relation, key, search) {
-        Find::Need(page, mode) => Ok(Act::Lock(page, to_write(page, mode))),
+        Find::Need(page) => Ok(Act::Lock(page, mode_to_write(page))),
         Find::Found(_) => Ok(Act::Made(Changes::new(alloc), Reply::Exists)),
         Find::Missing => insert_new(alloc, views, room, relation, key, value, split),
         Find::Endless => Ok(Act::Broken),
@@ -72,7 +72,7 @@ fn insert_new<V: Pages>(
     requires key_fits { IsKey key.now }
     requires value_fits { IsValue value.now }
     requires missing { InMaps (V.at_hand views.now) (V.total views.now) (λ pages m. m relation key.now ≡ None) }
-    ensures { IfOk result (Tells (V.at_hand views.now) (V.total views.now)
+    ensures { IfOk result (PlanAnswers (V.at_hand views.now) (V.total views.now)
         (IsWanted (V.at_hand views.now) (V.total views.now) (HasRoom room) (IsForInsert room (V.total views.now) split
         (record { relation = relation; key = key.now; value = value.now })))
         (IsDone (V.at_hand views.now) (V.total views.now) (cond split 3 2) split (Insert relation key.now value.now)
@@ -83,7 +83,7 @@ fn insert_new<V: Pages>(
         (record { relation = relation; key = key.now; value = value.now }))))) }
 {
     let plan = match plan_put(alloc, views, room, relation, key, value)? {
-        Step::Need(page, mode) => return Ok(Act::Lock(page, mode)),
+        Step::Need(page) => return Ok(Act::Lock(page, Mode::Write)),
         Step::Full => return Ok(Act::Full),
         Step::Done(plan) => plan,
     };
@@ -110,7 +110,7 @@ fn add_entry<V: Pages>(
         × InRoomy (V.at_hand views.now) room relations (V.total views.now) (λ pages m.
         IsPlaced (V.total views.now) pages plan.changes.list.items plan.name
         (record { relation = relation; key = key.now; value = value }))) ∥₁ }
-    ensures { (value : List ℕ) → IfOk result (Tells (V.at_hand views.now) (V.total views.now)
+    ensures { (value : List ℕ) → IfOk result (PlanAnswers (V.at_hand views.now) (V.total views.now)
         (IsWanted (V.at_hand views.now) (V.total views.now) (λ relations pages m.
         IsPlaced (V.total views.now) pages plan.changes.list.items plan.name
         (record { relation = relation; key = key.now; value = value }))

@@ -1,10 +1,10 @@
 // Two plans of one operation, the second made over the changes of the first.
 ghost use Rattle.std.specs.Prelude.{◌≡◌, ◌≢◌, ◌+◌, ◌++◌, ◌<◌, ◌≤◌, ℕ, All, false, length, None, IfOk};
 ghost use Rattle.std.specs.Bool.{OnTrue};
-ghost use Rattle.mt_base.specs.declared.modes.Mode.TheVariants.{Write as ToWrite};
+ghost use Rattle.mt_base.specs.declared.modes.Mode.TheVariants.{Read as ToRead, Write as ToWrite};
 ghost use Rattle.mt_space.specs.Changes.{PageBytes, Agrees, after, AreShort};
 ghost use Rattle.mt_overlay.specs.Overlays.{AreAtHand, names_page};
-ghost use Rattle.mt_steps.specs.Tells.{Tells, AsksForNone, IsJoined};
+ghost use Rattle.mt_steps.specs.PlanAnswers.{PlanAnswers, AsksForNone, IsJoined};
 
 use crate::act::Act;
 use mt_base::{Mode, PageNo};
@@ -14,13 +14,13 @@ use mt_space::pages::DIRECTORY;
 use mt_space::{Changes, Pages};
 use std::alloc::{AllocError, Global};
 
-// A page of a bucket is to be written; the directory is read.
-pub(crate) fn to_write(page: PageNo, mode: Mode) -> Mode
-    ensures directory { page ≡ 1 → result ≡ mode }
+// How a page of the index is locked by who is to change an entry: a page of a bucket is written, the directory read.
+pub(crate) fn mode_to_write(page: PageNo) -> Mode
+    ensures directory { page ≡ 1 → result ≡ ToRead }
     ensures others { page ≢ 1 → result ≡ ToWrite }
 {
     if page.get() == DIRECTORY {
-        mode
+        Mode::Read
     } else {
         Mode::Write
     }
@@ -39,7 +39,7 @@ pub(crate) fn join<V: Pages>(
     requires second_there { AreAtHand (V.at_hand views.now) second.list.items }
     requires short { ∥ ((pages : PageBytes) × Agrees (V.at_hand views.now) pages × AreShort first.list.items pages
         × AreShort second.list.items (after first.list.items pages)) ∥₁ }
-    ensures { IfOk result (Tells (V.at_hand views.now) (V.total views.now) AsksForNone
+    ensures { IfOk result (PlanAnswers (V.at_hand views.now) (V.total views.now) AsksForNone
         (IsJoined (V.at_hand views.now) first.list.items second.list.items reply) ⊥) }
 {
     if are_apart(&first, &second) {

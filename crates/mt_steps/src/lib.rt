@@ -23,6 +23,6 @@ pub use act::Act;
 pub use continued_plan::plan_over;
 pub use copies::{Copies, SpareCopies};
 pub use laws::formatted_pages_are_good;
-pub use listed_base::{base_without_rows, list_rows};
+pub use listed_base::{base_of_rows, base_without_rows, list_rows};
 pub use logged_operation::logged;
 pub use operation_plan::{bytes_put, pages_for, pages_to_undo, plan};

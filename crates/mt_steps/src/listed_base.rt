@@ -1,20 +1,23 @@
-// The base that pages hold, listed in order. Surveys and inspections read it off page 2 and the pages of records.
-ghost use Rattle.std.specs.Prelude.{◌≡◌, ◌+◌, ◌<◌, ◌≤◌, ℕ, ℤ, List, length, get_or, None, IfOk, OnOk, IfErr};
-ghost use Rattle.mt_base.specs.declared.limits.TheConstants.{MAX_RELATIONS, MAX_VALUE_BYTES};
-ghost use Rattle.mt_file.specs.File.{record_in};
-ghost use Rattle.mt_model.specs.Model.{Base as ModelBase, base_after};
+// The base that pages hold. Surveys and inspections read it off page 2 and the pages of records: they gather the rows,
+// and put them in order once.
+ghost use Rattle.std.specs.Prelude.{◌≡◌, ◌+◌, ◌<◌, ◌≤◌, ℕ, ℤ, List, length, get_or, None, IfOk, OnOk};
+ghost use Rattle.mt_base.specs.declared.limits.TheConstants.{MAX_RELATIONS};
+ghost use Rattle.mt_index.specs.Maps.{Map};
+ghost use Rattle.mt_model.specs.Model.{Base as ModelBase};
 ghost use Rattle.mt_model.specs.Views.{base_of, counters_of, relations_of};
-ghost use Rattle.mt_slots.specs.Page.{Fits, IsPage};
+ghost use Rattle.mt_rows.specs.Rows.{AreKeysOnce};
+ghost use Rattle.mt_slots.specs.Page.{IsShaped};
 ghost use Rattle.mt_space.specs.Changes.{PageBytes};
 ghost use Rattle.mt_space.specs.Kinds.{kind};
 ghost use Rattle.mt_counters.specs.Counters.{count_in, AreCounters};
-ghost use Rattle.mt_steps.specs.Held.{HoldsRows};
-ghost use Rattle.mt_steps.specs.Listed.{AreBounds, HasListed};
+ghost use Rattle.mt_steps.specs.Held.{AreNamed, HoldsRows};
+ghost use Rattle.mt_steps.specs.Listed.{AreBounds, AreInside, HasListed};
 
 use mt_base::ranges::u16_at;
-use mt_base::{Bytes, CtrNo, Refusal};
+use mt_base::{Bytes, CtrNo};
 use mt_counters::{counter, sizes};
-use mt_model::{Base, Op};
+use mt_model::Base;
+use mt_rows::{Row, Rows};
 use mt_slots::{RecordView, get};
 use std::alloc::{AllocError, Global};
 
@@ -46,42 +49,47 @@ pub fn base_without_rows(alloc: Global, page: &[u8]) -> Result<Base, AllocError>
     Base::new(alloc, outcome.relations, bounds.as_slice())
 }
 
-// Lists a record as a row.
-fn list_row(alloc: Global, base: &mut Base, row: RecordView<'_>) -> Result<(), Refusal>
-    requires fits { Fits (relations_of base.old) MAX_VALUE_BYTES (record {
-      relation = row.relation;
-      key = row.key.now;
-      value = row.value.now;
+// A copy of a record as a row.
+fn row_copy(alloc: Global, view: RecordView<'_>) -> Result<Row, AllocError>
+    ensures { IfOk result (λ row. row ≡ record {
+      relation = view.entry.relation;
+      key = view.entry.key.now;
+      value = view.entry.value.now;
     }) }
-    ensures row { OnOk result (base_of base.new
-        ≡ base_after (base_of base.old) (Op.Insert row.entry.relation row.entry.key.now row.entry.value.now)) }
-    ensures relations { relations_of base.new ≡ relations_of base.old }
-    ensures counters { length (counters_of base.new) ≡ length (counters_of base.old) }
-    ensures only_memory { IfErr result (λ why. why ≡ Refusal.NoMemory) }
 {
-    let key = Bytes::copy_of(alloc, row.key)?;
-    let value = Bytes::copy_of(alloc, row.value)?;
-    base.act(&Op::Insert(row.relation, key, value))?;
-    Ok(())
+    let key = Bytes::copy_of(alloc, view.key)?;
+    let value = Bytes::copy_of(alloc, view.value)?;
+    Ok(Row {
+        relation: view.relation,
+        key,
+        value,
+    })
 }
 
-/// Lists the records of a page of records as rows of a base. Records of one relation and key have one value, as they
-/// do if the pages hold a base; so no row is replaced. The only refusal is [`Refusal::NoMemory`]; the base has then
-/// some of the rows.
-pub fn list_rows(alloc: Global, base: &mut Base, page: &[u8]) -> Result<(), Refusal>
-    requires page { IsPage (relations_of base.old) MAX_VALUE_BYTES page.now }
-    ensures listed { (pages : PageBytes) (p : ℕ) (held : ModelBase) → pages p ≡ page.now → kind pages p ≡ 3
-        → HoldsRows pages held → HasListed pages p (base_of base.old)
-        → OnOk result (HasListed pages (p + 1) (base_of base.new)) }
-    ensures counts { OnOk result ((base_of base.new).counts ≡ (base_of base.old).counts) }
-    ensures relations { relations_of base.new ≡ relations_of base.old }
-    ensures counters { length (counters_of base.new) ≡ length (counters_of base.old) }
-    ensures only_memory { IfErr result (λ why. why ≡ Refusal.NoMemory) }
+/// Lists the records of a page of records as rows, at the end of the list. An index names each record of the pages by
+/// its key, so no key stands twice. The only error is want of memory; the list has then some of the rows.
+pub fn list_rows(alloc: Global, rows: &mut Vec<Row>, page: &[u8]) -> Result<(), AllocError>
+    requires shaped { IsShaped page.now }
+    ensures listed { (pages : PageBytes) (p : ℕ) (m : Map) → pages p ≡ page.now → kind pages p ≡ 3
+        → AreNamed pages m → HasListed pages p rows.old.items → OnOk result (HasListed pages (p + 1) rows.new.items) }
 {
     for slot in 0..u16_at(page, 0) {
-        if let Some(row) = get(page, slot) {
-            list_row(alloc, base, row)?;
+        if let Some(view) = get(page, slot) {
+            rows.push(row_copy(alloc, view)?)?;
         }
     }
     Ok(())
+}
+
+/// The base with the rows that were listed from all pages: they are put in order here, once. It takes no memory.
+pub fn base_of_rows(base: Base, rows: Vec<Row>) -> Base
+    requires once { AreKeysOnce rows.items }
+    ensures rows { (pages : PageBytes) (total : ℕ) (held : ModelBase) → AreInside total pages
+        → HoldsRows pages held → HasListed pages total rows.items
+        → (r : ℕ) (k : List ℕ) → (base_of result).rows r k ≡ held.rows r k }
+    ensures counters { counters_of result ≡ counters_of base }
+    ensures relations { relations_of result ≡ relations_of base }
+{
+    let rows = Rows::sorted(rows);
+    base.with_rows(rows)
 }

@@ -35,7 +35,7 @@ pub(crate) fn scan<V: Pages>(
 {
     progress.turn_to(relation);
     match plan_names(views, relation, &mut progress.gathering)? {
-        Names::Need(page, mode) => Ok(Act::Lock(page, mode)),
+        Names::Need(page) => Ok(Act::Lock(page, Mode::Read)),
         Names::Named => {
             let names = progress.gathering.names();
             if let Some(page) = first_missing(views, names, &mut progress.ready) {
@@ -63,7 +63,7 @@ fn rows_named<V: Pages>(
     let mut rows = Vec::new(alloc);
     for name in names {
         match plan_read(views, *name) {
-            Lookup::Need(page, mode) => return Ok(Act::Lock(page, mode)),
+            Lookup::Need(page) => return Ok(Act::Lock(page, Mode::Read)),
             Lookup::Record(record) => {
                 let key = Bytes::copy_of(alloc, record.key)?;
                 let value = Bytes::copy_of(alloc, record.value)?;

@@ -12,7 +12,7 @@ ghost use Rattle.mt_overlay.specs.Overlays.{AreAtHand};
 ghost use Rattle.mt_steps.specs.Acts.{HasRoomy, InRoomy, IsMoved};
 ghost use Rattle.mt_steps.specs.Asks.{IsForUpdate};
 ghost use Rattle.mt_steps.specs.Plans.{free_pages, IsTight, TakesPages};
-ghost use Rattle.mt_steps.specs.Tells.{Tells, IsWanted, IsDone, HasRoom, TakesRow, TakesAlone, HasMoved};
+ghost use Rattle.mt_steps.specs.PlanAnswers.{PlanAnswers, IsWanted, IsDone, HasRoom, TakesRow, TakesAlone, HasMoved};
 ghost use Rattle.mt_steps.specs.Planners.{PlansUpdate};
 
 use crate::act::Act;
@@ -47,7 +47,7 @@ pub(crate) fn update<V: Pages>(
     ensures searched { IsSearched (V.at_hand views.now) (V.total views.now) relation key.now search.new }
 {
     match plan_find(views, relation, key, search) {
-        Find::Need(page, mode) => Ok(Act::Lock(page, mode)),
+        Find::Need(page) => Ok(Act::Lock(page, Mode::Read)),
         Find::Missing => Ok(Act::Made(Changes::new(alloc), Reply::Missing)),
         Find::Found(name) => update_row(alloc, views, room, relation, key, value, &name),
         Find::Endless => Ok(Act::Broken),
@@ -69,7 +69,7 @@ fn update_row<V: Pages>(
     requires short { length key.now ≤ MAX_KEY_BYTES }
     requires value_fits { IsValue value.now }
     requires named { InMaps (V.at_hand views.now) (V.total views.now) (λ pages m. m relation key.now ≡ Some name.now) }
-    ensures { IfOk result (Tells (V.at_hand views.now) (V.total views.now)
+    ensures { IfOk result (PlanAnswers (V.at_hand views.now) (V.total views.now)
         (IsWanted (V.at_hand views.now) (V.total views.now) (HasRoom room)
         (IsForUpdate room (V.total views.now) relation key.now value.now))
         (IsDone (V.at_hand views.now) (V.total views.now) 1 false (Update relation key.now value.now)
@@ -80,12 +80,12 @@ fn update_row<V: Pages>(
         (record { relation = relation; key = key.now; value = value.now }))))) }
 {
     let old = match plan_read(views, *name) {
-        Lookup::Need(page, _) => return Ok(Act::Lock(page, Mode::Write)),
+        Lookup::Need(page) => return Ok(Act::Lock(page, Mode::Write)),
         Lookup::Record(row) => Bytes::copy_of(alloc, row.value)?,
         Lookup::Nothing => return Ok(Act::Broken),
     };
     let plan = match plan_replace(alloc, views, *name, value, room)? {
-        Step::Need(page, mode) => return Ok(Act::Lock(page, mode)),
+        Step::Need(page) => return Ok(Act::Lock(page, Mode::Write)),
         Step::Full => return Ok(Act::Full),
         Step::Done(plan) => plan,
     };
@@ -125,7 +125,7 @@ fn set_entry<V: Pages>(
         (record { relation = relation; key = key.now; value = old })
         (record { relation = relation; key = key.now; value = value }))) ∥₁ }
     ensures { (name : RecordName) (value : List ℕ) → IsSome (V.at_hand views.now name.page) →
-        IfOk result (Tells (V.at_hand views.now) (V.total views.now)
+        IfOk result (PlanAnswers (V.at_hand views.now) (V.total views.now)
         (IsWanted (V.at_hand views.now) (V.total views.now) (λ relations pages m.
         IsMoved (V.total views.now) pages plan.changes.list.items name plan.name
         (record { relation = relation; key = key.now; value = old })

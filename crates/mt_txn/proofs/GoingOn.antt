@@ -27,7 +27,7 @@ use Rattle.mt_model.specs.Model.{Base, IsBase}
 use Rattle.mt_model.specs.declared.history.Committed.{Committed}
 use Rattle.mt_op.specs.Operations.{IsRight}
 use Rattle.mt_op.specs.declared.operations.Operations.{Operations}
-use Rattle.mt_replay.specs.Recorded.{calls_of, stands_for, tells}
+use Rattle.mt_replay.specs.Recorded.{calls_of, stands_for, recorded_in}
 use Rattle.mt_steps.specs.Held.{Holds}
 use Rattle.mt_txn.specs.Restarted.{all_commits}
 use Rattle.mt_txn.specs.Shown.{Restarts, Stays}
@@ -69,23 +69,23 @@ module _ {D : Type 0} (g : Ghosts D) (relations counters : ℕ) (first : Base) (
   stands_whole x records front more rest all has of =
       let safe = x.consistent in
       let begun = x.restartable.begun in
-      let tells_of = x.restartable.tells in
+      let are_records_of = x.restartable.records in
       let log = k.operations.store.log in
-      let since = commits_since g origin base k safe begun tells_of in
-      let n = length (tells (appended log)).books in
+      let since = commits_since g origin base k safe begun are_records_of in
+      let n = length (recorded_in (appended log)).books in
       let same : front ≡ appended log = whole_front records front more rest has of ∙ all in
       let turned : in_turn (session_in k.live.members) (txns_of k.commits.items) k.live.standing ≡ [] = ap (λ (cs : List Commit). in_turn (session_in k.live.members) (txns_of cs) k.live.standing) (none_commits g origin base k none safe) in
-      let books : length (map calls_of (tells (appended log)).books) ≡ length (map effects_of since) = ap (λ (xs : _). length xs) tells_of.telling.books in
-      let lengths = length-map (tells (appended log)).books calls_of in
+      let books : length (map calls_of (recorded_in (appended log)).books) ≡ length (map effects_of since) = ap (λ (xs : _). length xs) are_records_of.recorded.books in
+      let lengths = length-map (recorded_in (appended log)).books calls_of in
       let effects = length-map since effects_of in
-      let split = length-append tells_of.since (in_turn (session_in k.live.members) (txns_of k.commits.items) k.live.standing) in
-      let booked : length k.book.items ≡ length (origin.earlier ++ tells_of.since) = ap (λ (cs : List Committed). length cs) tells_of.book in
-      let earlier = length-append origin.earlier tells_of.since in
+      let split = length-append are_records_of.since (in_turn (session_in k.live.members) (txns_of k.commits.items) k.live.standing) in
+      let booked : length k.book.items ≡ length (origin.earlier ++ are_records_of.since) = ap (λ (cs : List Committed). length cs) are_records_of.book in
+      let earlier = length-append origin.earlier are_records_of.since in
       let both = length-append k.book.items (in_turn (session_in k.live.members) (txns_of k.commits.items) k.live.standing) in
       let many : length (all_commits k) ≤ length origin.earlier + n = omega (arith, books, lengths, effects, split, booked, earlier, both) in
       ap (stands_for origin.begun) same
-      ∙ stands_first origin.begun since (appended log) (appended log) [] (sym (append-nil (appended log))) tells_of.telling.books (since_legal g origin base k safe begun tells_of)
-      ∙ after_earlier g origin base k safe begun tells_of n
+      ∙ stands_first origin.begun since (appended log) (appended log) [] (sym (append-nil (appended log))) are_records_of.recorded.books (since_legal g origin base k safe begun are_records_of)
+      ∙ after_earlier g origin base k safe begun are_records_of n
       ∙ ap (after origin.first) (take_all (length origin.earlier + n) (all_commits k) many)
       ∙ ap (λ (cs : List Committed). after origin.first (k.book.items ++ cs)) turned
       ∙ ap (after origin.first) (append-nil k.book.items)

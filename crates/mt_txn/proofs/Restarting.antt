@@ -35,8 +35,8 @@ use Rattle.mt_space.specs.Changes.{PageBytes}
 use Rattle.mt_log.specs.Masters.{IsRuling, Rules, area_size as size_of, area_start as start_of, area_end as end_of}
 use Rattle.mt_replay.specs.Recoverable.{IsRecoverable}
 use Rattle.mt_replay.specs.Stands.{CanRestart, StandsFor}
-use Rattle.mt_replay.specs.Recorded.{stands_for, tells}
-use Rattle.mt_core.proofs.Prefixed.{stands_first, tells_more}
+use Rattle.mt_replay.specs.Recorded.{stands_for, recorded_in}
+use Rattle.mt_core.proofs.Prefixed.{stands_first, recorded_more}
 use Rattle.mt_core.proofs.Restarts.{inverted_consistent}
 use Rattle.mt_core.specs.Runs.{state_in}
 use Rattle.mt_core.proofs.Recovering.{commits_since, since_legal, after_earlier}
@@ -165,19 +165,19 @@ module _ {D : Type 0} (g : Ghosts D) where
         let log = k.operations.store.log in
         let front = joined e.batches in
         let all : appended log ≡ front ++ e.beginning.rest = sym e.beginning.of_appended in
-        let tells_durable : length (tells (durable log)).books ≤ length (tells front).books = subst (λ (rs : List Record). length (tells (durable log)).books ≤ length (tells rs).books) (sym e.beginning.has_durable) (tells_more (durable log) e.beginning.more) in
+        let recorded_durable : length (recorded_in (durable log)).books ≤ length (recorded_in front).books = subst (λ (rs : List Record). length (recorded_in (durable log)).books ≤ length (recorded_in rs).books) (sym e.beginning.has_durable) (recorded_more (durable log) e.beginning.more) in
         let begun = x.restartable.begun in
-        let tells_of = x.restartable.tells in
+        let are_records_of = x.restartable.records in
         let booked = x.restartable.booked in
         record {
           base = stands_for origin.begun front;
           found = restarted k origin base c x e schema;
-          count = length origin.earlier + length (tells front).books;
-          acknowledged = omega (arith, booked, tells_durable);
-          durable = omega (arith, tells_durable);
-          is = stands_first origin.begun (commits_since g origin base k x.consistent begun tells_of) (appended log) front e.beginning.rest all tells_of.telling.books (since_legal g origin base k x.consistent begun tells_of)
-              ∙ after_earlier g origin base k x.consistent begun tells_of (length (tells front).books)
-              ∙ ap (λ (b : Base). after b (take (length origin.earlier + length (tells front).books) (all_commits k))) x.is.first_is;
+          count = length origin.earlier + length (recorded_in front).books;
+          acknowledged = omega (arith, booked, recorded_durable);
+          durable = omega (arith, recorded_durable);
+          is = stands_first origin.begun (commits_since g origin base k x.consistent begun are_records_of) (appended log) front e.beginning.rest all are_records_of.recorded.books (since_legal g origin base k x.consistent begun are_records_of)
+              ∙ after_earlier g origin base k x.consistent begun are_records_of (length (recorded_in front).books)
+              ∙ ap (λ (b : Base). after b (take (length origin.earlier + length (recorded_in front).books) (all_commits k))) x.is.first_is;
         }
 
     -- where nobody lives, and all records are durable, the whole book
@@ -233,7 +233,7 @@ module _ {D : Type 0} (g : Ghosts D) where
       found = f.found;
       count = f.count;
       acknowledged = let all = f.acknowledged in let size : length m.book.items ≡ length k.book.items = ap (λ (cs : List Committed). length cs) book in omega (arith, all, size);
-      durable = let few = f.durable in let tells_durable : length (tells (durable k.operations.store.log)).books ≤ length (tells (durable m.operations.store.log)).books = subst (λ (rs : List Record). length (tells (durable k.operations.store.log)).books ≤ length (tells rs).books) (sym grown) (tells_more (durable k.operations.store.log) more) in omega (arith, few, tells_durable);
+      durable = let few = f.durable in let recorded_durable : length (recorded_in (durable k.operations.store.log)).books ≤ length (recorded_in (durable m.operations.store.log)).books = subst (λ (rs : List Record). length (recorded_in (durable k.operations.store.log)).books ≤ length (recorded_in rs).books) (sym grown) (recorded_more (durable k.operations.store.log) more) in omega (arith, few, recorded_durable);
       is = f.is ∙ ap (λ (cs : List Committed). after first (take f.count cs)) same;
     }
 

@@ -14,7 +14,7 @@ use Rattle.mt_model.specs.Model.{Base}
 use Rattle.mt_pool.specs.Views.{pages}
 use Rattle.mt_txn.specs.Causes.{IsFault}
 use Rattle.mt_txn.specs.Events.{HasAborted, HasReturned, InvertsTo}
-use Rattle.mt_txn.specs.Shown.{LeavesFound, ReadsDevice, SameSchema, Shows, StaysRestarting, HidesNoFault, is_failed, kernel_log, kernel_pool}
+use Rattle.mt_txn.specs.Shown.{HidesNoFault, LeavesFound, ReadsDevice, SameSchema, Shows, StaysRestarting, is_failed, kernel_log, kernel_pool}
 use Rattle.mt_txn.specs.Work.{IsAbortForOther, LowersUndoing, NoMoreAreLeft, NoneAreLeft}
 use Rattle.mt_txn.specs.declared.answers.AbortStepped.{AbortStepped}
 use Rattle.mt_txn.specs.declared.answers.AbortStepped.TheVariants.{Ended, Flush}

@@ -10,7 +10,7 @@ use Rattle.mt_model.specs.History.{after}
 use Rattle.mt_model.specs.Model.{Base}
 use Rattle.mt_model.specs.declared.history.Committed.{Committed}
 use Rattle.mt_replay.specs.Stands.{CanRestart}
-use Rattle.mt_replay.specs.Recorded.{tells}
+use Rattle.mt_replay.specs.Recorded.{recorded_in}
 use Rattle.mt_core.specs.Seen.{core_device, core_log}
 
 -- the book, and after it the commits under way, in their order
@@ -24,7 +24,7 @@ pub record FindsCommits {D : Type 0} (relations counters : ℕ) (first : Base) (
   pub found : CanRestart relations counters c base
   pub count : ℕ
   pub acknowledged : length k.book.items ≤ count
-  pub durable : length (tells (durable (core_log k))).books ≤ count
+  pub durable : length (recorded_in (durable (core_log k))).books ≤ count
   pub is : base ≡ after first (take count (all_commits k))
 
 -- Whenever a crash comes until the device of k is this one, a restart finds in what it leaves what some of the first

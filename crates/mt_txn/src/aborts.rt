@@ -12,7 +12,7 @@ ghost use Rattle.mt_txn.specs.Effects.{BeginsUndoing, LeavesAbort, MovesAbort};
 ghost use Rattle.mt_txn.specs.Aborted.{StepsAbort, StepsInverse};
 ghost use Rattle.mt_txn.specs.Events.{HasAborted};
 ghost use Rattle.mt_txn.specs.Seen.{seen_of};
-ghost use Rattle.mt_txn.specs.Shown.{FailsForGood, SameSchema, Shows, Stays, StaysRestarting, HidesNoFault, kernel_device, kernel_log, kernel_page_locks};
+ghost use Rattle.mt_txn.specs.Shown.{FailsForGood, HidesNoFault, SameSchema, Shows, Stays, StaysRestarting, kernel_device, kernel_log, kernel_page_locks};
 ghost use Rattle.mt_txn.specs.Work.{IsAbortReportedAs};
 ghost use Rattle.mt_txn.specs.Shown.{LeavesFound, ReadsDevice};
 ghost use Rattle.mt_txn.specs.PageLocks.{AbortsLocks};

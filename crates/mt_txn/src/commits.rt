@@ -9,7 +9,7 @@ ghost use Rattle.mt_txn.specs.Causes.{IsRefusedAtOnce};
 ghost use Rattle.mt_txn.specs.Effects.{FlushesPage, KeepsAtForce, LogsCommit};
 ghost use Rattle.mt_txn.specs.Events.{HasForced, IsForcedBy};
 ghost use Rattle.mt_txn.specs.Seen.{seen_of};
-ghost use Rattle.mt_txn.specs.Shown.{FailsForGood, SameSchema, Shows, Stays, StaysRestarting, HidesNoFault, is_failed, kernel_log};
+ghost use Rattle.mt_txn.specs.Shown.{FailsForGood, HidesNoFault, SameSchema, Shows, Stays, StaysRestarting, is_failed, kernel_log};
 ghost use Rattle.mt_txn.specs.Shown.{CallsOnce, LeavesFound};
 ghost use Rattle.mt_txn.specs.Words.{kernel_book, kernel_commits, kernel_commit_cause, IsKernelFailure, UndoStays};
 

@@ -12,7 +12,7 @@ ghost use Rattle.mt_txn.specs.Causes.{IsRefusedAtOnce, IsSavepoint};
 ghost use Rattle.mt_txn.specs.Effects.{BeginsUndoing, LeavesReturn, MovesReturn};
 ghost use Rattle.mt_txn.specs.Events.{HasReturned};
 ghost use Rattle.mt_txn.specs.Seen.{seen_of};
-ghost use Rattle.mt_txn.specs.Shown.{FailsForGood, LeavesFound, ReadsDevice, SameSchema, Shows, Stays, StaysRestarting, HidesNoFault, kernel_page_locks};
+ghost use Rattle.mt_txn.specs.Shown.{FailsForGood, HidesNoFault, LeavesFound, ReadsDevice, SameSchema, Shows, Stays, StaysRestarting, kernel_page_locks};
 ghost use Rattle.mt_txn.specs.Words.{kernel_back_cause, kernel_commit_cause, kernel_count, kernel_is_busy, kernel_last, kernel_return_cause, kernel_running, kernel_state, kernel_store, IsKernelFault, NumbersStay};
 
 use crate::answers::AbortStepped;

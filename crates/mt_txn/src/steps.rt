@@ -9,7 +9,7 @@ ghost use Rattle.mt_txn.specs.Effects.{LeavesStep, MovesStep};
 ghost use Rattle.mt_txn.specs.Work.{IsReportedAs};
 ghost use Rattle.mt_txn.specs.Events.{HasStepped};
 ghost use Rattle.mt_txn.specs.Seen.{seen_of};
-ghost use Rattle.mt_txn.specs.Shown.{FailsForGood, SameSchema, Shows, StaysRestarting, HidesNoFault};
+ghost use Rattle.mt_txn.specs.Shown.{FailsForGood, HidesNoFault, SameSchema, Shows, StaysRestarting};
 ghost use Rattle.mt_txn.specs.Shown.{LeavesFound, ReadsDevice};
 ghost use Rattle.mt_txn.specs.Words.{kernel_running, kernel_step_cause, IsKernelFault};
 

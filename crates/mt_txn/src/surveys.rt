@@ -4,7 +4,7 @@ ghost use Rattle.mt_base.specs.declared.refusal.Refusal.{Refusal};
 ghost use Rattle.mt_live.specs.Machine.{State};
 ghost use Rattle.mt_model.specs.Model.{Base};
 ghost use Rattle.mt_txn.specs.Causes.{IsRefusedAtOnce};
-ghost use Rattle.mt_txn.specs.Shown.{FailsForGood, SameSchema, Shows, Stays, StaysRestarting, HidesNoFault};
+ghost use Rattle.mt_txn.specs.Shown.{FailsForGood, HidesNoFault, SameSchema, Shows, Stays, StaysRestarting};
 ghost use Rattle.mt_txn.specs.Surveyed.{ReadsPages, SurveysBase, SurveysPages};
 ghost use Rattle.mt_txn.specs.Shown.{LeavesFound};
 ghost use Rattle.mt_txn.specs.Words.{kernel_survey_cause, IsKernelFault};

@@ -19,7 +19,7 @@ use Rattle.mt_model.specs.Model.{Base}
 use Rattle.mt_model.specs.declared.history.Committed.{Committed}
 use Rattle.mt_replay.specs.Refused.{BreaksFormat, IsCause}
 use Rattle.mt_replay.specs.Stands.{CanRestart}
-use Rattle.mt_replay.specs.Recorded.{tells}
+use Rattle.mt_replay.specs.Recorded.{recorded_in}
 use Rattle.mt_format.specs.Formats.{FormatBegins}
 use Rattle.mt_restart.specs.Recovered.{IsCauseToStop, StandsStill}
 use Rattle.mt_restart.specs.Resumed.{IsOpened, device_of}
@@ -72,10 +72,10 @@ module _ {D : Type 0} {g : Ghosts D} where
   finds_first k relations counters first c opened can = ∥∥₁_map (no_commit_yet k first opened.shows) (λ none. record {
     base = first;
     found = subst (λ (X : Type 0). X) (λ i. CanRestart (sym opened.relations_are i) (sym opened.counters_are i) c first) can;
-    count = length k.core.book.items + length (tells (durable k.core.operations.store.log)).books + length (all_commits k.core);
+    count = length k.core.book.items + length (recorded_in (durable k.core.operations.store.log)).books + length (all_commits k.core);
     acknowledged = omega arith;
     durable = omega arith;
-    is = sym (ap (after first) (take_all (length k.core.book.items + length (tells (durable k.core.operations.store.log)).books + length (all_commits k.core)) (all_commits k.core) (omega arith) ∙ none));
+    is = sym (ap (after first) (take_all (length k.core.book.items + length (recorded_in (durable k.core.operations.store.log)).books + length (all_commits k.core)) (all_commits k.core) (omega arith) ∙ none));
   })
 
   module _ (s : Schema) (device formatted : D) where

@@ -1,6 +1,5 @@
-use Rattle.std.proofs.Common.{◌≡◌, ◌∙◌, ◌+◌, ℕ, List, ap, inr, length, min, sym, subst}
-use Rattle.mt_replay.specs.Stands.{CanRestart}
-use Rattle.mt_restart.specs.Migrated.{Additions, IsCarried, grown}
+use Rattle.std.proofs.Common.{◌≡◌, ◌∙◌, ℕ, ap, inr, min, sym, subst}
+use Rattle.mt_restart.specs.Migrated.{Additions}
 use Rattle.mt_device_commands.specs.Migrations.{additions, StandsGrown, StandsOrGrown}
 use Rattle.mt_device_commands.proofs.MigrateLemmas.{stands_or_grown}
 use Rattle.mt_device_commands.proofs.migrate_command.migrate_device.Goals as goal

@@ -45,7 +45,6 @@ returns-in_default-page-clause-removal g c = λ pages r agrees file is.
     let s = c.args.name.slot in
     let held = is_held (g.V.Pages.at_hand c.args.views.now) pages p s c.in-Some.old.now r agrees file is c.in-Some.ensures.some in (
       c.in_default-page.ensures.none,
-      refl,
       inr (c.new-map_page.ensures, none_beside pages p s c.in-Some.old.now c.remove-touched.new.page r held c.remove-touched.ensures.sets (sym c.live.ensures ∙ c.if-live-ne0.false)),
     )
 

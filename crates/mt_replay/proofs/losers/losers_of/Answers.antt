@@ -16,14 +16,14 @@ loop-i-preserved c =
     let i = c.loop-i.i - 1 in
     let some = c.loop-i-test.true in let inside = c.loop-i.invariant.inside in
     let next : i + 1 ≡ c.loop-i.i = omega arith in
-    let tells = c.in_ok-tell_batch.ensures.tells in
+    let passes = c.in_ok-pass_batch.ensures.passes in
     record {
       inside = omega arith;
-      outcome = subst (λ (rs : List Record). HasRecorded c.tell_batch.new.self rs)
+      outcome = subst (λ (rs : List Record). HasRecorded c.pass_batch.new.self rs)
           (sym (joined_at bs i b (omega arith) c.index-batches-i.is ∙ (λ j. b.records.items ++ joined (records_of (drop (next j) bs)))))
-          (tells.outcome (joined (records_of (drop c.loop-i.i bs))) c.loop-i.invariant.outcome);
-      ended = tells.ended bs (i, (omega arith), sym c.index-batches-i.is) c.loop-i.invariant.ended;
+          (passes.outcome (joined (records_of (drop c.loop-i.i bs))) c.loop-i.invariant.outcome);
+      ended = passes.ended bs (i, (omega arith), sym c.index-batches-i.is) c.loop-i.invariant.ended;
     }
 
 pub returns-clause-ended : goal.returns-clause-ended
-returns-clause-ended c = subst (λ (ls : List Loser). AllByRecursion (HasEnded c.args.batches.now) ls) (sym c.into_losers.ensures) (all_reverse (HasEnded c.args.batches.now) c.loop-i.telling.losers.items c.loop-i.invariant.ended)
+returns-clause-ended c = subst (λ (ls : List Loser). AllByRecursion (HasEnded c.args.batches.now) ls) (sym c.into_losers.ensures) (all_reverse (HasEnded c.args.batches.now) c.loop-i.pass.losers.items c.loop-i.invariant.ended)

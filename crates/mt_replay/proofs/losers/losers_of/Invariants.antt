@@ -8,8 +8,8 @@ use Rattle.mt_replay.proofs.losers.losers_of.Given as goal
 abbrev pub invariant-loop-i : goal.invariant-loop-i
 invariant-loop-i l = record {
   inside : l.i ≤ length l.batches;
-  outcome : HasRecorded l.telling (joined (records_of (drop l.i l.batches)));
-  ended : AllByRecursion (HasEnded l.batches) l.telling.losers.items;
+  outcome : HasRecorded l.pass (joined (records_of (drop l.i l.batches)));
+  ended : AllByRecursion (HasEnded l.batches) l.pass.losers.items;
 }
 
 abbrev pub decreases-loop-i : goal.decreases-loop-i

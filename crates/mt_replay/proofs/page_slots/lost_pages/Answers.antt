@@ -1,5 +1,5 @@
 use Rattle.std.proofs.Common.{ℕ, Bool, [], false, get_or, arith}
-use Rattle.mt_replay.specs.Marking.{TellsLost}
+use Rattle.mt_replay.specs.Marking.{FindsLost}
 use Rattle.mt_replay.proofs.Walking.{each_more, length_more}
 use Rattle.mt_replay.proofs.Marks.{lost_of}
 use Rattle.mt_replay.proofs.page_slots.lost_pages.Goals as goal
@@ -14,7 +14,7 @@ loop-page-preserved c =
     let found = c.args.found.now in
     record {
       size = length_more lost c.push.new.self.items c.is_lost.result page was.size c.in_ok-push.ensures.items;
-      each = each_more (λ (p : ℕ) (b : Bool). TellsLost (get_or pages p []) (get_or imaged p false) (get_or found p []) b) lost c.push.new.self.items c.is_lost.result false page was.size c.in_ok-push.ensures.items was.each c.is_lost.ensures;
+      each = each_more (λ (p : ℕ) (b : Bool). FindsLost (get_or pages p []) (get_or imaged p false) (get_or found p []) b) lost c.push.new.self.items c.is_lost.result false page was.size c.in_ok-push.ensures.items was.each c.is_lost.ensures;
     }
 
 pub returns : goal.returns

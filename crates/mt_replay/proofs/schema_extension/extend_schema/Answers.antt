@@ -4,7 +4,7 @@ use Rattle.mt_disk.proofs.Frame.{reads_on}
 use Rattle.mt_frame.specs.declared.slots.MasterSlot.{MasterSlot}
 use Rattle.mt_log.proofs.Turns.{ruling_fits}
 use Rattle.mt_pool.specs.Images.{slot}
-use Rattle.mt_replay.specs.Marking.{IsMarked, MarksLost, TellsLost}
+use Rattle.mt_replay.specs.Marking.{IsMarked, MarksLost, FindsLost}
 use Rattle.mt_replay.proofs.Extending.{checked_more, marks_more}
 use Rattle.mt_replay.proofs.schema_extension.extend_schema.Goals as goal
 
@@ -37,7 +37,7 @@ returns-clause-marked g c =
     let page : c.index.result.now ≡ get_or new 2 [] = get_or_read_under new 2 (length new) c.index.result.now [] (subst (λ (i : ℕ). c.index.result.now ≡ get_or new i c.index.result.now) c.from-at.ensures c.index.ensures) (omega (arith, three, many)) refl in
     let imaged : c.index-2.result.now ≡ get_or x.imaged.items 2 false = get_or_read_under x.imaged.items 2 (length x.imaged.items) c.index-2.result.now false (subst (λ (i : ℕ). c.index-2.result.now ≡ get_or x.imaged.items i c.index-2.result.now) c.from-at.ensures c.index-2.ensures) (omega (arith, three, marks)) refl in
     let bytes : c.read_slot.new.bytes ≡ slot 8192 seen 2 = c.in_ok-read_slot.ensures.read ∙ ap (λ (p : ℕ). slot 8192 seen p) c.new.ensures in
-    let outcome : TellsLost (get_or new 2 []) (get_or x.imaged.items 2 false) (slot 8192 seen 2) c.is_lost.result = subst (λ (X : Type 0). X) (λ i. TellsLost (page i) (imaged i) (bytes i) c.is_lost.result) c.is_lost.ensures in
+    let outcome : FindsLost (get_or new 2 []) (get_or x.imaged.items 2 false) (slot 8192 seen 2) c.is_lost.result = subst (λ (X : Type 0). X) (λ i. FindsLost (page i) (imaged i) (bytes i) c.is_lost.result) c.is_lost.ensures in
     record {
       batches = k.batches;
       area = k.area;

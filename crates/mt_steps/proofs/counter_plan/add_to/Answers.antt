@@ -18,7 +18,7 @@ use Rattle.mt_space.proofs.Changing.{replaced_other}
 use Rattle.mt_steps.proofs.Modest.{modest_nothing, modest_same, file_empties}
 use Rattle.mt_overlay.proofs.Overlaid.{all_at_hand}
 use Rattle.mt_steps.proofs.Adding.{file_kept, adds_done, adds_nothing}
-use Rattle.mt_steps.specs.Tells.{TakesNone}
+use Rattle.mt_steps.specs.PlanAnswers.{TakesNone}
 use Rattle.mt_steps.proofs.Apart.{records_stay}
 use Rattle.mt_steps.proofs.Naming.{quiet_none, same_none}
 use Rattle.mt_steps.proofs.counter_plan.add_to.Goals as goal

@@ -7,7 +7,7 @@ use Rattle.mt_model.specs.declared.operations.Op.TheVariants.{Delete}
 use Rattle.mt_model.specs.declared.operations.Reply.TheVariants.{Missing}
 use Rattle.mt_base.specs.declared.modes.Mode.TheVariants.{Read}
 use Rattle.std.proofs.lemmas.Result.{IfOk-weaker}
-use Rattle.mt_steps.proofs.Telling.{lock_reported, asks_reported, made_reported, full_reported, broken_reported}
+use Rattle.mt_steps.proofs.Answered.{lock_reported, asks_reported, made_reported, full_reported, broken_reported}
 use Rattle.mt_steps.proofs.Asking.{bucket_inside, looks_to_write}
 use Rattle.mt_steps.proofs.Modest.{modest_nothing}
 use Rattle.mt_steps.specs.Acts.{IsAct}
@@ -51,9 +51,9 @@ returns-in-Need-clause-plans g c = record {
   lock = ∥∥₁_elim c.requires.good (hlevel props) (λ fact.
       let good = fact.1 in
       let asks = c.in-Need.ensures.need in
-      (asks.missing, bucket_inside (g.V.Pages.total c.args.views.now) c.args.key.now good.0 good.2 Read c.in-Need.page c.in-Need.mode good.3.index (asks.role good.0 good.1 good.2 good.3.index)));
+      (asks.missing, bucket_inside (g.V.Pages.total c.args.views.now) c.args.key.now good.0 good.2 Read c.in-Need.page Read good.3.index (asks.role good.0 good.1 good.2 good.3.index)));
   asks = λ room split. inl (λ pages agrees m maps.
-      looks_to_write c.args.key.now (g.V.Pages.total c.args.views.now) pages m c.in-Need.page c.in-Need.mode c.to_write.result maps c.to_write.ensures.directory c.to_write.ensures.others (c.in-Need.ensures.need.role pages agrees m maps));
+      looks_to_write c.args.key.now (g.V.Pages.total c.args.views.now) pages m c.in-Need.page c.mode_to_write.result maps c.mode_to_write.ensures.directory c.mode_to_write.ensures.others (c.in-Need.ensures.need.role pages agrees m maps));
   made = search rules;
   modest = search rules;
   takes = search rules;

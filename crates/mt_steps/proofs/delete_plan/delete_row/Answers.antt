@@ -8,9 +8,9 @@ use Rattle.mt_index.specs.Maps.{Map}
 use Rattle.mt_steps.specs.Held.{AreRows}
 use Rattle.mt_file.proofs.Filed.{record_kind}
 use Rattle.mt_steps.proofs.Single.{lock_some}
-use Rattle.mt_steps.proofs.Telling.{tells_weaker}
+use Rattle.mt_steps.proofs.Answered.{answers_weaker}
 use Rattle.mt_steps.specs.Plans.{HasStood}
-use Rattle.mt_steps.specs.Tells.{HasTaken}
+use Rattle.mt_steps.specs.PlanAnswers.{HasTaken}
 use Rattle.mt_steps.proofs.Asking.{stands_in, removal_needs, step_at_hand}
 use Rattle.mt_steps.proofs.Rows.{row_of}
 use Rattle.mt_steps.proofs.Leaving.{removal_fits, removal_takes}
@@ -37,7 +37,7 @@ returns-in-Need g c =
     let is = c.requires.named pages agrees m rows.index in
     let named = rows.named.names c.args.relation c.args.key.now n is in
     let need = c.in-Need.ensures pages agrees rows.file (record_kind pages n.page n.slot _ named.1) in
-    let own = stands_in relations (g.V.Pages.total c.args.views.now) pages m n c.args.relation c.args.key.now c.in-Need.page rows is need.2 in
+    let own = stands_in relations (g.V.Pages.total c.args.views.now) pages m n c.args.relation c.args.key.now c.in-Need.page rows is need.1 in
     ((need.0, own.0), own.1) in
     let asked = lock_some (g.V.Pages.at_hand c.args.views.now) (g.V.Pages.total c.args.views.now) c.in-Need.page (∥∥₁_map c.requires.good (λ fact. let good = fact.1 in (outcome fact.0 good.0 good.1 good.2 good.3).0)) in
     (asked.0, asked.1, λ relations pages agrees m rows so. inr (refl, inl (outcome relations pages agrees m rows).1))
@@ -61,7 +61,7 @@ returns-in-Need-2 g c =
     let outcome = λ (relations : ℕ) (pages : PageBytes) (agrees : Agrees (g.V.Pages.at_hand c.args.views.now) pages) (m : Map) (rows : AreRows relations (g.V.Pages.total c.args.views.now) pages m).
     let is = c.requires.named pages agrees m rows.index in
     let named = rows.named.names c.args.relation c.args.key.now n is in
-    removal_needs (g.V.Pages.at_hand c.args.views.now) relations (g.V.Pages.total c.args.views.now) pages m n c.args.relation c.args.key.now named.0 c.in-Need-2.page c.in-Need-2.mode c.in_ok-page.field-0 c.in-Need-2.is rows is named.1
+    removal_needs (g.V.Pages.at_hand c.args.views.now) relations (g.V.Pages.total c.args.views.now) pages m n c.args.relation c.args.key.now named.0 c.in-Need-2.page c.in_ok-page.field-0 c.in-Need-2.is rows is named.1
     (c.in_ok-page.ensures.removal pages _ agrees rows.file named.1) in
     let asked = lock_some (g.V.Pages.at_hand c.args.views.now) (g.V.Pages.total c.args.views.now) c.in-Need-2.page (∥∥₁_map c.requires.good (λ fact. let good = fact.1 in let t = outcome fact.0 good.0 good.1 good.2 good.3 in (t.0, t.1))) in
     (asked.0, asked.1, λ relations pages agrees m rows so. (outcome relations pages agrees m rows).2)
@@ -102,7 +102,7 @@ returns g c =
       is,
       removal_takes at_hand pages n _ c.in_ok-page.field-0 c.in-Done.plan c.in-Done.is (c.in_ok-page.ensures.removal pages _ agrees rows.file named.1) (c.in_ok-page.ensures.short pages _ agrees rows.file named.1) stood,
     ) in
-    IfOk-weaker c.drop_entry.result _ _ (tells_weaker at_hand total _ _ _ _ ⊥ ⊥ (λ p mode asks relations pages agrees m rows so. inl (asks relations pages agrees m rows (taken relations pages agrees m rows))) (λ changes reply done. record {
+    IfOk-weaker c.drop_entry.result _ _ (answers_weaker at_hand total _ _ _ _ ⊥ ⊥ (λ p mode asks relations pages agrees m rows so. inl (asks relations pages agrees m rows (taken relations pages agrees m rows))) (λ changes reply done. record {
       there = done.there;
       few = done.few;
       idle = done.idle;

@@ -14,13 +14,13 @@ use Rattle.mt_base.specs.declared.modes.Mode.TheVariants.{Write}
 use Rattle.mt_steps.specs.Logged.{logged_of}
 use Rattle.mt_model.specs.declared.operations.Reply.TheVariants.{Was}
 use Rattle.mt_steps.proofs.Single.{lock_some}
-use Rattle.mt_steps.proofs.Telling.{tells_weaker, logs_something}
+use Rattle.mt_steps.proofs.Answered.{answers_weaker, logs_something}
 use Rattle.mt_steps.proofs.Asking.{amend_needs, bucket_inside, shown_at_hand, few_more}
 use Rattle.mt_steps.proofs.Crowding.{bucket_before}
 use Rattle.mt_steps.proofs.Modest.{taken_modest, amended_modest, modest_trans}
 use Rattle.mt_steps.specs.Plans.{IsModest}
 use Rattle.mt_steps.proofs.Leaving.{amended_is, amend_missing_is, amend_endless_is, taken_map, taken_leaves, taken_form, left}
-use Rattle.mt_steps.specs.Tells.{TakesNone}
+use Rattle.mt_steps.specs.PlanAnswers.{TakesNone}
 use Rattle.mt_steps.proofs.Acting.{amends_file}
 use Rattle.mt_steps.proofs.Naming.{taken_none}
 use Rattle.mt_steps.proofs.delete_plan.drop_entry.Goals as goal
@@ -94,7 +94,7 @@ returns-in-Changes g c =
     let one : length second ≤ 1 = ∥∥₁_elim c.requires.good (hlevel props) (λ fact.
     let good = fact.1 in
     (outcome (after first good.0) (c.in_ok-overlay.ensures.agrees good.0 good.1) good.2 (taken_map fact.0 total good.0 good.2 first c.args.name.now _ good.3 (fact.2 good.0 good.1 good.2 good.3).1)).one) in
-    IfOk-weaker c.join.result _ _ (tells_weaker at_hand total _ _ _ _ ⊥ ⊥ (λ p mode never. absurd never) (λ changes reply joined. record {
+    IfOk-weaker c.join.result _ _ (answers_weaker at_hand total _ _ _ _ ⊥ ⊥ (λ p mode never. absurd never) (λ changes reply joined. record {
       there = joined.there;
       few = few_more _ _ _ 1 1 8 joined.few c.requires.few one (omega arith);
       idle = λ none. logs_something (logged_of (Delete c.args.relation c.args.key.now)) reply (Was c.args.old) _ joined.same refl none;

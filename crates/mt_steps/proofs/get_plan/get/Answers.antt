@@ -1,6 +1,6 @@
 use mathlib.Core.Logic.{∥∥₁_elim, ∥∥₁_map}
 use Rattle.std.proofs.Props.{props}
-use Rattle.std.proofs.Common.{rules, inl, inr, arith, ◌≡◌, ◌∙◌, ⊎_elim, ℕ, List, Option, None, Some, refl, sym, ap}
+use Rattle.std.proofs.Common.{rules, inl, inr, arith, ◌≡◌, ◌∙◌, ℕ, List, Option, None, Some, refl, sym, ap}
 use Rattle.mt_base.specs.declared.modes.Mode.TheVariants.{Read}
 use Rattle.mt_space.specs.Kinds.{kind}
 use Rattle.mt_slots.specs.Page.{Row}
@@ -25,10 +25,9 @@ returns-in-Need-clause-plans g c = record {
   lock = ∥∥₁_elim c.requires.good (hlevel props) (λ fact.
       let good = fact.1 in
       let asks = c.in-Need.ensures.need in
-      (asks.missing, bucket_inside (g.V.Pages.total c.args.views.now) c.args.key.now good.0 good.2 Read c.in-Need.page c.in-Need.mode good.3.index (asks.role good.0 good.1 good.2 good.3.index)));
+      (asks.missing, bucket_inside (g.V.Pages.total c.args.views.now) c.args.key.now good.0 good.2 Read c.in-Need.page Read good.3.index (asks.role good.0 good.1 good.2 good.3.index)));
   asks = λ room split. inl c.in-Need.ensures.need.role;
-  mode = ∥∥₁_elim c.requires.good (hlevel props) (λ fact.
-      let good = fact.1 in ⊎_elim (λ d. d.1) (λ b. b.1) (c.in-Need.ensures.need.role good.0 good.1 good.2 good.3.index));
+  mode = refl;
   made = search rules;
   quiet = search rules;
   idle = search rules;
@@ -77,17 +76,14 @@ returns-in-Need-plan_read-clause-plans g c = record {
       let good = fact.1 in
       let named = good.3.named.names c.args.relation c.args.key.now c.in-Found.name (c.in-Found.ensures.found good.0 good.1 good.2 good.3.index) in
       let outcome = c.in-Need-plan_read.ensures good.0 good.1 good.3.file (record_kind good.0 c.in-Found.name.page c.in-Found.name.slot _ named.1) in
-      (outcome.0, kind_inside (g.V.Pages.total c.args.views.now) good.0 good.2 c.in-Need-plan_read.page 3 good.3.index (ap (λ (p : ℕ). kind good.0 p) outcome.2 ∙ record_kind good.0 c.in-Found.name.page c.in-Found.name.slot _ named.1) (omega arith)));
+      (outcome.0, kind_inside (g.V.Pages.total c.args.views.now) good.0 good.2 c.in-Need-plan_read.page 3 good.3.index (ap (λ (p : ℕ). kind good.0 p) outcome.1 ∙ record_kind good.0 c.in-Found.name.page c.in-Found.name.slot _ named.1) (omega arith)));
   asks = λ room split.
-      let outcome : (g.V.Pages.at_hand c.args.views.now c.in-Need-plan_read.page ≡ None) × (c.in-Need-plan_read.mode ≡ Read) × (c.in-Need-plan_read.page ≡ c.in-Found.name.page) = ∥∥₁_elim c.requires.good (hlevel props) (λ fact.
+      let outcome : (g.V.Pages.at_hand c.args.views.now c.in-Need-plan_read.page ≡ None) × (c.in-Need-plan_read.page ≡ c.in-Found.name.page) = ∥∥₁_elim c.requires.good (hlevel props) (λ fact.
       let good = fact.1 in
       let named = good.3.named.names c.args.relation c.args.key.now c.in-Found.name (c.in-Found.ensures.found good.0 good.1 good.2 good.3.index) in
       c.in-Need-plan_read.ensures good.0 good.1 good.3.file (record_kind good.0 c.in-Found.name.page c.in-Found.name.slot _ named.1)) in
-      inr (c.in-Found.name.slot, λ pages agrees m maps. c.in-Found.ensures.found pages agrees m maps ∙ ap (λ (p : ℕ). Some (record { page = p; slot = c.in-Found.name.slot })) (sym outcome.2), outcome.1);
-  mode = ∥∥₁_elim c.requires.good (hlevel props) (λ fact.
-      let good = fact.1 in
-      let named = good.3.named.names c.args.relation c.args.key.now c.in-Found.name (c.in-Found.ensures.found good.0 good.1 good.2 good.3.index) in
-      (c.in-Need-plan_read.ensures good.0 good.1 good.3.file (record_kind good.0 c.in-Found.name.page c.in-Found.name.slot _ named.1)).1);
+      inr (c.in-Found.name.slot, λ pages agrees m maps. c.in-Found.ensures.found pages agrees m maps ∙ ap (λ (p : ℕ). Some (record { page = p; slot = c.in-Found.name.slot })) (sym outcome.1), refl);
+  mode = refl;
   made = search rules;
   quiet = search rules;
   idle = search rules;

@@ -14,12 +14,12 @@ use Rattle.mt_overlay.specs.Overlays.{shown}
 use Rattle.mt_steps.specs.Logged.{logged_of}
 use Rattle.mt_model.specs.declared.operations.Reply.TheVariants.{Done}
 use Rattle.mt_steps.proofs.Single.{lock_some}
-use Rattle.mt_steps.proofs.Telling.{tells_weaker, logs_something}
+use Rattle.mt_steps.proofs.Answered.{answers_weaker, logs_something}
 use Rattle.mt_steps.proofs.Asking.{add_needs, add_inside, shown_at_hand, few_more}
 use Rattle.mt_overlay.proofs.Overlaid.{below_some}
 use Rattle.mt_steps.proofs.Modest.{placed_modest, added_modest, modest_trans, modest_more, insert_needs, shortage_few}
 use Rattle.mt_steps.proofs.Entering.{added_is, full_is, endless_is, placed_map, placed_leaves, entered}
-use Rattle.mt_steps.specs.Tells.{TakesAlone}
+use Rattle.mt_steps.specs.PlanAnswers.{TakesAlone}
 use Rattle.mt_steps.proofs.Naming.{placed_kinds, placed_alone, added_alone}
 use Rattle.mt_steps.proofs.insert_plan.add_entry.Goals as goal
 
@@ -106,7 +106,7 @@ returns-in-Changes g c = λ value.
     let few : length second ≤ 5 = ∥∥₁_elim c.requires.good (hlevel props) (λ fact.
     let good = fact.3 in
     (outcome (after first good.0) (c.in_ok-overlay.ensures.agrees good.0 good.1) good.2 (placed_map fact.0 total good.0 good.2 first name _ good.3 (fact.4 good.0 good.1 good.2 good.3 good.4))).few) in
-    IfOk-weaker c.join.result _ _ (tells_weaker at_hand total _ _ _ _ ⊥ _ (λ p mode never. absurd never) (λ changes reply joined. record {
+    IfOk-weaker c.join.result _ _ (answers_weaker at_hand total _ _ _ _ ⊥ _ (λ p mode never. absurd never) (λ changes reply joined. record {
       there = joined.there;
       few = few_more _ _ _ 2 5 8 joined.few c.requires.few few (omega arith);
       idle = λ none. logs_something (logged_of (Insert c.args.relation c.args.key.now value)) reply Done _ joined.same refl none;

@@ -1,5 +1,5 @@
 use mathlib.Core.Logic.{∥∥₁_map}
-use Rattle.std.proofs.Common.{ℕ, [], inl, inr, ⊎_elim, subst, arith}
+use Rattle.std.proofs.Common.{ℕ, [], inl, inr, ⊎_elim, subst, arith, refl}
 use Rattle.std.proofs.lemmas.Result.{IfOk-weaker}
 use Rattle.mt_slots.specs.Page.{Row}
 use Rattle.mt_model.specs.declared.operations.Op.TheVariants.{Insert}
@@ -9,7 +9,7 @@ use Rattle.mt_steps.specs.Held.{AreRows}
 use Rattle.mt_index.specs.Maps.{Map}
 use Rattle.mt_space.specs.Changes.{PageBytes, Agrees, after}
 use Rattle.mt_steps.proofs.Single.{lock_some}
-use Rattle.mt_steps.proofs.Telling.{tells_weaker}
+use Rattle.mt_steps.proofs.Answered.{answers_weaker}
 use Rattle.mt_steps.proofs.Asking.{put_needs, step_at_hand}
 use Rattle.mt_steps.proofs.Entering.{placed_is}
 use Rattle.mt_steps.proofs.Modest.{insert_needs, too_full}
@@ -36,9 +36,9 @@ returns-in-Need g c =
     let at_hand = g.V.Pages.at_hand c.args.views.now in
     let total = g.V.Pages.total c.args.views.now in
     let outcome = λ (relations : ℕ) (pages : PageBytes) (agrees : Agrees at_hand pages) (m : Map) (rows : AreRows relations total pages m) (named : IsNamed c.args.room pages).
-    put_needs at_hand c.args.room total pages m _ c.in-Need.page c.in-Need.mode c.in_ok-page.field-0 c.in-Need.is rows.index named (c.in_ok-page.ensures.put pages agrees rows.file named) in
+    put_needs at_hand c.args.room total pages m _ c.in-Need.page c.in_ok-page.field-0 c.in-Need.is rows.index named (c.in_ok-page.ensures.put pages agrees rows.file named) in
     let asked = lock_some at_hand total c.in-Need.page (∥∥₁_map c.requires.good (λ fact. let good = fact.1 in let t = outcome fact.0 good.0 good.1 good.2 good.3 good.4 in (t.0, t.1))) in
-    (asked.0, asked.1, λ relations pages agrees m rows named. inl (outcome relations pages agrees m rows named).2)
+    (asked.0, asked.1, λ relations pages agrees m rows named. inl (refl, (outcome relations pages agrees m rows named).2))
 
 pub add_entry-requires-clause-there : goal.add_entry-requires-clause-there
 add_entry-requires-clause-there g c = step_at_hand (g.V.Pages.at_hand c.args.views.now) c.in_ok-page.field-0 c.in-Done.plan c.in-Done.is c.in_ok-page.ensures.there
@@ -57,7 +57,7 @@ returns g c =
     let put = λ (relations : ℕ) (pages : PageBytes) (agrees : Agrees at_hand pages) (m : Map) (rows : AreRows relations total pages m) (named : IsNamed c.args.room pages).
     placed_is at_hand c.args.room relations total pages m _ c.in_ok-page.field-0 c.in-Done.plan c.in-Done.is rows named
     (c.in_ok-page.ensures.put pages agrees rows.file named) (c.in_ok-page.ensures.short pages agrees rows.file named) in
-    IfOk-weaker c.add_entry.result _ _ (tells_weaker at_hand total _ _ _ _ _ _ (λ p mode asks relations pages agrees m rows named.
+    IfOk-weaker c.add_entry.result _ _ (answers_weaker at_hand total _ _ _ _ _ _ (λ p mode asks relations pages agrees m rows named.
     let outcome = subst (λ (x : Step). IsPut at_hand c.args.room total [] pages (record { relation = c.args.relation; key = c.args.key.now; value = c.args.value.now }) x) c.in-Done.is (c.in_ok-page.ensures.put pages agrees rows.file named) in
     inr (after c.in-Done.plan.changes.list.items pages, (c.in-Done.plan.name, outcome.1, outcome.0), asks relations pages agrees m rows (put relations pages agrees m rows named)))
     (λ changes reply done. record {

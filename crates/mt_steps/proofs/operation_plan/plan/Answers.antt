@@ -8,7 +8,7 @@ use Rattle.mt_model.specs.Model.{IsWithin}
 use Rattle.mt_steps.specs.Acts.{IfLock}
 use Rattle.mt_steps.specs.Asks.{AsksFor, HasSearched}
 use Rattle.mt_steps.proofs.Promised.{ok_both, asks_same, lock_both, rows_planned, whole_planned, good_planned, quiet_planned, counts_planned, read_planned, rows_full, never_full}
-use Rattle.mt_steps.proofs.Telling.{two_inside}
+use Rattle.mt_steps.proofs.Answered.{two_inside}
 use Rattle.mt_steps.proofs.Naming.{roomy_reported, none_reported, quiet_reported}
 use Rattle.mt_steps.proofs.Single.{IsStep-prop}
 use Rattle.mt_steps.proofs.operation_plan.plan.Goals as goal

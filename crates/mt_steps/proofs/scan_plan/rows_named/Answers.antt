@@ -3,7 +3,6 @@ use Rattle.std.proofs.Props.{props}
 use Rattle.std.proofs.Common.{rules, ◌≡◌, inr, ℕ, ◌+◌, ◌<◌, ◌++◌, ◌∷◌, [], None, Some, length, get_or, length-append, refl, sym, ap, ◌∙◌, subst, arith}
 use Rattle.std.proofs.lemmas.List.{get_or_default}
 use Rattle.std.specs.Prelude.{Contains}
-use Rattle.mt_base.specs.declared.modes.Mode.TheVariants.{Read}
 use Rattle.mt_base.specs.declared.numbers.RecordName.{RecordName}
 use Rattle.mt_rows.specs.declared.rows.Row as base
 use Rattle.mt_slots.specs.Page.{Row}
@@ -27,29 +26,29 @@ plan_read-requires-clause-good g c = ∥∥₁_map c.requires.good (λ fact.
 pub returns-in-Need : goal.returns-in-Need
 returns-in-Need g c =
     let name = c.name-item.result in
-    let outcome : (g.V.Pages.at_hand c.args.views.now c.in-Need.page ≡ None) × (c.in-Need.mode ≡ Read) × (c.in-Need.page ≡ name.page) × (name.page < g.V.Pages.total c.args.views.now) =
+    let outcome : (g.V.Pages.at_hand c.args.views.now c.in-Need.page ≡ None) × (c.in-Need.page ≡ name.page) × (name.page < g.V.Pages.total c.args.views.now) =
     ∥∥₁_elim c.requires.good (hlevel props) (λ fact.
     let good = fact.1 in
     let stood = stands c.args.relation good.0 good.2 good.3.named c.args.names.now (c.requires.named good.0 good.1 good.2 good.3.index) c.loop-name.name-index name (omega arith) in
     let at = subst (λ (n : RecordName). record_in good.0 n.page n.slot ≡ Some (record { relation = c.args.relation; key = stood.0; value = stood.1 })) (sym c.name-item.is) stood.2 in
     let of_records : kind good.0 name.page ≡ 3 = record_kind good.0 name.page name.slot _ at in
     let needs = c.in-Need.ensures good.0 good.1 good.3.file of_records in
-    (needs.0, needs.1, needs.2, kind_inside (g.V.Pages.total c.args.views.now) good.0 good.2 name.page 3 good.3.index of_records (omega arith))) in
+    (needs.0, needs.1, kind_inside (g.V.Pages.total c.args.views.now) good.0 good.2 name.page 3 good.3.index of_records (omega arith))) in
     record {
-      lock = (outcome.0, subst (λ (q : ℕ). q < g.V.Pages.total c.args.views.now) (sym outcome.2) outcome.3);
+      lock = (outcome.0, subst (λ (q : ℕ). q < g.V.Pages.total c.args.views.now) (sym outcome.1) outcome.2);
       asks = λ room split. inr (
         (
           c.args.names.now,
           c.requires.named,
           (
             name.slot,
-            subst (λ (q : ℕ). Contains c.args.names.now (record { page = q; slot = name.slot })) (sym outcome.2)
+            subst (λ (q : ℕ). Contains c.args.names.now (record { page = q; slot = name.slot })) (sym outcome.1)
                 (c.loop-name.name-index, omega arith, sym c.name-item.is),
           ),
         ),
-        outcome.1,
+        refl,
       );
-      mode = outcome.1;
+      mode = refl;
       made = search rules;
       quiet = search rules;
       idle = search rules;

@@ -66,8 +66,7 @@ returns-in-Need-clause-plans g c =
             (asks.role good.0 good.1 good.2 good.3.index).0),
       );
       asks = λ room split. inl asks.role;
-      mode = ∥∥₁_elim c.requires.good (hlevel props) (λ fact.
-          let good = fact.1 in (asks.role good.0 good.1 good.2 good.3.index).1);
+      mode = refl;
       made = search rules;
       quiet = search rules;
       idle = search rules;

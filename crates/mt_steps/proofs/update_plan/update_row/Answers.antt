@@ -8,9 +8,9 @@ use Rattle.mt_file.proofs.Filed.{record_kind}
 use Rattle.mt_model.specs.declared.operations.Op.TheVariants.{Update}
 use Rattle.mt_model.specs.declared.operations.Reply.TheVariants.{Was}
 use Rattle.mt_steps.specs.Acts.{IsMoved}
-use Rattle.mt_steps.specs.Tells.{Does}
+use Rattle.mt_steps.specs.PlanAnswers.{Does}
 use Rattle.mt_steps.proofs.Single.{lock_some}
-use Rattle.mt_steps.proofs.Telling.{tells_weaker}
+use Rattle.mt_steps.proofs.Answered.{answers_weaker}
 use Rattle.mt_steps.specs.Plans.{HasStood}
 use Rattle.mt_file.specs.File.{record_in}
 use Rattle.mt_steps.proofs.Asking.{stands_in, replacement_needs, step_at_hand}
@@ -48,7 +48,7 @@ returns-in-Need g c =
     let is = c.requires.named pages agrees m rows.index in
     let named = rows.named.names c.args.relation c.args.key.now n is in
     let need = c.in-Need.ensures pages agrees rows.file (record_kind pages n.page n.slot _ named.1) in
-    let own = stands_in relations (g.V.Pages.total c.args.views.now) pages m n c.args.relation c.args.key.now c.in-Need.page rows is need.2 in
+    let own = stands_in relations (g.V.Pages.total c.args.views.now) pages m n c.args.relation c.args.key.now c.in-Need.page rows is need.1 in
     ((need.0, own.0), own.1) in
     let asked = lock_some (g.V.Pages.at_hand c.args.views.now) (g.V.Pages.total c.args.views.now) c.in-Need.page (∥∥₁_map c.requires.good (λ fact. let good = fact.1 in (outcome fact.0 good.0 good.1 good.2 good.3).0)) in
     (asked.0, asked.1, λ relations pages agrees m rows so. inl (refl, (outcome relations pages agrees m rows).1))
@@ -72,7 +72,7 @@ returns-in-Need-2 g c =
     let outcome = λ (relations : ℕ) (pages : PageBytes) (agrees : Agrees (g.V.Pages.at_hand c.args.views.now) pages) (m : Map) (rows : AreRows relations (g.V.Pages.total c.args.views.now) pages m) (roomy : IsNamed c.args.room pages).
     let is = c.requires.named pages agrees m rows.index in
     let named = rows.named.names c.args.relation c.args.key.now n is in
-    replacement_needs (g.V.Pages.at_hand c.args.views.now) c.args.room relations (g.V.Pages.total c.args.views.now) pages m n c.args.relation c.args.key.now named.0 c.args.value.now c.in-Need-2.page c.in-Need-2.mode c.in_ok-page.field-0 c.in-Need-2.is rows roomy is named.1
+    replacement_needs (g.V.Pages.at_hand c.args.views.now) c.args.room relations (g.V.Pages.total c.args.views.now) pages m n c.args.relation c.args.key.now named.0 c.args.value.now c.in-Need-2.page c.in_ok-page.field-0 c.in-Need-2.is rows roomy is named.1
     (c.in_ok-page.ensures.replacement pages _ agrees rows.file roomy named.1) in
     let asked = lock_some (g.V.Pages.at_hand c.args.views.now) (g.V.Pages.total c.args.views.now) c.in-Need-2.page (∥∥₁_map c.requires.good (λ fact. let good = fact.1 in let t = outcome fact.0 good.0 good.1 good.2 good.3 good.4 in (t.0, t.1))) in
     (asked.0, asked.1, λ relations pages agrees m rows so. (outcome relations pages agrees m rows so).2)
@@ -173,7 +173,7 @@ returns g c =
           (replacement_is at_hand c.args.room relations total pages m n r c.args.value.now c.in_ok-page.field-0 c.in-Done.plan c.in-Done.is rows roomy
           (c.in_ok-page.ensures.replacement pages r agrees rows.file roomy stood) (c.in_ok-page.ensures.short pages r agrees rows.file roomy stood) stood),
     ) in
-    IfOk-weaker c.set_entry.result _ _ (tells_weaker at_hand total _ _ _ _ ⊥ _ (λ p mode asks relations pages agrees m rows roomy.
+    IfOk-weaker c.set_entry.result _ _ (answers_weaker at_hand total _ _ _ _ ⊥ _ (λ p mode asks relations pages agrees m rows roomy.
     let is = c.requires.named pages agrees m rows.index in
     let moved = moves relations pages agrees m rows roomy in
     inr (

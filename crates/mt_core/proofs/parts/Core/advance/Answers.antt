@@ -17,8 +17,8 @@ use Rattle.mt_op.specs.World.{left_of}
 use Rattle.mt_core.proofs.Advancing.{advanced, needs_claimed, steps_same}
 use Rattle.mt_op.specs.Work.{Works}
 use Rattle.mt_op.specs.Holds.{IsNext, KeepsLocks}
-use Rattle.mt_core.specs.Steps.{TellsOther}
-use Rattle.mt_core.proofs.Holders.{tells_other}
+use Rattle.mt_core.specs.Steps.{StepNamesOther}
+use Rattle.mt_core.proofs.Holders.{step_names_other}
 use Rattle.mt_core.proofs.Between.{step_appends, step_total}
 use Rattle.mt_core.proofs.Lasting.{lasts_same}
 use Rattle.mt_core.specs.Restartable.{StepAppends}
@@ -87,8 +87,8 @@ returns g c = record {
       let k = c.args.self.now in let r = c.index_mut.result.now in
       let q : OpScope = c.step.new.scope in
       let old : r ≡ x = c.index_mut.ensures.value ∙ sym (get_or_default k.running.items c.args.place x r c.requires.within) ∙ sym at in
-      subst (λ (y : OpScope). TellsOther (set k.running.items c.args.place q) y.txn c.step.result) old
-      (tells_other k.running.items c.args.place r q (IsNext k.operations.rooms k.operations.locks r) k.operations.locks c.step.new.self.locks c.step.result c.requires.within c.index_mut.ensures.value safe.fit.apart safe.fit.locked c.step.ensures.steps.locks);
+      subst (λ (y : OpScope). StepNamesOther (set k.running.items c.args.place q) y.txn c.step.result) old
+      (step_names_other k.running.items c.args.place r q (IsNext k.operations.rooms k.operations.locks r) k.operations.locks c.step.new.self.locks c.step.result c.requires.within c.index_mut.ensures.value safe.fit.apart safe.fit.locked c.step.ensures.steps.locks);
   book = search rules;
   durable = search rules;
   moments = search rules;

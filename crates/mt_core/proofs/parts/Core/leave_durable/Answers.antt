@@ -10,7 +10,7 @@ use Rattle.mt_core.proofs.parts.Core.leave_durable.Goals as goal
 
 pub loop-booked-init : goal.loop-booked-init
 loop-booked-init g c = let within = c.durable_count-count.ensures.within in let same = ap (λ (xs : List Commit). length xs) c.as_slice.ensures.value in let room = c.requires.room in record {
-  left = record { state = λ origin base safe. record { consistent = safe; state = refl }; leaves = refl; tells = sym (append-nil c.args.names.now.items) };
+  left = record { state = λ origin base safe. record { consistent = safe; state = refl }; leaves = refl; named = sym (append-nil c.args.names.now.items) };
   room = omega arith;
   store = refl;
   running = refl;
@@ -62,7 +62,7 @@ returns-clause-left g c = λ origin base safe. let k = c.args.self.now in
     subst (λ n. IsIn g.D.Device origin base (booked_each (state_of k base) (txns_of (take n k.commits.items))) c.loop-booked.self) (let last = c.loop-booked.auto._booked-end in let done = c.loop-booked-test.false in let all : c.loop-booked._booked ≡ c.durable_count-count.result = omega arith in all ∙ c.durable_count-count.ensures.count ∙ ap (λ (xs : List Commit). durable_count xs c.args.place) c.as_slice.ensures.value) (c.loop-booked.invariant.left.state origin base safe)
 
 pub returns-clause-names : goal.returns-clause-names
-returns-clause-names g c = let k = c.args.self.now in c.loop-booked.invariant.left.tells ∙ ap (λ n. c.args.names.now.items ++ txns_of (take n k.commits.items)) (let last = c.loop-booked.auto._booked-end in let done = c.loop-booked-test.false in let all : c.loop-booked._booked ≡ c.durable_count-count.result = omega arith in all ∙ c.durable_count-count.ensures.count ∙ ap (λ (xs : List Commit). durable_count xs c.args.place) c.as_slice.ensures.value)
+returns-clause-names g c = let k = c.args.self.now in c.loop-booked.invariant.left.named ∙ ap (λ n. c.args.names.now.items ++ txns_of (take n k.commits.items)) (let last = c.loop-booked.auto._booked-end in let done = c.loop-booked-test.false in let all : c.loop-booked._booked ≡ c.durable_count-count.result = omega arith in all ∙ c.durable_count-count.ensures.count ∙ ap (λ (xs : List Commit). durable_count xs c.args.place) c.as_slice.ensures.value)
 
 pub returns-clause-rest : goal.returns-clause-rest
 returns-clause-rest g c = let k = c.args.self.now in c.loop-booked.invariant.left.leaves ∙ ap (λ n. drop n k.commits.items) (let last = c.loop-booked.auto._booked-end in let done = c.loop-booked-test.false in let all : c.loop-booked._booked ≡ c.durable_count-count.result = omega arith in all ∙ c.durable_count-count.ensures.count ∙ ap (λ (xs : List Commit). durable_count xs c.args.place) c.as_slice.ensures.value)

@@ -10,7 +10,7 @@ use Rattle.std.proofs.Common.{◌≤◌, List}
 use Rattle.std.specs.List.{remove}
 use Rattle.mt_op.specs.Work.{Works}
 use Rattle.mt_core.specs.Work.{Lowers, steps_in, undo_steps, effects_left, LowersUndo}
-use Rattle.mt_core.specs.Steps.{NamesOther, TellsOther}
+use Rattle.mt_core.specs.Steps.{NamesOther, StepNamesOther}
 use Rattle.mt_base.specs.declared.refusal.Refusal.{Refusal}
 use Rattle.mt_core.specs.declared.steps.Stepping.{Stepping}
 use Rattle.std.specs.Prelude.{Result}
@@ -134,7 +134,7 @@ returns-in-Ok-clause-stepped g c = record {
   locks = λ x at. let k = c.args.self.now in
       subst (KeepsLocks x.number (IsNext k.operations.rooms k.operations.locks x) k.operations.locks c.advance.new.self.operations.locks) (c.in_ok-stepped.was ∙ ap Ok c.in-Ok.ensures.going) (c.advance.ensures.locks x at);
   other = λ origin base safe x at.
-      other_on c.in-Ok.going c.advance.new.self.running.items x.txn (subst (TellsOther c.advance.new.self.running.items x.txn) (c.in_ok-stepped.was ∙ ap Ok c.in-Ok.ensures.going) (c.advance.ensures.other origin base safe x at));
+      other_on c.in-Ok.going c.advance.new.self.running.items x.txn (subst (StepNamesOther c.advance.new.self.running.items x.txn) (c.in_ok-stepped.was ∙ ap Ok c.in-Ok.ensures.going) (c.advance.ensures.other origin base safe x at));
   writes = let k = c.args.self.now in
       subst (WritesOnce (appended k.operations.store.log) (appended c.advance.new.self.operations.store.log)) (c.in_ok-stepped.was ∙ ap Ok c.in-Ok.ensures.going) c.advance.ensures.writes;
   durable = search rules;

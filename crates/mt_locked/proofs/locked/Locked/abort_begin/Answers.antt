@@ -1,6 +1,6 @@
 use Rattle.std.proofs.Common.{◌∙◌, ap}
 use Rattle.mt_locked.proofs.Keeping.{stays}
-use Rattle.mt_locked.proofs.Standings.{asked, goes_on, on_err_led}
+use Rattle.mt_locked.proofs.Standings.{asked, beside_on, goes_on, on_err_led}
 use Rattle.mt_locked.specs.Seen.{LockedSeen}
 use Rattle.mt_txn.specs.Seen.{seen_of}
 use Rattle.mt_txn.specs.declared.kernel.Kernel.{Kernel}
@@ -29,3 +29,6 @@ returns-clause-book g c =
     let list = c.self.inside.end.view.list in let k = c.in-Stands.kernel in let n = c.abort_begin.new.self in
     let on = goes_on b list c.self.inside.standing k n c.in-Stands.is (stays b k n c.abort_begin.ensures.state) c.abort_begin.ensures.restarts i.4 in
     on.1 ∙ ap (λ (l : LockedSeen _). l.book) c.self.view_is
+
+pub returns-clause-beside : goal.returns-clause-beside
+returns-clause-beside g c = beside_on c.self.inside.standing c.in-Stands.kernel c.abort_begin.new.self c.self.inside.end.view _ c.in-Stands.is c.self.view_is

@@ -1,7 +1,7 @@
 use Rattle.std.proofs.Common.{◌∙◌, ap}
 use Rattle.mt_model.specs.Views.{base_of}
 use Rattle.mt_locked.proofs.Keeping.{begins_one}
-use Rattle.mt_locked.proofs.Standings.{asked, at_once, goes_on}
+use Rattle.mt_locked.proofs.Standings.{asked, at_once, beside_on, goes_on}
 use Rattle.mt_locked.specs.Seen.{LockedSeen}
 use Rattle.mt_txn.proofs.Answering.{may_of}
 use Rattle.mt_locked.proofs.locked.Locked.begin.Goals as goal
@@ -25,3 +25,6 @@ returns-clause-book g c =
     let list = c.self.inside.end.view.list in let k = c.in-Stands.kernel in let n = c.begin.new.self in
     let on = goes_on b list c.self.inside.standing k n c.in-Stands.is (begins_one b k n c.args.session c.begin.result (λ s shows. c.begin.ensures.begun (base_of b) s shows) c.begin.ensures.err c.begin.ensures.schema) c.begin.ensures.restarts i.4 in
     on.1 ∙ ap (λ (l : LockedSeen _). l.book) c.self.view_is
+
+pub returns-clause-beside : goal.returns-clause-beside
+returns-clause-beside g c = beside_on c.self.inside.standing c.in-Stands.kernel c.begin.new.self c.self.inside.end.view _ c.in-Stands.is c.self.view_is

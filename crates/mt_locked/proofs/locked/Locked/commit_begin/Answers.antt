@@ -1,6 +1,6 @@
 use Rattle.std.proofs.Common.{◌∙◌, ap}
 use Rattle.mt_locked.proofs.Keeping.{stays}
-use Rattle.mt_locked.proofs.Standings.{asked, at_once, goes_on}
+use Rattle.mt_locked.proofs.Standings.{asked, at_once, beside_on, goes_on}
 use Rattle.mt_locked.specs.Seen.{LockedSeen}
 use Rattle.mt_locked.proofs.locked.Locked.commit_begin.Goals as goal
 
@@ -29,3 +29,6 @@ returns-clause-book g c =
     let list = c.self.inside.end.view.list in let k = c.in-Stands.kernel in let n = c.commit_begin.new.self in
     let on = goes_on b list c.self.inside.standing k n c.in-Stands.is (stays b k n c.commit_begin.ensures.state) c.commit_begin.ensures.restarts i.4 in
     on.1 ∙ ap (λ (l : LockedSeen _). l.book) c.self.view_is
+
+pub returns-clause-beside : goal.returns-clause-beside
+returns-clause-beside g c = beside_on c.self.inside.standing c.in-Stands.kernel c.commit_begin.new.self c.self.inside.end.view _ c.in-Stands.is c.self.view_is

@@ -5,7 +5,7 @@ use Rattle.mt_model.specs.Views.{base_of}
 use Rattle.mt_locked.specs.Seen.{LockedSeen}
 use Rattle.mt_txn.specs.Seen.{seen_of}
 use Rattle.mt_txn.specs.declared.kernel.Kernel.{Kernel}
-use Rattle.mt_locked.proofs.Standings.{asked, forces_on, reports}
+use Rattle.mt_locked.proofs.Standings.{asked, beside_on, forces_on, reports}
 use Rattle.mt_locked.proofs.locked.Locked.force_step.Goals as goal
 
 pub invariant_of-self-2 : goal.invariant_of-self-2
@@ -32,3 +32,6 @@ returns-clause-kernel g c =
       memory = λ is. ap (λ (x : Kernel _ _). seen_of x) (e.memory is);
       device = record { once = e.once; faults = reports _ _ c.force_step.result e.fails e.quiet };
     })
+
+pub returns-clause-beside : goal.returns-clause-beside
+returns-clause-beside g c = beside_on c.self.inside.standing c.in-Stands.kernel c.force_step.new.self c.self.inside.end.view _ c.in-Stands.is c.self.view_is

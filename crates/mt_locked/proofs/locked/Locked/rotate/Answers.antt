@@ -3,8 +3,8 @@ use Rattle.mt_mark.specs.Held.{Held}
 use Rattle.mt_mark.specs.Rule.{IsConfirmed, dones}
 use Rattle.std.specs.Prelude.{IfErr}
 use Rattle.mt_locked.specs.Seen.{LockedSeen, is_failed_in}
-use Rattle.mt_locked.specs.Standings.{KeepsHistory, book_in, kernel_in, seen_in}
-use Rattle.mt_locked.specs.Turns.{IsLeftAfter, IsTooEarlyIn, TurnsLogOver}
+use Rattle.mt_locked.specs.Standings.{KeepsHistory, book_in, kernel_in, left_in, seen_in}
+use Rattle.mt_locked.specs.Turns.{IsLeftAfter, IsLostByFault, IsTooEarlyIn, TurnsLogOver}
 use Rattle.mt_locked.proofs.Books.{dones-length}
 use Rattle.mt_locked.proofs.Uses.{too_early, too_soon}
 use Rattle.mt_locked.proofs.locked.Locked.rotate.Goals as goal
@@ -101,3 +101,12 @@ returns-else-ne-clause-failed g c = λ bad.
     let kernel = ap (λ (l : LockedSeen _). l.kernel) c.self.view_is in
     let failed = c.replace_with-outcome.ensures.failed (ap is_failed_in kernel ∙ bad) in
     (failed.0, ap kernel_in failed.1 ∙ kernel)
+
+pub returns-then-ne-clause-lost : goal.returns-then-ne-clause-lost
+returns-then-ne-clause-lost g c =
+    subst (λ (l : LockedSeen _). IsLostByFault g.D.Device c.args.self.now.kernel c.args.self.now.left l.left) (sym c.settle.ensures)
+    (subst (λ (l : LockedSeen _). IsLostByFault g.D.Device l.kernel l.left (left_in c.replace_with-outcome.new.dest)) c.self.view_is c.replace_with-outcome.ensures.lost)
+
+pub returns-else-ne-clause-lost : goal.returns-else-ne-clause-lost
+returns-else-ne-clause-lost g c =
+    subst (λ (l : LockedSeen _). IsLostByFault g.D.Device l.kernel l.left (left_in c.replace_with-outcome.new.dest)) c.self.view_is c.replace_with-outcome.ensures.lost

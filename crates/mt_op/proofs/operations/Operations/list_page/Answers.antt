@@ -1,6 +1,5 @@
 use Rattle.std.proofs.Common.{ℕ, List, ap, arith, get_or, sym, ◌∙◌}
-use Rattle.mt_model.specs.Views.{base_of, relations_of}
-use Rattle.mt_op.proofs.Surveyed.{idle_steady, kind_of, reads_none, records_page_of}
+use Rattle.mt_op.proofs.Surveyed.{idle_steady, kind_of, reads_none, shaped_page}
 use Rattle.mt_op.specs.Operations.{world}
 use Rattle.mt_op.specs.World.{held_in}
 use Rattle.mt_steps.proofs.Listed.{skip_page}
@@ -8,13 +7,13 @@ use Rattle.mt_op.proofs.operations.Operations.list_page.Goals as goal
 
 pub bounds-deref-from : goal.bounds-deref-from
 bounds-deref-from g c =
-    let few = (idle_steady g.D.Device (relations_of c.args.base.now) c.args.self.now c.requires.idle).few in
+    let few = (idle_steady g.D.Device c.args.self.now c.requires.idle).few in
     let inside = c.requires.inside in let same = c.from.ensures in omega arith
 
 pub returns-then-deref-from-ne-RECORDS-clause-listed : goal.returns-then-deref-from-ne-RECORDS-clause-listed
-returns-then-deref-from-ne-RECORDS-clause-listed g c = λ opening relations counters held right holds was.
+returns-then-deref-from-ne-RECORDS-clause-listed g c = λ opening relations counters right was.
     let D = g.D.Device in let o = c.args.self.now in
-    skip_page (held_in (world D opening o)) c.args.page (base_of c.args.base.now)
+    skip_page (held_in (world D opening o)) c.args.page c.args.rows.now.items
     (λ records. c.if-deref-from-ne-RECORDS.true (ap (λ (bytes : List ℕ). get_or bytes c.from.result 0) c.deref.ensures ∙ sym (kind_of D opening relations counters o c.args.page c.from.result right (c.from.ensures ∙ c.get.ensures)) ∙ records)) was
 
 pub returns-then-deref-from-ne-RECORDS-clause-read : goal.returns-then-deref-from-ne-RECORDS-clause-read
@@ -24,15 +23,12 @@ pub list_rows-requires : goal.list_rows-requires
 list_rows-requires g c =
     let D = g.D.Device in let o = c.args.self.now in
     record {
-      page = records_page_of D (relations_of c.args.base.now) o c.args.page c.in_ok-bytes.bytes (λ opening counters right. c.in_ok-bytes.ensures.held opening (relations_of c.args.base.now) counters right)
+      shaped = shaped_page D o c.args.page c.in_ok-bytes.bytes c.in_ok-bytes.ensures.held
           (ap (λ (i : ℕ). get_or o.map.kinds.value i 0) (sym (c.from.ensures ∙ c.get.ensures)) ∙ ap (λ (bytes : List ℕ). get_or bytes c.from.result 0) (sym c.deref.ensures) ∙ c.if-deref-from-ne-RECORDS.false) c.requires.idle;
     }
 
 pub returns-clause-listed : goal.returns-clause-listed
-returns-clause-listed g c = λ opening relations counters held right holds was.
-    let D = g.D.Device in let o = c.args.self.now in
-    c.list_rows.ensures.listed (held_in (world D opening o)) c.args.page held (sym (c.in_ok-bytes.ensures.held opening relations counters right))
-    (kind_of D opening relations counters o c.args.page c.from.result right (c.from.ensures ∙ c.get.ensures) ∙ ap (λ (bytes : List ℕ). get_or bytes c.from.result 0) (sym c.deref.ensures) ∙ c.if-deref-from-ne-RECORDS.false) holds.rows was
-
-pub held_page-requires-clause-idle : goal.held_page-requires-clause-idle
-held_page-requires-clause-idle g c = ∣ (relations_of c.args.base.now, c.requires.idle) ∣₁
+returns-clause-listed g c = λ opening relations counters right was.
+    let D = g.D.Device in let o = c.args.self.now in let good = right.sound.good in
+    c.in_ok-list_rows.ensures.listed (held_in (world D opening o)) c.args.page good.meaning (sym (c.in_ok-bytes.ensures.held opening relations counters right))
+    (kind_of D opening relations counters o c.args.page c.from.result right (c.from.ensures ∙ c.get.ensures) ∙ ap (λ (bytes : List ℕ). get_or bytes c.from.result 0) (sym c.deref.ensures) ∙ c.if-deref-from-ne-RECORDS.false) good.rows.named was

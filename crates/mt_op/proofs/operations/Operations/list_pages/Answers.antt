@@ -1,24 +1,19 @@
 use Rattle.std.proofs.Common.{◌≡◌, ◌+◌, ℕ, arith, refl, subst, sym, ◌∙◌}
-use Rattle.mt_model.specs.Views.{base_of, relations_of}
-use Rattle.mt_op.proofs.Surveyed.{idle_steady, read_held, read_idle, read_right, reads_both, reads_none, same_twice}
+use Rattle.mt_op.proofs.Surveyed.{idle_steady, read_held, read_idle_any, read_right, reads_both, reads_none, same_twice}
 use Rattle.mt_op.specs.Operations.{world}
-use Rattle.mt_op.specs.Surveyed.{IsIdle}
 use Rattle.mt_op.specs.World.{held_in}
 use Rattle.mt_pool.specs.Views.{pages}
 use Rattle.mt_space.specs.Changes.{PageBytes}
-use Rattle.mt_steps.specs.Held.{Holds}
+use Rattle.mt_steps.proofs.Listed.{nothing_listed}
 use Rattle.mt_steps.specs.Listed.{HasListed}
 use Rattle.mt_op.proofs.operations.Operations.list_pages.Goals as goal
 
 pub count-number-end-requires : goal.count-number-end-requires
-count-number-end-requires g c = record { sound = (idle_steady g.D.Device (relations_of c.args.base.now) c.args.self.now c.requires.idle).frames }
+count-number-end-requires g c = record { sound = (idle_steady g.D.Device c.args.self.now c.requires.idle).frames }
 
 pub loop-number-init : goal.loop-number-init
 loop-number-init g c = record {
-  listed = λ opening relations counters held right holds was. was;
-  counts = refl;
-  relations = refl;
-  counters = refl;
+  listed = λ opening relations counters right. nothing_listed (held_in (world g.D.Device opening c.args.self.now)) c.new-rows.result.items c.new-rows.ensures.items;
   read = reads_none g.D.Device g.met.D.Device.only_now c.args.self.now;
   crash = λ k. (λ left. left, λ left. left);
   quiet = refl;
@@ -26,25 +21,19 @@ loop-number-init g c = record {
 }
 
 pub list_page-requires-clause-idle : goal.list_page-requires-clause-idle
-list_page-requires-clause-idle g c =
-    let D = g.D.Device in
-    subst (λ (n : ℕ). IsIdle D n c.loop-number.self) (sym c.loop-number.invariant.relations)
-    (read_idle D (relations_of c.args.base.now) c.args.self.now c.loop-number.self c.loop-number.invariant.read c.requires.idle)
+list_page-requires-clause-idle g c = read_idle_any g.D.Device c.args.self.now c.loop-number.self c.loop-number.invariant.read c.requires.idle
 
 pub loop-number-preserved : goal.loop-number-preserved
 loop-number-preserved g c =
     let D = g.D.Device in let o = c.args.self.now in let l = c.loop-number in let was = l.invariant in let e = c.in_ok-list_page.ensures in
     record {
-      listed = λ opening relations counters held right holds first.
+      listed = λ opening relations counters right.
           let same = read_held D opening o l.self was.read in
           let at' = c.new.ensures in
-          subst (λ (h : PageBytes). HasListed h (l.number + 1) (base_of c.list_page.new.base)) same
-          (subst (λ (p : ℕ). HasListed (held_in (world D opening l.self)) (p + 1) (base_of c.list_page.new.base)) at'
-          (e.listed opening relations counters held (read_right D opening relations counters o l.self was.read right) (subst (λ (h : PageBytes). Holds h held) (sym same) holds)
-          (subst (λ (h : PageBytes). HasListed h c.new.result (base_of l.base)) (sym same) (subst (λ (p : ℕ). HasListed (held_in (world D opening o)) p (base_of l.base)) (sym at') (was.listed opening relations counters held right holds first)))));
-      counts = e.counts ∙ was.counts;
-      relations = c.list_page.ensures.relations ∙ was.relations;
-      counters = c.list_page.ensures.counters ∙ was.counters;
+          subst (λ (h : PageBytes). HasListed h (l.number + 1) c.list_page.new.rows.items) same
+          (subst (λ (p : ℕ). HasListed (held_in (world D opening l.self)) (p + 1) c.list_page.new.rows.items) at'
+          (e.listed opening relations counters (read_right D opening relations counters o l.self was.read right)
+          (subst (λ (h : PageBytes). HasListed h c.new.result l.rows.items) (sym same) (subst (λ (p : ℕ). HasListed (held_in (world D opening o)) p l.rows.items) (sym at') (was.listed opening relations counters right)))));
       read = reads_both D o l.self c.list_page.new.self was.read c.list_page.ensures.read;
       crash = same_twice _ _ _ was.crash c.list_page.ensures.crash;
       quiet = e.quiet (λ is. cc) ∙ was.quiet;
@@ -52,9 +41,9 @@ loop-number-preserved g c =
     }
 
 pub returns-clause-listed : goal.returns-clause-listed
-returns-clause-listed g c = λ opening relations counters held right holds first.
+returns-clause-listed g c = λ opening relations counters right.
     let last : c.loop-number.number ≡ pages c.args.self.now.store.pool = (let all = c.count-number-end.ensures in let test = c.loop-number-test.false in let within = c.loop-number.auto.number-end in omega arith) in
-    subst (λ (p : ℕ). HasListed (held_in (world g.D.Device opening c.args.self.now)) p (base_of c.loop-number.base)) last (c.loop-number.invariant.listed opening relations counters held right holds first)
+    subst (λ (p : ℕ). HasListed (held_in (world g.D.Device opening c.args.self.now)) p c.loop-number.rows.items) last (c.loop-number.invariant.listed opening relations counters right)
 
 pub returns-in_err-list_page-clause-read : goal.returns-in_err-list_page-clause-read
 returns-in_err-list_page-clause-read g c =

@@ -7,7 +7,7 @@ use Rattle.mt_counters.specs.Counters.{AreCounters}
 use Rattle.mt_steps.specs.Plans.{IsGood}
 use Rattle.mt_base.specs.declared.format.Format.{Format}
 use Rattle.mt_page_rules.specs.Checks.{AreRecordPages, HasSchema, IsIndexed}
-use Rattle.mt_page_rules.specs.Faults.{in_index, malformed, misnaming, map_broken, tells_none, breaks}
+use Rattle.mt_page_rules.specs.Faults.{in_index, malformed, misnaming, map_broken, has_no_schema, breaks}
 use Rattle.mt_page_rules.proofs.Checked.{all_checked, good_names, good_sound, last_look, page_is, pages_of_two, unlisted_named}
 use Rattle.mt_page_rules.proofs.page_rules.AllPages.first_broken.Goals as goal
 
@@ -83,7 +83,7 @@ returns-then-not-has_schema-clause-named c =
     let three : 2 < length items = let some = c.args.self.now.some in omega (arith, some) in
     let page = c.index.result.now in
     let is_page : page ≡ bytes_of items 2 = page_is items 2 page three (c.index.ensures ∙ ap (λ (p : ℕ). get_or items p page) c.from.ensures) in
-    tells_none c.new-then-not-has_schema.ensures (λ r n s.
+    has_no_schema c.new-then-not-has_schema.ensures (λ r n s.
     let same = c.sizes-counted.ensures.schema r n (subst (AreCounters r n) (sym is_page) s.counts) in
     c.if-not-has_schema.ensures (subst (λ (x : ℕ × ℕ). HasSchema items x.0 x.1) (λ i. (sym same.0 i, sym same.1 i)) s))
 

@@ -1,4 +1,4 @@
-use Rattle.std.proofs.Common.{List, ◌∙◌, ap, subst, sym}
+use Rattle.std.proofs.Common.{List, ◌∙◌, ap, arith, subst, sym}
 use Rattle.mt_mark.specs.Legal.{IsLegal}
 use Rattle.mt_mark.specs.Rule.{labelled}
 use Rattle.mt_model.specs.declared.history.Committed.{Committed}
@@ -18,4 +18,5 @@ invariant_of-result g c = let D = g.D.Device in let m = c.in-Ok.ensures in (
   m.list ∙ ap labelled (sym m.book_is),
   m.book_is ∙ c.book.ensures.book,
   m.seats_are,
+  (let many = m.many in let made = m.made in let ok = c.in-Ok.seats.ok in omega arith),
 )

@@ -14,7 +14,7 @@ use Rattle.mt_shared.proofs.opened.Opened.open.Goals as goal
 
 pub new-requires-clause-began : goal.new-requires-clause-began
 new-requires-clause-began g c =
-    let k = c.in-Ok.opened.0 in let base = c.in-Ok.opened.1 in let opened = c.in-Ok.ensures.opened in
+    let k = c.in-Ok.opened.0 in let base = c.in-Ok.opened.1.base in let opened = c.in-Ok.ensures.opened in
     began_so base k (base_of base) (start (base_of base)) refl opened.shows opened.restarts
 
 pub returns-in-Ok-new-clause-base : goal.returns-in-Ok-new-clause-base
@@ -23,7 +23,7 @@ returns-in-Ok-new-clause-base g c = λ relations counters b can.
 
 pub returns-in-Ok-new-clause-first : goal.returns-in-Ok-new-clause-first
 returns-in-Ok-new-clause-first g c =
-    c.in-Ok-new.ensures.ok.1 ∙ first_book (base_of c.in-Ok.opened.1) c.in-Ok.opened.0 c.in-Ok.ensures.opened.shows
+    c.in-Ok-new.ensures.ok.1 ∙ first_book (base_of c.in-Ok.opened.1.base) c.in-Ok.opened.0 c.in-Ok.ensures.opened.shows
 
 pub returns-in-Ok-new-clause-frames : goal.returns-in-Ok-new-clause-frames
 returns-in-Ok-new-clause-frames g c = c.in-Ok-new.ensures.frames ∙ c.in-Ok.ensures.frames
@@ -71,5 +71,5 @@ returns-in-Ok-new-clause-many g c = search rules
 pub returns-in-Ok-new-clause-opened : goal.returns-in-Ok-new-clause-opened
 returns-in-Ok-new-clause-opened g c =
     let e = c.in-Ok-new.ensures in
-    just_opened g.D.Device (base_of c.in-Ok.opened.1) _ (seen_of c.in-Ok.opened.0) _ (ap base_of e.ok.0) e.kernel
+    just_opened g.D.Device (base_of c.in-Ok.opened.1.base) _ (seen_of c.in-Ok.opened.0) _ (ap base_of e.ok.0) e.kernel
     c.in-Ok.ensures.opened.shows c.in-Ok.ensures.well

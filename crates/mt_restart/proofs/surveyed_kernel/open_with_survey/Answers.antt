@@ -1,4 +1,4 @@
-use Rattle.std.proofs.Common.{◌≡◌, ◌<◌, ◌∙◌, ℕ, List, Ok, Err, ap, inl, length, sym, subst}
+use Rattle.std.proofs.Common.{◌≡◌, ◌<◌, ◌∙◌, ℕ, List, Ok, Err, ap, inl, length, refl, sym, subst}
 use Rattle.mt_base.specs.declared.format.Format.TheVariants.{Two}
 use Rattle.mt_disk.proofs.Frame.{leaves_more}
 use Rattle.mt_restart.proofs.Again.{read_stands, recovers}
@@ -9,12 +9,13 @@ use Rattle.mt_model.specs.Views.{base_of}
 use Rattle.mt_restart.proofs.Based.{base_of_good}
 use Rattle.mt_restart.proofs.Counted.{begins_on, begins_on_pages}
 use Rattle.mt_restart.proofs.Refusals.{one_refusal}
+use Rattle.mt_restart.proofs.Surveying.{inspected_of}
 use Rattle.mt_restart.proofs.Ruled.{not_other, not_unformatted}
 use Rattle.mt_restart.proofs.Unlost.{never_full}
 use Rattle.mt_restart.specs.Inspected.{IsOfPages}
 use Rattle.mt_restart.specs.Recovered.{IsCauseToStop, StandsStill}
 use Rattle.mt_steps.specs.Listed.{IsSame}
-use Rattle.mt_restart.proofs.opened_with_base.open_with_base.Goals as goal
+use Rattle.mt_restart.proofs.surveyed_kernel.open_with_survey.Goals as goal
 
 pub survey_of-requires : goal.survey_of-requires
 survey_of-requires g c = c.in-Ok.ensures.found.checked
@@ -106,6 +107,19 @@ returns-clause-listed g c =
           (c.in-Ok-survey_of.ensures.surveyed checked.relations checked.counters b checked.good holds).base;
     }
 
+pub returns-clause-surveyed : goal.returns-clause-surveyed
+returns-clause-surveyed g c =
+    let items = c.in-Ok.found.restored.pages.items in let restored = c.in-Ok.ensures.restored in
+    let surveyed = c.in-Ok-survey_of.ensures.surveyed in
+    record {
+      inspected = inspected_of (g.D.Device.seen c.args.device) restored.slot items c.in-Ok-survey_of.survey restored.replayed surveyed;
+      stood_for = λ relations counters b can.
+          let shown = c.in-Ok.ensures.shows relations counters b can in
+          let matter = c.only_own_pages_matter.ensures relations counters (length items) shown.pages (bytes_of items) shown.first shown.good in
+          let holds = matter.1 b shown.holds in
+          record { slot = restored.slot; items = items; replayed = restored.replayed; good = matter.0; holds = holds; outcome = surveyed relations counters b matter.0 holds };
+    }
+
 pub returns-clause-once : goal.returns-clause-once
 returns-clause-once g c = λ slot rules.
     let D = g.D.Device in let o = c.args.device in let n = c.find_synced.new.device in let read = c.find_synced.ensures.reads in
@@ -145,13 +159,12 @@ returns-in-Err-survey_of-clause-moments g c = λ relations counters b can.
 pub returns-in-Err-survey_of-clause-refused : goal.returns-in-Err-survey_of-clause-refused
 returns-in-Err-survey_of-clause-refused g c =
     let D = g.D.Device in let o = c.args.device in let n = c.find_synced.new.device in let read = c.find_synced.ensures.reads in
-    let memory = c.in-Err-survey_of.ensures.only_memory in
     record {
-      cause = subst (IsCauseToStop (D.seen o) (D.faults o < D.faults n)) (sym memory) (inl tt);
+      cause = inl tt;
       unformatted = λ none. absurd (not_unformatted (D.seen o) c.in-Ok.found.restored.pages.items c.in-Ok.ensures.restored none);
       other = λ is. absurd (not_other c.slots_are_read_back.ensures (D.seen o) c.in-Ok.found.restored.pages.items c.in-Ok.ensures.restored is);
-      left = λ relations counters b can. inl memory;
-      formatted = λ s formatted full. let wrong = sym memory ∙ full in absurd cc;
+      left = λ relations counters b can. inl refl;
+      formatted = λ s formatted full. absurd cc;
       reads = λ not. read;
       settled = λ relations counters b can not. read_stands D g.met.D.Device.counts_now o n read.same read.moments Two relations counters b can (c.in-Ok.ensures.only (λ e. cc));
     }

@@ -22,12 +22,12 @@ use Rattle.mt_steps.specs.Logged.{logged_of}
 
 -- an answer by cases: a page that is not at hand and is asked for so, changes and a reply of which this holds, or
 -- that this is why it is full
-abbrev pub Tells : (ℕ → Option (List ℕ)) → ℕ → (ℕ → Mode → Type 0) → (List PageChange → Reply → Type 0) → Type 0 → Act
-    → Type 0
-Tells at_hand total Asks Does TooFull (Lock p mode) = (at_hand p ≡ None) × (p < total) × Asks p mode
-Tells at_hand total Asks Does TooFull (Made changes reply) = Does changes.list.items reply
-Tells at_hand total Asks Does TooFull Full = TooFull
-Tells at_hand total Asks Does TooFull Broken = ⊥
+abbrev pub PlanAnswers : (ℕ → Option (List ℕ)) → ℕ → (ℕ → Mode → Type 0) → (List PageChange → Reply → Type 0) → Type 0
+    → Act → Type 0
+PlanAnswers at_hand total Asks Does TooFull (Lock p mode) = (at_hand p ≡ None) × (p < total) × Asks p mode
+PlanAnswers at_hand total Asks Does TooFull (Made changes reply) = Does changes.list.items reply
+PlanAnswers at_hand total Asks Does TooFull Full = TooFull
+PlanAnswers at_hand total Asks Does TooFull Broken = ⊥
 
 -- a page that is wanted so in all good pages that are so
 abbrev pub IsWanted : (ℕ → Option (List ℕ)) → ℕ → (ℕ → PageBytes → Map → Type 0) → (PageBytes → ℕ → Mode → Type 0) → ℕ

@@ -248,9 +248,9 @@ class Run:
         of its time is the compiler's, which uses no more."""
         name = lambda key: (lambda given, jobs: f"{' '.join(map(str, key))} jobs={jobs}")
         narrow = lambda call: (lambda given, jobs: call(given, 1))
-        told = {key: task[3] if key[1] == "edits" else self.clocked(task[3], name(key)) for key, task in tasks.items()}
+        calls = {key: task[3] if key[1] == "edits" else self.clocked(task[3], name(key)) for key, task in tasks.items()}
         is_program = lambda key: key[1] == "proof" and self.crates[key[0]].is_program
-        return {key: (*task[:3], narrow(told[key]) if is_program(key) else told[key]) for key, task in tasks.items()}
+        return {key: (*task[:3], narrow(calls[key]) if is_program(key) else calls[key]) for key, task in tasks.items()}
 
     def run(self):
         """Makes the run, and returns how much passed and how much failed."""

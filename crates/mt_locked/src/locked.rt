@@ -46,8 +46,8 @@ pub enum Due {
 }
 
 /// What lies under the lock: the kernel, or what a rotation left of it, with its end of the mark. Its first commits
-/// are the history, as many as the mark counts. Contracts see the kernel, the book, the history, how many passes there
-/// are, how many hold new transactions back, and what who rotates is to do.
+/// are the history, as many as the mark counts. Contracts see the kernel, or else the device that is left; the book, the
+/// history, how many passes there are, how many hold new transactions back, and what who rotates is to do.
 pub struct Locked<D: Device, J: Naming> {
     pub(crate) standing: Standing<D>,
     pub(crate) end: End,
@@ -555,6 +555,9 @@ impl<D: Device + Drop, J: Naming> Locked<D, J> {
     /// Turns the log over if each transaction of the book is entered and no transaction is active; whether it did.
     /// If it was too early for that, nothing has changed. Else who rotates is not to turn it over before a further
     /// transaction has ended.
+    ///
+    /// Refused with 1 for want of memory, and with 11 if the log cannot turn over: the kernel goes on as it was. Refused
+    /// with 2 if the device has failed, or fails in this call: no kernel goes on then.
     pub fn rotate(&mut self, alloc: Global, frames: usize) -> Result<bool, Refusal>
         ensures why { IfErr result IsTurnFault }
         ensures did { result ≡ Ok true → TurnsLogOver ⟦<D as Device>⟧ frames J.base self.old.kernel self.new.kernel }

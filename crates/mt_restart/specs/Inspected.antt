@@ -46,7 +46,7 @@ pub record IsSound (c : List ℕ) : Type 0 where
   pub bounds : IsBase held
   pub holds : Holds (bytes_of items) held
 
--- Of any bytes that are opened. If they represent a base, it is of that one.
+-- The survey is of what a restart in memory makes of the bytes, and, if these represent a base, of that one.
 pub record ReportsRestored (c : List ℕ) (survey : Survey) : Type 0 where
   pub inspected : IsInspected c survey
   pub stood_for : (relations counters : ℕ) (b : Base) → CanRestart relations counters c b

@@ -29,8 +29,8 @@ use std::alloc::Global;
 ///
 /// Whenever a crash comes in this call, what it leaves is what it might have left before, or represents the same
 /// base. Each refusal is one of [`open`](crate::open), with the same cause; [`Refusal::NoMemory`] also if the
-/// survey finds no memory. All memory is taken before the first write. The device is handed back, with the bytes that it had,
-/// unless it failed.
+/// survey finds no memory. All memory is taken before the first write. The device is handed back, with the bytes that
+/// it had, unless it failed.
 pub fn open_with_survey<D: Device + Drop>(
     alloc: Global,
     device: D,
